@@ -5,6 +5,7 @@
 // - `pairs`: the pairs of keys of lineorder come in random order, in lines as short as can be.
 // - `texts`: customers have sparse random keys and seven texts of 4 random letters.
 // - `alike`: the same, where the random letters come behind 8 that all texts share.
+// - `shared`: customers are numbered from 1, and the random letters come behind 12 that all texts share.
 // - `forgotten`: customers have seven of 2,000 texts that are told apart in their middle letters alone.
 // - `unseeded`: keys of customers that collide under the hash of the index of keys, SipHash-1-3, as it is
 //   without the seed that each index has of its own.
@@ -180,7 +181,7 @@ fn seven(mut text: impl FnMut() -> String) -> String {
 }
 
 /// The kinds of folders.
-const KINDS: [&str; 7] = ["ordinary", "keys", "pairs", "texts", "alike", "forgotten", "unseeded"];
+const KINDS: [&str; 8] = ["ordinary", "keys", "pairs", "texts", "alike", "shared", "forgotten", "unseeded"];
 
 fn write(folder: &Path, kind: &str, bytes: usize) -> Result<()> {
     let mut made = Folder::new(folder.join(kind), bytes)?;
@@ -199,6 +200,7 @@ fn write(folder: &Path, kind: &str, bytes: usize) -> Result<()> {
         }
         "texts" => made.customers(|_| format!("{}|{}", numbers.sparse(), seven(|| numbers.letters(4)))),
         "alike" => made.customers(|_| format!("{}|{}", numbers.sparse(), seven(|| format!("ALLALIKE{}", numbers.letters(4))))),
+        "shared" => made.customers(|place| format!("{}|{}", place + 1, seven(|| format!("ALLSHARETHIS{}", numbers.letters(4))))),
         "forgotten" => made.customers(|place| {
             format!("{}|{}", place + 1, seven(|| format!("a{}{}z", char::from(LETTERS[numbers.below(50)]), char::from(LETTERS[numbers.below(40)]))))
         }),

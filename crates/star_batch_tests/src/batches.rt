@@ -1,5 +1,5 @@
-// Programs over more lines than two batches have: keeps behind operations, keys with few values, whose
-// groups stand by their places, and with many.
+// Programs over more lines than two batches have: keeps after operations, keys with few values,
+// whose groups stand by their places, and with many.
 
 use crate::agreement::program_agrees;
 use crate::draws::Draws;
@@ -29,7 +29,7 @@ const KEYS: &[(&str, &str)] = &[
 
 const FLAGS: &[&str] = &["lt", "le", "eq"];
 
-// Adds an operation, and mostly a keep behind it, by three registers from one on.
+// Adds an operation, and mostly a keep after it, by three registers from one on.
 fn push_part(text: &mut String, draws: &mut Draws, register: u32) -> Result<(), AllocError> {
     let (next, last) = (register.wrapping_add(1), register.wrapping_add(2));
     let operator = draws.one_of(&["add", "sub", "mul"]);
@@ -87,7 +87,7 @@ const WIDE: &[&str] = &[
     "r7 = const 326\nr8 = mul r3 r7\nr9 = add r8 r2\n",
 ];
 
-// Scans that are quoted sixteen turns for each place, and of which the outer one leaves no row.
+// Scans that are quoted sixteen turns for each place, and whose outer one leaves no row.
 const QUOTED: &str =
     "scan customer r12\nr13 = load c_custkey r12\nr14 = lt r13 r13\nkeep r14\nscan date r15\nscan lineorder r16\nend\nend\nend\n";
 

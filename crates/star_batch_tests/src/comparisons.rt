@@ -95,7 +95,7 @@ fn numbers_at_their_ends(rt: HostRuntime) -> Result<(), Fail> {
 }
 
 // Texts of columns with few values and with more than a word of 8 bits tells apart, those that are
-// there and those before, between and behind them.
+// there and those before, between and after them.
 const TEXTS: &[(&str, &[&str])] = &[
     (
         "lo_shipmode",

@@ -6,7 +6,7 @@ use star_catalogue::Catalogue;
 use std::alloc::Global;
 use std::test::Fail;
 
-// Tables behind lineorder with their joins, and a condition.
+// Tables after lineorder with their joins, and a condition.
 const CASES: &[(&str, &str)] = &[
     // Each dimension, whose ones are a run of rows, many runs, all and none.
     ("date where lo_orderdate = d_datekey", "d_year = 1994"),
@@ -59,7 +59,7 @@ const CASES: &[(&str, &str)] = &[
         "supplier where lo_suppkey = s_suppkey",
         "(s_nation = 'NATION1' and s_city = 'CITY1' or s_suppkey > 70)",
     ),
-    // Conjuncts of lineorder's own columns before, between and behind.
+    // Conjuncts of lineorder's own columns before, between and after.
     (
         "date where lo_orderdate = d_datekey",
         "d_year = 1993 and lo_discount between 1 and 3 and lo_quantity < 25",

@@ -6,7 +6,7 @@ use crate::tables::{ORDINARY, Rows, generated};
 use std::alloc::Global;
 use std::test::Fail;
 
-// What stands before the instructions of a program and behind them. The reported group has two keys.
+// What stands before the instructions of a program and after them. The reported group has two keys.
 fn program(alloc: Global, registers: u32, shape: &str, lines: &str) -> Result<String, Fail> {
     Ok(format!(in alloc;
         "star program 1\nregisters {registers}\ngroup 0 plain : sum count\ngroup 1 {shape} number number : sum count min max\n{lines}report 1\nshow a key 0\nshow b key 1\nshow s aggregate 0\nshow n aggregate 1\nshow l aggregate 2\nshow m aggregate 3\n"
@@ -15,7 +15,7 @@ fn program(alloc: Global, registers: u32, shape: &str, lines: &str) -> Result<St
 
 const SHAPES: &[&str] = &["plain", "cube"];
 
-// So many of the first rows are left, and so many of the last ones.
+// How many of the first rows are left, and how many of the last ones.
 const LEFT: &[u64] = &[
     0, 1, 2, 63, 64, 65, 127, 128, 1_023, 1_024, 1_025, 1_099, 1_100,
 ];
@@ -52,7 +52,7 @@ const BODIES: &[&str] = &[
         "r5 = le r1 r3\nr6 = eq r1 r3\nr7 = and r4 r5\nr8 = or r6 r7\nr9 = not r8\nr10 = within r3 r1 r2\n",
         "r11 = const 7\nr12 = sub r3 r11\nput 1 r2 r11 : r12 r1 r3\nend\n",
     ),
-    // Rows of dimensions before the first operation, and columns of both rows behind it.
+    // Rows of dimensions before the first operation, and columns of both rows after it.
     concat!(
         "scan lineorder r0\nr1 = load lo_custkey r0\nr2 = find customer r1\nr3 = load lo_suppkey r0\n",
         "r4 = find supplier r3\nr5 = load lo_tax r0\nr6 = const 6\nr7 = lt r5 r6\nkeep r7\n",
@@ -81,7 +81,7 @@ const BODIES: &[&str] = &[
         "put 1 r1 r2 : r3 r3 r3\nend\n",
     ),
     "scan lineorder r0\nr1 = load lo_tax r0\nput 1 r1 r1 : r1 r1 r1\nr2 = load lo_discount r0\nend\n",
-    // A look-up behind an operation, a keep behind one, a read, and a scan inside.
+    // A look-up after an operation, a keep after one, a read, and a scan inside.
     concat!(
         "scan lineorder r0\nr1 = load lo_tax r0\nr2 = add r1 r1\nr3 = load lo_partkey r0\nr4 = find part r3\n",
         "r5 = load p_size r4\nput 1 r1 r2 : r5 r5 r5\nend\n",

@@ -90,7 +90,7 @@ const AGGREGATES: &[&str] = &[
     "max(lo_ordtotalprice)",
 ];
 
-// Columns of groups as SELECT names them, and what stands behind the condition.
+// Columns of groups as SELECT names them, and what stands after the condition.
 const GROUPS: &[(&str, &str)] = &[
     ("", ""),
     ("lo_discount, ", " group by lo_discount"),
@@ -108,7 +108,7 @@ const GROUPS: &[(&str, &str)] = &[
     ),
 ];
 
-// Adds a condition of up to three of some comparisons behind others.
+// Adds a condition of up to three of some comparisons after others.
 fn push_condition(
     text: &mut String,
     draws: &mut Draws,
@@ -162,7 +162,7 @@ fn drawn_query(alloc: Global, draws: &mut Draws) -> Result<String, AllocError> {
     )
 }
 
-// So many queries of a seed, over tables of one.
+// Draws `count` queries from one seed, over tables of another, and checks that run and trial agree.
 fn queries_agree(alloc: Global, seed: u64, rows: Rows, count: u32) -> Result<(), Fail> {
     let catalogue = generated(alloc, seed, rows)?;
     let mut draws = Draws(46);

@@ -1,4 +1,4 @@
-// Programs of several scans: nested, one behind another, with reads between, and with filters that
+// Programs of several scans: nested, one after another, with reads between, and with filters that
 // queries have not.
 
 use crate::agreement::program_agrees;
@@ -6,7 +6,7 @@ use crate::tables::{ORDINARY, Rows, generated};
 use std::alloc::Global;
 use std::test::Fail;
 
-// What stands before the instructions of a program and behind them.
+// What stands before the instructions of a program and after them.
 fn program(alloc: Global, lines: &str) -> Result<String, Fail> {
     Ok(format!(in alloc;
         "star program 1\nregisters 40\ngroup 0 plain : sum count\ngroup 1 plain : sum count\n{lines}report 1\nshow s aggregate 0\nshow n aggregate 1\n"
@@ -33,7 +33,7 @@ const PROGRAMS: &[&str] = &[
         "scan lineorder r2\nr3 = load lo_suppkey r2\nr4 = eq r3 r1\nkeep r4\n",
         "r5 = load lo_revenue r2\nr6 = const 500\nr7 = lt r5 r6\nkeep r7\nput 1 : r5\nend\nend\n",
     ),
-    // Behind a scan inside it stands a filter of the outer one.
+    // After a scan inside it stands a filter of the outer one.
     concat!(
         "scan lineorder r0\nr1 = load lo_discount r0\nr2 = const 9\nr3 = le r2 r1\nkeep r3\n",
         "scan supplier r4\nr5 = load s_suppkey r4\nput 0 : r5\nend\n",
@@ -52,7 +52,7 @@ const PROGRAMS: &[&str] = &[
         "r10 = load d_monthnuminyear r2\nr11 = load d_monthnuminyear r5\nr12 = lt r10 r11\nkeep r12\n",
         "r13 = load lo_revenue r0\nput 1 : r13\nend\n",
     ),
-    // A filter is behind an arithmetic one, which no mask answers.
+    // A filter is after an arithmetic one, which no mask answers.
     concat!(
         "scan lineorder r0\nr1 = load lo_quantity r0\nr2 = load lo_discount r0\nr3 = mul r1 r2\n",
         "r4 = const 100\nr5 = lt r3 r4\nkeep r5\nr6 = const 3\nr7 = le r2 r6\nkeep r7\nput 1 : r1\nend\n",
@@ -98,8 +98,8 @@ fn programs_of_several_scans(rt: HostRuntime) -> Result<(), Fail> {
     Ok(())
 }
 
-// Filters one behind another: so many that pass most lines, behind one that passes `quantity` and
-// less. There may be at most sixteen that are found out ahead.
+// Filters one after another: one that passes quantities up to `quantity`, and then `count` that
+// pass most lines. There may be at most sixteen that are found out ahead.
 fn filters(alloc: Global, quantity: i64, count: u32) -> Result<String, Fail> {
     let mut lines = format!(in alloc;
         "scan lineorder r0\nr1 = load lo_quantity r0\nr2 = const {quantity}\nr3 = le r1 r2\nkeep r3\nr4 = load lo_linenumber r0\n"

@@ -17,8 +17,8 @@ pub(crate) struct Rows {
     pub(crate) lineorder: u64,
 }
 
-/// The ends of lineorder's numbers, of which the first two lines have one each: words of 8, 16, 32
-/// and 64 bits.
+/// The least and the greatest of lineorder's numbers; each of the first two lines has one of them.
+/// They take words of 8, 16, 32 and 64 bits.
 pub(crate) const QUANTITIES: (i64, i64) = (-100, 101);
 
 pub(crate) const PRICES: (i64, i64) = (-30_000, 30_001);
@@ -131,7 +131,7 @@ fn lines(alloc: Global, seed: u64, rows: Rows) -> Result<String, AllocError> {
     Ok(text)
 }
 
-/// The loaded tables of so many rows, with keys and numbers of a seed.
+/// Loads tables with these numbers of rows, with keys and numbers drawn from a seed.
 pub(crate) fn generated(alloc: Global, seed: u64, rows: Rows) -> Result<Box<Catalogue>, Fail> {
     let date = dates(alloc, rows.date)?;
     let customer = customers(alloc, rows.customer)?;

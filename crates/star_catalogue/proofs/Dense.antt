@@ -8,7 +8,7 @@ use Rattle.std.proofs.lemmas.Bool.Decides.{Decides-int_eq, nat_tests}
 use Rattle.std.proofs.lemmas.Int.{ints}
 use Rattle.std.proofs.lemmas.List.{get_or-set_other, get_or-set_same}
 use Rattle.std.proofs.lemmas.Option.{slice_get-get_or, slice_get_past}
-use Rattle.star_catalogue.specs.Private.Places.{dense_at, row_of}
+use Rattle.star_catalogue.specs.Private.Places.{dense_at, row_of_slot}
 
 -- no number below the least key is one
 from_least : (least key : ℤ) → least ≤ℤ key → int_lt key least ≡ false
@@ -26,7 +26,7 @@ slots_differ least a b above also differ same =
 is_row : (row : ℕ) → row ≢ 4294967295 → nat_eq row 4294967295 ≡ false
 is_row row some = grind (arith, nat_tests)
 
-blank : (n k : ℕ) → row_of (slice_get (replicate n 4294967295) k) ≡ None
+blank : (n k : ℕ) → row_of_slot (slice_get (replicate n 4294967295) k) ≡ None
 blank zero k = refl
 blank (suc n) zero = refl
 blank (suc n) (suc k) = blank n k
@@ -83,7 +83,7 @@ put least rows key place above within few q =
                 let differ : key ≢ q = λ e.
                 let equal = (Decides-int_eq key q).1 e in cc (equal, other) in
                 rw from
-                (ap row_of (kept_other rows slot (unsigned_abs (q -ℤ least)) place
+                (ap row_of_slot (kept_other rows slot (unsigned_abs (q -ℤ least)) place
                 (slots_differ least key q above (at_least least q from) differ)))
           ])
     ]

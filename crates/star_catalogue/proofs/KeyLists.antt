@@ -98,7 +98,8 @@ distinct_no_fault t rows h =
 pub no_fault_distinct : (t : TableId) (rows : List (List Value)) → repeated_key_fault t rows ≡ None
     → HasDistinctKeys t rows
 no_fault_distinct t rows none =
-    no_repeat_apart same_key signed_items (keys_of t rows) (unmapped (first_repeat same_key (keys_of t rows)) none)
+    no_repeat_apart same_key signed_items (keys_of t rows)
+    (unmapped (first_repeat same_key (keys_of t rows)) none)
   where
     unmapped : (o : Option ℕ) → option_map (DuplicateKey t) o ≡ None → o ≡ None
     unmapped None e = refl

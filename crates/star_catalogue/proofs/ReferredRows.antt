@@ -13,7 +13,7 @@ use Rattle.star_schema.specs.Loadable.{RefersTo, keys_of}
 use Rattle.star_schema.specs.Schema.{index_of, place_of, references, table_of}
 use Rattle.star_catalogue.specs.declared.referred.Referred.{Referred}
 use Rattle.star_catalogue.specs.ReferredRows.{AreReferredRows}
-use Rattle.star_catalogue.specs.Private.Referred.{AreFound, AreOfFirst, AreReferred, AreRowsOf, rows_view}
+use Rattle.star_catalogue.specs.Private.Referred.{AreFound, AreOfFirst, AreReferred, AreRowsReferredTo, rows_view}
 use Rattle.star_schema.proofs.Same.{at_index}
 use Rattle.star_flat.proofs.Pushed.{pushed_cases}
 use Rattle.star_reader.proofs.RowPlaces.{length-numbers_at}
@@ -36,7 +36,8 @@ found_more keys numbers rows more i number row so_far pushed at key =
           ∙ sym (map-append (λ (n : ℤ). Some (n ∷ [])) (take i numbers) (number ∷ []));
     })
 
-pub found_all : (keys : List (List ℤ)) (numbers : List ℤ) (rows : List ℕ) (i : ℕ) → length numbers ≤ i
+pub found_all : (keys : List (List ℤ)) (numbers : List ℤ) (rows : List ℕ) (i : ℕ)
+    → length numbers ≤ i
     → AreFound keys (take i numbers) rows → AreFound keys numbers rows
 found_all keys numbers rows i all found = rw (take_all i numbers all) at found
 
@@ -91,14 +92,16 @@ pub of_table : (database : Database) (c : ColumnId) (t : TableId) → references
     → (found : Option (List ℕ)) → MatchOption found (¬ RefersTo database c t)
     (AreFound (keys_of t (rows_in database t)) (numbers_of c (rows_in database (table_of c))))
     → MatchOption found (¬ ((u : TableId) → references c ≡ Some u → RefersTo database c u))
-    (AreRowsOf database c)
+    (AreRowsReferredTo database c)
 of_table database c t refers None absent = λ all. absent (all t refers)
-of_table database c t refers (Some rows) found = λ u other. let same : t ≡ u = cc in rw (← same) found
+of_table database c t refers (Some rows) found = λ u other. let same : t ≡ u = cc in
+    rw (← same) found
 
 -- the rows of the columns, one column after the other
-pub of_one_more : {database : Database} {n : ℕ} {lists : List (List ℕ)} (c : ColumnId) (rows : List ℕ)
+pub of_one_more : {database : Database} {n : ℕ} {lists : List (List ℕ)} (c : ColumnId)
+    (rows : List ℕ)
     (more : List (List ℕ)) → AreOfFirst database n lists → more ≡ lists ++ rows ∷ []
-    → slice_get COLUMNS n ≡ Some c → AreRowsOf database c rows
+    → slice_get COLUMNS n ≡ Some c → AreRowsReferredTo database c rows
     → AreOfFirst database (n + 1) more
 of_one_more {database} {n} {lists} c rows more so_far pushed at are =
     rw pushed (record {
@@ -115,7 +118,7 @@ of_one_more {database} {n} {lists} c rows more so_far pushed at are =
 
 -- the rows of one column
 pub of_column : (database : Database) (kept : Referred) (c : ColumnId) → AreReferred database kept
-    → (index_of c < length kept.rows.items) × AreRowsOf database c (rows_view kept c)
+    → (index_of c < length kept.rows.items) × AreRowsReferredTo database c (rows_view kept c)
 of_column database kept c are =
     let within = rw (← are.all) at (slice_get_within COLUMNS (index_of c) c (at_index c)) in (
       within,
@@ -140,7 +143,8 @@ are_rows database kept c are some = by (references c) refl
         let found = (of_column database kept c are).1 t refers in
         record {
           all = found_count (keys_of t (rows_in database t))
-              (numbers_of c (rows_in database (table_of c))) (rows_view kept c) found ∙ length-numbers_at (place_of c) (rows_in database (table_of c));
+              (numbers_of c (rows_in database (table_of c))) (rows_view kept c) found
+              ∙ length-numbers_at (place_of c) (rows_in database (table_of c));
           each = λ other row number refers_to at.
               let there = row_there (keys_of other (rows_in database other))
               (numbers_of c (rows_in database (table_of c))) (rows_view kept c) row number

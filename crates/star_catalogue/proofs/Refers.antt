@@ -101,7 +101,8 @@ row_on database at_row row i c at none so_far =
     so_far ∙ first_answer_on (foreign_key_fault database at_row row) foreign_keys i c at none
 
 pub row_here : (database : Database) (at_row : ℕ) (row : List Value) (i : ℕ) (c : ColumnId)
-    (f : LoadFault) → slice_get foreign_keys i ≡ Some c → foreign_key_fault database at_row row c ≡ Some f
+    (f : LoadFault) → slice_get foreign_keys i ≡ Some c
+    → foreign_key_fault database at_row row c ≡ Some f
     → row_fault database at_row row
     ≡ first_answer (foreign_key_fault database at_row row) (drop i foreign_keys)
     → row_fault database at_row row ≡ Some f
@@ -185,7 +186,8 @@ none_absent database none c t refers =
     let row : row_fault database (1 + i) (get_or rows i d) ≡ None =
     rw (get_or-enumerate_from 1 rows i (0, d) within) at
     (each i (0, d) (omega (arith, within, length-enumerate_from 1 rows))) in
-    let cells = all_without_answer (foreign_key_fault database (1 + i) (get_or rows i d)) foreign_keys
+    let cells = all_without_answer (foreign_key_fault database (1 + i) (get_or rows i d))
+    foreign_keys
     row in
     let here : foreign_key_fault database (1 + i) (get_or rows i d) c ≡ None =
     rw key.1.2 at (cells key.1.0 c key.1.1) in
@@ -197,7 +199,8 @@ key_equiv = lists_equiv int_eq_equiv
 
 cell_sound : (database : Database) → IsSound database
     → (at_row i : ℕ) (d : List Value) → i < length (rows_in database Lineorder)
-    → (c : ColumnId) → foreign_key_fault database at_row (get_or (rows_in database Lineorder) i d) c ≡ None
+    → (c : ColumnId) → foreign_key_fault database at_row (get_or (rows_in database Lineorder) i d) c
+    ≡ None
 unfolding numbers_at
 cell_sound database sound at_row i d within c = by (references c) refl
   where

@@ -48,7 +48,8 @@ module _ {K : Type 0} (same : K → K → Bool) (laws : IsEquivalence same) (key
   none_yet_repeats = record { no_repeat = refl; unique = tt }
 
   -- one more key, which is new
-  pub new_more : (place : ℕ) (key : K) → NoneRepeats same keys place → slice_get keys place ≡ Some key
+  pub new_more : (place : ℕ) (key : K) → NoneRepeats same keys place
+      → slice_get keys place ≡ Some key
       → list_any (same key) (take place keys) ≡ false → NoneRepeats same keys (place + 1)
   new_more place key h at fresh =
       let no : repeat_at same keys place key ≡ None = rw fresh refl in
@@ -163,7 +164,8 @@ module _ {K : Type 0} (same : K → K → Bool) (laws : IsEquivalence same) (key
       ]
 
   -- one more key, which is new
-  pub inserted_more : (place : ℕ) (key : K) (old new : K → Option ℕ) → HasInserted same keys place old
+  pub inserted_more : (place : ℕ) (key : K) (old new : K → Option ℕ)
+      → HasInserted same keys place old
       → slice_get keys place ≡ Some key → old key ≡ None
       → ((q : K) → new q ≡ cond (same key q) (Some place) (old q))
       → HasInserted same keys (place + 1) new

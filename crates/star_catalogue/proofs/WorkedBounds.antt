@@ -30,19 +30,22 @@ no_rows = refl
 
 -- from -2^63 to 2^63 - 1
 ends_fit : FitsI64
-    (bounds_in (rows_in (customers (keyed (negsuc 9223372036854775807) ∷ keyed (pos 9223372036854775807) ∷ [])))
+    (bounds_in (rows_in (customers
+    (keyed (negsuc 9223372036854775807) ∷ keyed (pos 9223372036854775807) ∷ [])))
     CCustkey)
 unfolding column_of place_of numbers_at least greatest is_i64
 ends_fit =
     (fits_i64_fits (record { low = negsuc 9223372036854775807; high = pos 9223372036854775807 })).0
     refl
 
-one_above : AreBoundsI64 (bounds_in (rows_in (customers (keyed (pos 9223372036854775808) ∷ [])))) → ⊥
+one_above : AreBoundsI64 (bounds_in (rows_in (customers (keyed (pos 9223372036854775808) ∷ []))))
+    → ⊥
 unfolding column_of place_of numbers_at least greatest is_i64
 one_above has =
     true≢false (sym ((fits_i64_fits (only (pos 9223372036854775808))).1 (has CCustkey refl)))
 
-one_below : AreBoundsI64 (bounds_in (rows_in (customers (keyed (negsuc 9223372036854775808) ∷ [])))) → ⊥
+one_below : AreBoundsI64 (bounds_in (rows_in (customers (keyed (negsuc 9223372036854775808) ∷ []))))
+    → ⊥
 unfolding column_of place_of numbers_at least greatest is_i64
 one_below has =
     true≢false (sym ((fits_i64_fits (only (negsuc 9223372036854775808))).1 (has CCustkey refl)))

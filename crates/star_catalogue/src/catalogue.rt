@@ -228,7 +228,7 @@ impl Catalogue {
     }
 
     /// Tells which of 64 rows of a column have a value, its number or the code of its text, that
-    /// lies from `low` to `high`: bit i is set exactly where the column has a row that is i behind
+    /// lies from `low` to `high`: bit i is set exactly where the column has a row that is i after
     /// `first`, and its value lies there.
     pub fn mask(&self, column: ColumnId, first: u32, low: i64, high: i64) -> u64
         requires { first ≤ length (rows_in self.now (table_of column)) }

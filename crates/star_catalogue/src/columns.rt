@@ -16,8 +16,8 @@ pub enum Column {
 }
 
 impl Column {
-    /// The column of the values that were read, of which there are at most 4,294,967,295. Their
-    /// buffers are let go.
+    /// Packs the values that were read, at most 4,294,967,295, into a column, and lets their
+    /// buffers go.
     pub(crate) fn build(alloc: Global, raw: RawColumn) -> Result<Column, AllocError>
         requires { length (values raw) < 2 ^ 32 }
         ensures { IfOk result (λ column. as_read column ≡ raw) }

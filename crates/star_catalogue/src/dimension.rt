@@ -6,8 +6,8 @@ ghost use Rattle.std.specs.Int.RustNames.{unsigned_abs};
 ghost use Rattle.std.specs.Option.{option_map};
 ghost use Rattle.std.specs.Ordering.{int_eq};
 ghost use Rattle.star_common.specs.Memory.{UnlessMemory};
-ghost use Rattle.star_catalogue.specs.Private.Indexed.{row_at};
-ghost use Rattle.star_catalogue.specs.Private.Places.{ArePlaces, dense_at, row_of};
+ghost use Rattle.star_catalogue.specs.Private.Indexed.{row_of_key};
+ghost use Rattle.star_catalogue.specs.Private.Places.{ArePlaces, dense_at, row_of_slot};
 ghost use Rattle.star_catalogue.specs.Load.{first_repeat};
 
 use crate::far_keys::FarKeys;
@@ -101,7 +101,7 @@ fn find_from(least: i64, rows: &[u32], key: i64) -> Option<u32>
 }
 
 fn row_in_slot(row: u32) -> Option<u32>
-    ensures { result ≡ row_of (Some row) }
+    ensures { result ≡ row_of_slot (Some row) }
 {
     if row == NO_ROW { None } else { Some(row) }
 }
@@ -134,7 +134,7 @@ impl DimensionKeys {
     ) -> Result<DimensionKeys, LoadFault>
         requires { length keys.now < 2 ^ 32 }
         ensures { MatchResult result
-            (λ index. ArePlaces int_eq (row_at index) keys.now × IsDistinct int_eq keys.now)
+            (λ index. ArePlaces int_eq (row_of_key index) keys.now × IsDistinct int_eq keys.now)
             (λ fault. UnlessMemory LoadFault.OutOfMemory fault
             (option_map (LoadFault.DuplicateKey table) (first_repeat int_eq keys.now)
             ≡ Some fault)) }
@@ -155,7 +155,7 @@ impl DimensionKeys {
     /// foreign keys, and the index's is not.
     #[inline(always)]
     pub(crate) fn find(&self, key: i64) -> Option<u32>
-        ensures { result ≡ row_at self.now key }
+        ensures { result ≡ row_of_key self.now key }
     {
         match self {
             DimensionKeys::Near(near) => find_from(near.least, near.rows.as_slice(), key),

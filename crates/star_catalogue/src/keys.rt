@@ -13,7 +13,7 @@ ghost use Rattle.star_catalogue.specs.Load.{first_repeat, repeated_key_fault};
 
 use crate::dimension::DimensionKeys;
 use crate::fault::LoadFault;
-use star_flat::FlatNumbers;
+use star_flat::{FlatNumbers, release};
 use star_reader::RawTable;
 use star_schema::{Key, TableId, key_of, place_of};
 use std::alloc::{AllocError, Global};
@@ -69,6 +69,7 @@ impl KeyIndex {
             Key::One(column) => {
                 let keys = wide(alloc, raw.numbers(place_of(column)))?;
                 let index = DimensionKeys::build(alloc, table, keys.as_slice())?;
+                release(keys);
                 Ok(KeyIndex::Dimension(index))
             }
             Key::Two(first, second) => {

@@ -5,7 +5,7 @@ ghost use Rattle.star_schema.specs.Database.{TableTexts};
 ghost use Rattle.star_schema.specs.Loadable.{IsLoadable};
 ghost use Rattle.star_catalogue.specs.Load.{load_fault};
 
-/// Five texts have no fault exactly where they can be loaded: each is its table, of at most so many
+/// Five texts have no fault exactly where they can be loaded: each is its table, of at most `most`
 /// rows, and their rows are sound.
 pub fn texts_without_a_fault_are_loadable()
     ensures { (most : ℕ) (texts : TableTexts)

@@ -5,7 +5,7 @@ ghost use Rattle.star_schema.specs.Loadable.{RefersTo, keys_of};
 ghost use Rattle.star_schema.specs.Schema.{index_of, references};
 ghost use Rattle.star_schema.specs.declared.column.ColumnId.{ColumnId};
 ghost use Rattle.star_schema.specs.declared.table.TableId.{TableId};
-ghost use Rattle.star_catalogue.specs.Private.Referred.{AreFound, AreReferred, AreRowsOf, rows_view};
+ghost use Rattle.star_catalogue.specs.Private.Referred.{AreFound, AreReferred, AreRowsReferredTo, rows_view};
 
 use crate::table::LoadedTable;
 use crate::tables::Tables;
@@ -161,7 +161,7 @@ fn rows_of(
         (λ found. MatchOption found
         (¬ ((table : TableId) → references column ≡ Some table
         → RefersTo tables.now column table))
-        (λ rows. AreRowsOf tables.now column rows)) }
+        (λ rows. AreRowsReferredTo tables.now column rows)) }
 {
     match references(column) {
         Some(table) => join_index(alloc, tables.table(table), tables.numbers(column)),

@@ -1,6 +1,6 @@
 // A table in memory.
 
-ghost use Rattle.std.specs.Prelude.{◌≡◌, ◌↔◌, ◌<◌, ◌∷◌, [], ℕ, List, All, Some, MatchResult, length, slice_get};
+ghost use Rattle.std.specs.Prelude.{◌≡◌, ◌↔◌, ◌<◌, ◌∷◌, [], ℕ, List, Some, MatchResult, length, slice_get};
 ghost use Rattle.std.specs.Option.{option_map};
 ghost use Rattle.star_common.specs.Memory.{UnlessMemory};
 ghost use Rattle.star_schema.specs.Bounds.{numbers_of};

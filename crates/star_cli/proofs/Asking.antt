@@ -68,7 +68,8 @@ pub all_distinct : (names : List (List ℕ)) (words : List Arg) → AreWords nam
 all_distinct names words named distinct = λ j k d e lj lk same.
     let below_j : j < length names = subst (λ n. j < n) (lengths names words named) lj in
     let below_k : k < length names = subst (λ n. k < n) (lengths names words named) lk in
-    let one = (bytes_eq-Decides (slice_index_or words j e).id.now (slice_index_or words k d).id.now).0 same in
+    let one = (bytes_eq-Decides (slice_index_or words j e).id.now
+    (slice_index_or words k d).id.now).0 same in
     distinct j k below_j below_k
     (sym (word_at names words j e named below_j).named
     ∙ (one ∙ (word_at names words k d named below_k).named))
@@ -86,10 +87,12 @@ pub has_word : (names : List (List ℕ)) (k : ℕ) (command : Command) (matches 
 has_word names k command matches asks capital distinct lt parsed =
     let d = first_word names asks.words asks.named (omega arith) in
     let is = word_at names asks.words k d asks.named lt in
-    let within : k < length asks.words = subst (λ n. k < n) (sym (lengths names asks.words asks.named)) lt in
+    let within : k < length asks.words =
+    subst (λ n. k < n) (sym (lengths names asks.words asks.named)) lt in
     let has = required_in_chain asks.start command asks.words k d matches asks.added
     asks.wordless.args asks.wordless.groups asks.wordless.globals asks.wordless.negates
-    (all_fit names asks.words asks.named capital) (all_distinct names asks.words asks.named distinct)
+    (all_fit names asks.words asks.named capital)
+    (all_distinct names asks.words asks.named distinct)
     within is.value parsed in
     subst (λ name. is_some (first_value (found_of matches) name) ≡ true) is.named has
 
@@ -156,7 +159,8 @@ pub folder_and_file : AreCapital (codes "FOLDER" ∷ codes "FILE" ∷ [])
     × AreDistinct (codes "FOLDER" ∷ codes "FILE" ∷ [])
 folder_and_file = (
   capital_more folder (file ∷ []) (omega arith) (omega arith) file_name.0,
-  distinct_more folder (file ∷ []) (more_others folder file [] (λ e. omega arith) (no_others folder)) file_name.1,
+  distinct_more folder (file ∷ [])
+      (more_others folder file [] (λ e. omega arith) (no_others folder)) file_name.1,
 )
 
 pub folder_file_and_limit : AreCapital (codes "FOLDER" ∷ codes "FILE" ∷ codes "LIMIT" ∷ [])

@@ -10,11 +10,12 @@ use Rattle.star_statements.proofs.DraftLemmas.{consumed_both}
 use Rattle.star_cli.specs.Sessions.{AreAllAnswered, AreAnswered, IsConversed, IsStatementUnread, IsUnwritten}
 use Rattle.star_cli.specs.declared.sessions.Stop.{Stop}
 use Rattle.star_cli.specs.declared.sessions.Stop.TheVariants.{Unread, Unwritten}
-use Rattle.star_cli.specs.Private.Turns.{IsAnswered, IsPrompted, IsTurn}
+use Rattle.star_cli.specs.Private.Turns.{IsPrompted, IsStatementAnswered, IsTurn}
 use Rattle.star_cli.proofs.SessionLemmas.{all_answered, answered_more, none_answered}
 
 -- statements were answered, one after another, which have at least so many bytes
-pub record IsUnderWay {S E : Type 0} (loaded : Loaded) (is_terminal : Bool) (old new : Option (List ℕ))
+pub record IsUnderWay {S E : Type 0} (loaded : Loaded) (is_terminal : Bool)
+    (old new : Option (List ℕ))
     (out : Change S) (err : Change E) (many : ℕ) : Type 0 where
   pub statements : List (List ℕ)
   pub answered : AreAnswered loaded is_terminal old new statements out err
@@ -34,13 +35,14 @@ module _ {S E : Type 0} (loaded : Loaded) (is_terminal : Bool) where
       (many : ℕ)
       (before : IsUnderWay loaded is_terminal old mid (record out { new = told })
       (record err { new = noted }) many) where
-    pub goes_on : IsAnswered loaded is_terminal mid new (record out { old = told })
+    pub goes_on : IsStatementAnswered loaded is_terminal mid new (record out { old = told })
         (record err { old = noted }) true true
         → IsUnderWay loaded is_terminal old new out err (many + 1)
     unfolding answered_more
     goes_on turn = record {
       statements = before.statements ++ turn.statement ∷ [];
-      answered = answered_more loaded is_terminal old mid new before.statements turn.statement turn.kept
+      answered = answered_more loaded is_terminal old mid new before.statements turn.statement
+          turn.kept
           out err told noted before.answered turn.round turn.read;
       bytes =
           let some : 0 < length turn.statement = turn.read.some refl in
@@ -48,14 +50,17 @@ module _ {S E : Type 0} (loaded : Loaded) (is_terminal : Bool) where
           omega (arith, some, few, length-append before.answered.text turn.statement);
     }
 
-    pub comes_to_its_end : IsAnswered loaded is_terminal mid new (record out { old = told })
+    pub comes_to_its_end : IsStatementAnswered loaded is_terminal mid new
+        (record out { old = told })
         (record err { old = noted }) false true
         → AreAllAnswered loaded is_terminal old new out err
     comes_to_its_end turn =
-        all_answered loaded is_terminal old mid new before.statements turn.statement turn.kept out err
+        all_answered loaded is_terminal old mid new before.statements turn.statement turn.kept out
+        err
         told noted before.answered turn.round turn.read
 
-    broken : (is_ended : Bool) → IsAnswered loaded is_terminal mid new (record out { old = told })
+    broken : (is_ended : Bool)
+        → IsStatementAnswered loaded is_terminal mid new (record out { old = told })
         (record err { old = noted }) is_ended false → IsUnwritten loaded is_terminal old new out err
     broken is_ended turn = record {
       left = mid;
@@ -77,7 +82,8 @@ module _ {S E : Type 0} (loaded : Loaded) (is_terminal : Bool) where
       statements = before.statements;
       noted = noted;
       before =
-          subst (λ o. AreAnswered loaded is_terminal old mid before.statements (record out { new = o })
+          subst (λ o. AreAnswered loaded is_terminal old mid before.statements
+          (record out { new = o })
           (record err { new = noted })) (sym prompted.0) before.answered;
       is_prompted = is_terminal;
       prompt = prompted.1;
@@ -86,7 +92,8 @@ module _ {S E : Type 0} (loaded : Loaded) (is_terminal : Bool) where
     past : (read : List ℕ) → IsPastCounting mid new read
         → IsPastCounting old new (before.answered.text ++ read)
     past read is = record {
-      consumed = consumed_both old mid new before.answered.text read before.answered.read is.consumed;
+      consumed = consumed_both old mid new before.answered.text read before.answered.read
+          is.consumed;
       many =
           let most : 2 ^ 64 - 1 ≤ length read = is.many in
           omega (arith, most, length-append before.answered.text read);
@@ -99,12 +106,17 @@ module _ {S E : Type 0} (loaded : Loaded) (is_terminal : Bool) where
     is_stopped failed Unwritten (is_ended, turn) = broken is_ended turn
     is_stopped failed (Unread ReadFailed) (prompted, why) = (
       unread prompted,
-      elim why [ inl has ↦ inl has | inr (read, is) ↦ inr (before.answered.text ++ read, past read is) ],
+      elim why [
+        | inl has ↦ inl has
+        | inr (read, is) ↦ inr
+            (before.answered.text ++ read, past read is)
+      ],
     )
     is_stopped failed (Unread ReadMemory) prompted = unread prompted
 
   -- more statements than are counted
-  pub is_past : (old new : Option (List ℕ)) (failed : Bool) (out : Change S) (err : Change E) (many : ℕ)
+  pub is_past : (old new : Option (List ℕ)) (failed : Bool) (out : Change S) (err : Change E)
+      (many : ℕ)
       → 2 ^ 64 - 1 ≤ many → IsUnderWay loaded is_terminal old new out err many
       → IsConversed loaded is_terminal old new failed out err (Err (Unread ReadFailed))
   is_past old new failed out err many most under_way = (
@@ -120,7 +132,8 @@ module _ {S E : Type 0} (loaded : Loaded) (is_terminal : Bool) where
       under_way.answered.text,
       record {
         consumed = under_way.answered.read;
-        many = let few : many ≤ length under_way.answered.text = under_way.bytes in omega (arith, most, few);
+        many = let few : many ≤ length under_way.answered.text = under_way.bytes in
+            omega (arith, most, few);
       },
     ),
   )

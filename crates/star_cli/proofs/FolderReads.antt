@@ -6,7 +6,6 @@ use Rattle.star_schema.specs.declared.table.TableId.TheVariants.{Date, Customer,
 use Rattle.star_schema.specs.Database.{TableTexts}
 use Rattle.star_schema.specs.Most.{most_rows}
 use Rattle.star_reader.specs.Partway.{HasRead, Reading}
-use Rattle.star_catalogue.specs.Pieces.{AreRead}
 use Rattle.star_catalogue.specs.declared.read_tables.ReadTables.{ReadTables}
 use Rattle.star_cli.specs.ReadFolders.{AreWidelyRead, HasReadSome, StaysBetween}
 

@@ -1,4 +1,5 @@
--- What the engine answers to a task is what its call answers, under the widest limits: the most rows
+-- What the engine answers to a task is what its call answers, under the widest limits: the most
+-- rows
 -- and visits.
 use Rattle.std.proofs.Common.{◌≡◌, ℕ, subst}
 use Rattle.star_schema.specs.Most.{most_rows, most_visits}

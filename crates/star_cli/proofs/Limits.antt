@@ -28,7 +28,8 @@ Chained before after words = (kept : List Arg) × (args_of after ≡ args_of bef
     × ((fields_of after).subcommand_negates_reqs ≡ false)
 
 places : (x y : Arg) (xs ys : List Arg) → SameRules x y
-    → ((k : ℕ) (d e : Arg) → k < length xs → SameRules (slice_index_or xs k d) (slice_index_or ys k e))
+    → ((k : ℕ) (d e : Arg) → k < length xs
+    → SameRules (slice_index_or xs k d) (slice_index_or ys k e))
     → (k : ℕ) (d e : Arg) → k < length (x ∷ xs)
     → SameRules (slice_index_or (x ∷ xs) k d) (slice_index_or (y ∷ ys) k e)
 places x y xs ys same rest zero d e lt = same
@@ -53,7 +54,8 @@ chained before after (word ∷ words) added fit plain globals negates =
     (one.globals ∙ (ap (λ b. b || word.global) globals ∙ ap (λ b. false || b) fits.1))
     (one.negates ∙ negates) in (
       one.arg ∷ rest.0,
-      rest.1 ∙ (ap (λ l. l ++ rest.0) one.args ∙ append_assoc (args_of before) (one.arg ∷ []) rest.0),
+      rest.1 ∙ (ap (λ l. l ++ rest.0) one.args
+          ∙ append_assoc (args_of before) (one.arg ∷ []) rest.0),
       (ap suc rest.2.0, places word one.arg words rest.0 one.rules rest.2.1),
       rest.3,
       rest.4,
@@ -72,21 +74,28 @@ has_limit command matches limit parsed =
     let start = asks.start in
     let count : length words ≡ 3 = lengths listed words asks.named in
     let lt : 2 < length words = omega arith in
-    let is : IsWord (codes "LIMIT") (slice_index_or words 2 d) = word_at listed words 2 d asks.named (omega arith) in
+    let is : IsWord (codes "LIMIT") (slice_index_or words 2 d) =
+    word_at listed words 2 d asks.named (omega arith) in
     let fit = all_fit listed words asks.named names.0 in
     let distinct = all_distinct listed words asks.named names.1 in
     let fits = fit 2 d lt in
-    let empty : IsPlain start = (subst (All IsPlainArg) (sym asks.wordless.args) (All-nil IsPlainArg), asks.wordless.groups) in
-    let chain = chained start command words asks.added fit empty asks.wordless.globals asks.wordless.negates in
+    let empty : IsPlain start = (
+      subst (All IsPlainArg) (sym asks.wordless.args) (All-nil IsPlainArg),
+      asks.wordless.groups,
+    ) in
+    let chain = chained start command words asks.added fit empty asks.wordless.globals
+    asks.wordless.negates in
     let list : args_of command ≡ chain.0 = chain.1 ∙ ap (λ l. l ++ chain.0) asks.wordless.args in
     let rules = chain.2.1 2 d d lt in
-    let third : slice_index_or (args_of command) 2 d ≡ slice_index_or chain.0 2 d = ap (λ l. slice_index_or l 2 d) list in
+    let third : slice_index_or (args_of command) 2 d ≡ slice_index_or chain.0 2 d =
+    ap (λ l. slice_index_or l 2 d) list in
     let as_listed : length (args_of command) ≡ length words = ap length list ∙ chain.2.0 in
     let within : 2 < length (args_of command) = omega arith in
     let same : (slice_index_or (args_of command) 2 d).id.now ≡ (slice_index_or words 2 d).id.now =
     ap (λ x. x.now) (ap (λ x. x.id) third ∙ rules.id) in
     let only : (j : ℕ) (e : Arg) → j < length (args_of command)
-    → bytes_eq (slice_index_or (args_of command) j e).id.now (slice_index_or (args_of command) 2 d).id.now ≡ true
+    → bytes_eq (slice_index_or (args_of command) j e).id.now
+    (slice_index_or (args_of command) 2 d).id.now ≡ true
     → j ≡ 2 =
     λ j e low equal.
     let in_words : j < length words = omega arith in
@@ -102,5 +111,10 @@ has_limit command matches limit parsed =
     (λ none. fits.2 (sym same ∙ none))
     (λ auto. fits.3 (subst (λ t. (t ≡ codes "help") ⊎ (t ≡ codes "version")) same auto))
     (Signed (pos 0) (pos most_visits))
-    (ap (λ x. x.value_parser) third ∙ rules.parser (Signed (pos 0) (pos most_visits)) (limit.number d)) in
-    (read.0, subst (λ t. one_text (found_of matches) t ≡ Some (without_minus read.0)) (same ∙ is.named) read.1, read.2)
+    (ap (λ x. x.value_parser) third
+    ∙ rules.parser (Signed (pos 0) (pos most_visits)) (limit.number d)) in (
+      read.0,
+      subst (λ t. one_text (found_of matches) t ≡ Some (without_minus read.0))
+          (same ∙ is.named) read.1,
+      read.2,
+    )

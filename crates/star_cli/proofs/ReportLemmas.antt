@@ -22,12 +22,14 @@ keeps_self None = tt
 keeps_self (Some reports) = refl
 
 -- a shelf that no report is put on keeps those that it has
-pub kept_none : {K : Type 0} (reports : K → Option (List Kept)) (failed_at : K → Option ℕ) (shelf : K)
+pub kept_none : {K : Type 0} (reports : K → Option (List Kept)) (failed_at : K → Option ℕ)
+    (shelf : K)
     → HasKeptNone (shelving reports failed_at shelf shelf)
 kept_none reports failed_at shelf = record { same = keeps_self (reports shelf); untried = refl }
 
 module _ {K S : Type 0} (loaded : Loaded) where
-  pub delivered_more : (errands : List Errand) (errand : Errand) (shelf : Shelving K) (out : Change S)
+  pub delivered_more : (errands : List Errand) (errand : Errand) (shelf : Shelving K)
+      (out : Change S)
       (kept : K) (told : S) (all answered : Bool)
       → AreDelivered loaded errands (record shelf { new = kept }) (record out { new = told }) all
       → IsDelivered loaded errand.name.now errand.file.now (record shelf { old = kept })
@@ -51,25 +53,27 @@ module _ {K S : Type 0} (loaded : Loaded) where
           ),
         ),
       )
-  delivered_more (first ∷ others) errand shelf out kept told all answered (a, (r, (k, (t, (here, (rest, e)))))) last = (
-    a,
-    (
-      r && answered,
-      (
-        k,
+  delivered_more (first ∷ others) errand shelf out kept told all answered
+      (a, (r, (k, (t, (here, (rest, e)))))) last = (
+        a,
         (
-          t,
+          r && answered,
           (
-            here,
+            k,
             (
-              delivered_more others errand (record shelf { old = k }) (record out { old = t }) kept told r answered rest last,
-              ap (λ b. b && answered) e ∙ and_assoc a r answered,
+              t,
+              (
+                here,
+                (
+                  delivered_more others errand (record shelf { old = k }) (record out { old = t }) kept
+                      told r answered rest last,
+                  ap (λ b. b && answered) e ∙ and_assoc a r answered,
+                ),
+              ),
             ),
           ),
         ),
-      ),
-    ),
-  )
+      )
 
 module _ {S : Type 0} (loaded : Loaded) where
   pub judged_more : (errands : List Errand) (errand : Errand) (out : Change S)
@@ -78,7 +82,8 @@ module _ {S : Type 0} (loaded : Loaded) where
       → IsJudged loaded errand.name.now errand.file.now (record out { old = told }) (Ok accepted)
       → AreJudged loaded (errands ++ errand ∷ []) out (all && accepted)
   judged_more [] errand out told all accepted before here =
-      let P : S → Type 0 = λ s. IsJudged loaded errand.name.now errand.file.now (record out { old = s }) (Ok accepted) in (
+      let P : S → Type 0 = λ s.
+      IsJudged loaded errand.name.now errand.file.now (record out { old = s }) (Ok accepted) in (
         accepted,
         (
           true,
@@ -110,7 +115,8 @@ module _ {S : Type 0} (loaded : Loaded) where
 
 -- a report that was kept, and its line told
 pub kept_delivered : {K S : Type 0} (loaded : Loaded) (name file : List ℕ) (telling : Telling)
-    (shelf : Shelving K) (out : Change S) → IsFileToldOver loaded.visits loaded.database file telling
+    (shelf : Shelving K) (out : Change S)
+    → IsFileToldOver loaded.visits loaded.database file telling
     → HasKept shelf name telling.report → HasGained out (told_line name telling)
     → IsDelivered loaded name file shelf out (Ok true)
 kept_delivered loaded name file telling shelf out told kept gained = (
@@ -126,10 +132,13 @@ refusal_delivered : {K S : Type 0} (loaded : Loaded) (name file : List ℕ) (fau
     → IsDelivered loaded name file shelf out result
 refusal_delivered loaded name file fault shelf out (Ok answered) none due told =
     let line = refused_line name fault in
-    let refused : IsDue loaded name file shelf false line = (record { fault = fault; due = due; told = refl }, none) in
+    let refused : IsDue loaded name file shelf false line =
+    (record { fault = fault; due = due; told = refl }, none) in
     (line, subst (λ b. IsDue loaded name file shelf b line) (sym told.0) refused, told.1)
-refusal_delivered loaded name file fault shelf out (Err OutOfMemory) none due told = (told, inl none)
-refusal_delivered loaded name file fault shelf out (Err (Unkept named sent)) none due told = absurd told
+refusal_delivered loaded name file fault shelf out (Err OutOfMemory) none due told =
+    (told, inl none)
+refusal_delivered loaded name file fault shelf out (Err (Unkept named sent)) none due told =
+    absurd told
 refusal_delivered loaded name file fault shelf out (Err (Unwritten sent)) none due told = (
   false,
   (
@@ -162,7 +171,10 @@ kept_halted loaded name file telling shelf out OutOfMemory told is = (
   is.0,
   elim is.1 [
     | inl none ↦ inl none
-    | inr kept ↦ inr (told_line name telling, record { telling = telling; told = told; kept = kept; lined = refl })
+    | inr kept ↦ inr (
+      told_line name telling,
+      record { telling = telling; told = told; kept = kept; lined = refl },
+    )
   ],
 )
 kept_halted loaded name file telling shelf out (Unkept named sent) told is =
@@ -176,12 +188,14 @@ kept_halted loaded name file telling shelf out (Unwritten sent) told is = (
 )
 
 -- a forecast whose line could not be written
-pub forecast_halted : {S : Type 0} (loaded : Loaded) (name file forecast line : List ℕ) (out : Change S)
+pub forecast_halted : {S : Type 0} (loaded : Loaded) (name file forecast line : List ℕ)
+    (out : Change S)
     (halt : Halt) → IsJudgedOver loaded.visits loaded.database file forecast
     → line ≡ named_line name forecast → IsLineWritten out line (Err halt)
     → IsJudged loaded name file out (Err halt)
 forecast_halted loaded name file forecast line out OutOfMemory judged lined never = absurd never
-forecast_halted loaded name file forecast line out (Unkept named sent) judged lined never = absurd never
+forecast_halted loaded name file forecast line out (Unkept named sent) judged lined never =
+    absurd never
 forecast_halted loaded name file forecast line out (Unwritten sent) judged lined part =
     (true, (line, ((forecast, judged, lined), part)))
 
@@ -190,14 +204,17 @@ forecast_halted loaded name file forecast line out (Unwritten sent) judged lined
 module _ {K S : Type 0} (loaded : Loaded) (errands : List Errand) (i : ℕ) (d : Errand)
     (below : i < length errands) (shelf : Shelving K) (out : Change S) (kept : K) (told : S)
     (all : Bool)
-    (before : AreDelivered loaded (take i errands) (record shelf { new = kept }) (record out { new = told }) all) where
+    (before : AreDelivered loaded (take i errands) (record shelf { new = kept })
+    (record out { new = told }) all) where
   pub delivered_next : (answered : Bool)
       → IsDelivered loaded (get_or errands i d).name.now (get_or errands i d).file.now
       (record shelf { old = kept }) (record out { old = told }) (Ok answered)
       → AreDelivered loaded (take (i + 1) errands) shelf out (all && answered)
   delivered_next answered here =
-      subst (λ es. AreDelivered loaded es shelf out (all && answered)) (sym (take_more errands i d below))
-      (delivered_more loaded (take i errands) (get_or errands i d) shelf out kept told all answered before here)
+      subst (λ es. AreDelivered loaded es shelf out (all && answered))
+      (sym (take_more errands i d below))
+      (delivered_more loaded (take i errands) (get_or errands i d) shelf out kept told all answered
+      before here)
 
   pub delivery_halted : (halt : Halt)
       → IsDelivered loaded (get_or errands i d).name.now (get_or errands i d).file.now
@@ -207,7 +224,8 @@ module _ {K S : Type 0} (loaded : Loaded) (errands : List Errand) (i : ℕ) (d :
     before = take i errands;
     here = get_or errands i d;
     behind = drop (suc i) errands;
-    parts = sym (take-append-drop i errands) ∙ ap (λ l. take i errands ++ l) (drop-cons errands i d below);
+    parts = sym (take-append-drop i errands)
+        ∙ ap (λ l. take i errands ++ l) (drop-cons errands i d below);
     all = all;
     kept = kept;
     told = told;
@@ -234,7 +252,8 @@ module _ {S : Type 0} (loaded : Loaded) (errands : List Errand) (i : ℕ) (d : E
     before = take i errands;
     here = get_or errands i d;
     behind = drop (suc i) errands;
-    parts = sym (take-append-drop i errands) ∙ ap (λ l. take i errands ++ l) (drop-cons errands i d below);
+    parts = sym (take-append-drop i errands)
+        ∙ ap (λ l. take i errands ++ l) (drop-cons errands i d below);
     all = all;
     told = told;
     judged = before;

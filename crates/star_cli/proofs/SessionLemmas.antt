@@ -8,10 +8,13 @@ use Rattle.star_statements.proofs.DraftLemmas.{consumed_both, consumed_none}
 use Rattle.star_cli.specs.Sessions.{AreAllAnswered, AreAnswered, AreRounds, IsRound}
 
 module _ {S E : Type 0} (loaded : Loaded) (is_terminal : Bool) where
-  pub rounds_more : (statements : List (List ℕ)) (statement : List ℕ) (out : Change S) (err : Change E)
+  pub rounds_more : (statements : List (List ℕ)) (statement : List ℕ) (out : Change S)
+      (err : Change E)
       (told : S) (noted : E)
-      → AreRounds loaded is_terminal statements (record out { new = told }) (record err { new = noted })
-      → IsRound loaded is_terminal statement (record out { old = told }) (record err { old = noted }) true
+      → AreRounds loaded is_terminal statements (record out { new = told })
+      (record err { new = noted })
+      → IsRound loaded is_terminal statement (record out { old = told })
+      (record err { old = noted }) true
       → AreRounds loaded is_terminal (statements ++ statement ∷ []) out err
   rounds_more [] statement out err told noted before round = (
     out.new,
@@ -19,7 +22,8 @@ module _ {S E : Type 0} (loaded : Loaded) (is_terminal : Bool) where
       err.new,
       (
         subst (λ e. IsRound loaded is_terminal statement out (record err { old = e }) true) before.1
-            (subst (λ o. IsRound loaded is_terminal statement (record out { old = o }) (record err { old = noted }) true)
+            (subst (λ o. IsRound loaded is_terminal statement (record out { old = o })
+            (record err { old = noted }) true)
             before.0 round),
         (refl, refl),
       ),
@@ -31,7 +35,8 @@ module _ {S E : Type 0} (loaded : Loaded) (is_terminal : Bool) where
       n,
       (
         here,
-        rounds_more others statement (record out { old = t }) (record err { old = n }) told noted rest round,
+        rounds_more others statement (record out { old = t }) (record err { old = n }) told noted
+            rest round,
       ),
     ),
   )
@@ -39,15 +44,18 @@ module _ {S E : Type 0} (loaded : Loaded) (is_terminal : Bool) where
   -- one statement more
   module _ (old mid new : Option (List ℕ)) (statements : List (List ℕ)) (statement kept : List ℕ)
       (out : Change S) (err : Change E) (told : S) (noted : E)
-      (before : AreAnswered loaded is_terminal old mid statements (record out { new = told }) (record err { new = noted }))
-      (round : IsRound loaded is_terminal statement (record out { old = told }) (record err { old = noted }) true) where
+      (before : AreAnswered loaded is_terminal old mid statements (record out { new = told })
+      (record err { new = noted }))
+      (round : IsRound loaded is_terminal statement (record out { old = told })
+      (record err { old = noted }) true) where
     unfoldable pub answered_more : IsStatementRead mid new kept true statement
         → AreAnswered loaded is_terminal old new (statements ++ statement ∷ []) out err
     answered_more read = record {
       text = before.text ++ statement;
       read = consumed_both old mid new before.text statement before.read read.read;
       first = λ rest.
-          ap statements_of (append_assoc before.text statement rest) ∙ before.first (statement ++ rest)
+          ap statements_of (append_assoc before.text statement rest)
+          ∙ before.first (statement ++ rest)
           ∙ ap (λ l. statements ++ l) (read.first refl rest)
           ∙ sym (append_assoc statements (statement ∷ []) (statements_of rest));
       rounds = rounds_more statements statement out err told noted before.rounds round;
@@ -64,7 +72,8 @@ module _ {S E : Type 0} (loaded : Loaded) (is_terminal : Bool) where
               (rounds_more statements statement out err told noted before.rounds round);
         }
 
-  pub none_answered : (known : Option (List ℕ)) (out : Change S) (err : Change E) → out.new ≡ out.old
+  pub none_answered : (known : Option (List ℕ)) (out : Change S) (err : Change E)
+      → out.new ≡ out.old
       → err.new ≡ err.old → AreAnswered loaded is_terminal known known [] out err
   none_answered known out err untold unnoted = record {
     text = [];

@@ -2,7 +2,7 @@
 use Rattle.std.proofs.Common.{◌≡◌, ◌<◌, ◌↔◌, ℕ, List, [], ◌∷◌, false, true, length, take, inl, inr, refl, arith}
 use Rattle.std.specs.Prelude.{Result, Ok, Err, IsOk, OnOk, OnErr, IfErr, codes}
 use Rattle.std.specs.Io.KnownBytes.{Appends}
-use Rattle.star_report.specs.declared.deliver.WriteFault.{WriteFault}
+use Rattle.star_common.specs.declared.delivery.WriteFault.{WriteFault}
 use Rattle.star_engine.specs.Answered.{Change}
 use Rattle.star_engine.specs.FaultTexts.{engine_fault_text}
 use Rattle.star_engine.specs.declared.fault.EngineFault.TheVariants as engine

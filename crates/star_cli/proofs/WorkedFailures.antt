@@ -1,4 +1,5 @@
--- What keeps a command from its answer: the line of each failure, and its status. No other crate may name them.
+-- What keeps a command from its answer: the line of each failure, and its status. No other crate
+-- may name them.
 use Rattle.std.proofs.Common.{◌≡◌, ℕ, List, [], ◌∷◌, Some, refl, ap}
 use Rattle.std.specs.Borrow.{Bor}
 use Rattle.std.specs.Fmt.{digits}
@@ -12,12 +13,14 @@ use Rattle.star_cli.specs.Failures.{failure_text, status_of}
 use Rattle.star_cli.specs.Names.{printed_name}
 
 lines : map failure_text (NotText ∷ EmptyFolder ∷ NoCommand ∷ OutOfMemory ∷ [])
-    ≡ Some (codes "error: a word is not UTF-8\n") ∷ Some (codes "error: the folder's name is empty\n")
+    ≡ Some (codes "error: a word is not UTF-8\n")
+    ∷ Some (codes "error: the folder's name is empty\n")
     ∷ Some (codes "error: the words are no command\n") ∷ Some (codes "memory\n") ∷ []
 unfolding failure_text
 lines = refl
 
-line_of_a_file : (name : Bor (List ℕ)) → printed_name name.now ≡ codes "part.tbl" → failure_text (File name) ≡ Some (codes "file part.tbl\n")
+line_of_a_file : (name : Bor (List ℕ)) → printed_name name.now ≡ codes "part.tbl"
+    → failure_text (File name) ≡ Some (codes "file part.tbl\n")
 unfolding failure_text
 line_of_a_file name shown = ap (λ word. Some (codes "file " ++ (word ++ codes "\n"))) shown
 
@@ -27,17 +30,25 @@ unfolding failure_text digits
 lines_of_parts = refl
 
 lines_of_reports : (name : Bor (List ℕ)) → printed_name name.now ≡ codes "years"
-    → map failure_text (Unnamed name ∷ NamedTwice name ∷ OfFile name (Query (Unexpected 20)) ∷ Unkept name 10 ∷ Unwritten 7 ∷ [])
-    ≡ Some (codes "error: no name for the report of years\n") ∷ Some (codes "error: two reports are named years\n")
-    ∷ Some (codes "years: query 24 Unexpected at 20\n") ∷ Some (codes "years: write 10\n") ∷ Some (codes "write 7\n") ∷ []
+    → map failure_text (Unnamed name ∷ NamedTwice name ∷ OfFile name (Query (Unexpected 20))
+    ∷ Unkept name 10 ∷ Unwritten 7 ∷ [])
+    ≡ Some (codes "error: no name for the report of years\n")
+    ∷ Some (codes "error: two reports are named years\n")
+    ∷ Some (codes "years: query 24 Unexpected at 20\n") ∷ Some (codes "years: write 10\n")
+    ∷ Some (codes "write 7\n") ∷ []
 unfolding failure_text engine_fault_text query_fault_text digits
 lines_of_reports name shown =
     ap (λ word. Some (codes "error: no name for the report of " ++ (word ++ codes "\n"))
     ∷ Some (codes "error: two reports are named " ++ (word ++ codes "\n"))
-    ∷ Some (word ++ codes ": query 24 Unexpected at 20\n") ∷ Some (word ++ codes ": write 10\n") ∷ Some (codes "write 7\n") ∷ []) shown
+    ∷ Some (word ++ codes ": query 24 Unexpected at 20\n") ∷ Some (word ++ codes ": write 10\n")
+    ∷ Some (codes "write 7\n") ∷ []) shown
 
-statuses : (name : Bor (List ℕ)) → map status_of (NotText ∷ EmptyFolder ∷ NoCommand ∷ File name ∷ Part 2 ∷ OutOfMemory ∷ []) ≡ 2 ∷ 2 ∷ 2 ∷ 6 ∷ 6 ∷ 7 ∷ []
+statuses : (name : Bor (List ℕ))
+    → map status_of (NotText ∷ EmptyFolder ∷ NoCommand ∷ File name ∷ Part 2 ∷ OutOfMemory ∷ [])
+    ≡ 2 ∷ 2 ∷ 2 ∷ 6 ∷ 6 ∷ 7 ∷ []
 statuses name = refl
 
-statuses_of_reports : (name : Bor (List ℕ)) → map status_of (Unnamed name ∷ NamedTwice name ∷ OfFile name (Query (Unexpected 20)) ∷ Unkept name 10 ∷ Unwritten 7 ∷ []) ≡ 2 ∷ 2 ∷ 4 ∷ 6 ∷ 6 ∷ []
+statuses_of_reports : (name : Bor (List ℕ))
+    → map status_of (Unnamed name ∷ NamedTwice name ∷ OfFile name (Query (Unexpected 20))
+    ∷ Unkept name 10 ∷ Unwritten 7 ∷ []) ≡ 2 ∷ 2 ∷ 4 ∷ 6 ∷ 6 ∷ []
 statuses_of_reports name = refl

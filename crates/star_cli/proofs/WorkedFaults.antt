@@ -11,7 +11,8 @@ use Rattle.star_cli.specs.Failures.{words_status}
 use Rattle.star_cli.specs.Lines.{fault_line}
 use Rattle.star_cli.specs.Names.{printed_letter, printed_name}
 
-lines : map fault_line (OutOfMemory ∷ Write 65536 ∷ []) ≡ codes "memory\n" ∷ codes "write 65536\n" ∷ []
+lines : map fault_line (OutOfMemory ∷ Write 65536 ∷ [])
+    ≡ codes "memory\n" ∷ codes "write 65536\n" ∷ []
 unfolding fault_line engine_fault_text digits
 lines = refl
 

@@ -21,14 +21,14 @@ use Rattle.star_cli.specs.declared.words.Task.{Task}
 use Rattle.star_cli.specs.declared.words.Task.TheVariants.{Sample, Check, Bench, Query, Explain, Exec, Quote, Trial}
 
 -- the Ok of a call that refuses nothing by it
-abbrev pub whole : Result (Unit {0}) EngineFault → Result Bool EngineFault
-whole (Ok answer) = Ok true
-whole (Err fault) = Err fault
+abbrev pub none_refused : Result (Unit {0}) EngineFault → Result Bool EngineFault
+none_refused (Ok answer) = Ok true
+none_refused (Err fault) = Err fault
 
 -- what such a call answers
-abbrev pub IsWhole : (Result (Unit {0}) EngineFault → Type 0) → Result Bool EngineFault → Type 0
-IsWhole IsAnswer result =
-    (answer : Result (Unit {0}) EngineFault) × IsAnswer answer × (result ≡ whole answer)
+abbrev pub IsNoneRefused : (Result (Unit {0}) EngineFault → Type 0) → Result Bool EngineFault → Type 0
+IsNoneRefused IsAnswer result =
+    (answer : Result (Unit {0}) EngineFault) × IsAnswer answer × (result ≡ none_refused answer)
 
 -- the tables of five texts are listed
 abbrev pub IsListed : {S : Type 0} → Change S → TableTexts
@@ -90,19 +90,19 @@ abbrev pub IsGivenOf : {S N : Type 0} → Task → TableTexts → List ℕ → C
 IsGivenOf Sample texts file out notes result =
     IsListedAndBenched out texts result × IsUntouched notes
 IsGivenOf (Check folder) texts file out notes result =
-    IsWhole (IsListed out texts) result × IsUntouched notes
+    IsNoneRefused (IsListed out texts) result × IsUntouched notes
 IsGivenOf (Bench folder) texts file out notes result =
     IsBenched out texts result × IsUntouched notes
 IsGivenOf (Query folder path) texts file out notes result =
-    IsWhole (IsQueried out notes texts file) result
+    IsNoneRefused (IsQueried out notes texts file) result
 IsGivenOf (Explain path) texts file out notes result =
-    IsWhole (IsExplanation out file) result × IsUntouched notes
+    IsNoneRefused (IsExplanation out file) result × IsUntouched notes
 IsGivenOf (Exec folder path) texts file out notes result =
-    IsWhole (IsExecuted out notes texts file) result
+    IsNoneRefused (IsExecuted out notes texts file) result
 IsGivenOf (Quote folder path) texts file out notes result =
-    IsWhole (IsQuoted out texts file) result × IsUntouched notes
+    IsNoneRefused (IsQuoted out texts file) result × IsUntouched notes
 IsGivenOf (Trial folder path limits) texts file out notes result =
-    IsWhole (IsTried limits out texts file) result × IsUntouched notes
+    IsNoneRefused (IsTried limits out texts file) result × IsUntouched notes
 
 -- over the bytes that were read
 abbrev pub IsGiven : {S N : Type 0} → Task → Bytes → Change S → Change N

@@ -10,8 +10,8 @@ ghost use Rattle.star_engine.specs.Answered.{change};
 use crate::lines::tell_fault;
 use crate::words::Task;
 use crate::{calls, folder_calls};
+use star_common::Sink;
 use star_engine::{EngineFault, ReadTables, Texts, sample};
-use star_schema::Sink;
 use std::alloc::Global;
 
 /// The bytes that were read for a task: the five tables, and the task's file where it has
@@ -73,7 +73,7 @@ fn give_read<S: Sink, N: Sink>(
     }
 }
 
-// The exit status behind what the engine answered, and the line of its fault.
+// The exit status after what the engine answered, and the line of its fault.
 fn end<E: Sink>(alloc: Global, given: Result<bool, EngineFault>, err: &mut E) -> u8
     ensures { IsEnded (change E.contents E.is_failed err.old err.new) given result }
 {

@@ -3,19 +3,20 @@
 ghost use Rattle.std.specs.Prelude.{◌≡◌};
 ghost use Rattle.star_catalogue.specs.Load.{texts_view};
 ghost use Rattle.star_cli.specs.Answers as spec;
-ghost use Rattle.star_cli.specs.Answers.{IsBenched, IsExecuted, IsExplanation, IsListed, IsListedAndBenched, IsQueried, IsQuoted, IsTried, IsWhole};
+ghost use Rattle.star_cli.specs.Answers.{IsBenched, IsExecuted, IsExplanation, IsListed, IsListedAndBenched, IsNoneRefused, IsQueried, IsQuoted, IsTried};
 ghost use Rattle.star_engine.specs.Answered.{change};
 
+use star_common::Sink;
 use star_engine::{
     EngineFault, Texts, answer_program, answer_query, bench, check, explain_query, quote_text,
     trial_program,
 };
-use star_schema::{Limits, Sink};
+use star_schema::Limits;
 use std::alloc::Global;
 
 /// The answer of a call that refuses nothing by its Ok.
 pub(crate) fn whole(answer: Result<(), EngineFault>) -> Result<bool, EngineFault>
-    ensures { result ≡ spec.whole answer }
+    ensures { result ≡ spec.none_refused answer }
 {
     match answer {
         Ok(()) => Ok(true),
@@ -28,7 +29,7 @@ pub(crate) fn list<S: Sink>(
     texts: &Texts<'_>,
     out: &mut S,
 ) -> Result<bool, EngineFault>
-    ensures { IsWhole (IsListed (change S.contents S.is_failed out.old out.new)
+    ensures { IsNoneRefused (IsListed (change S.contents S.is_failed out.old out.new)
         (texts_view texts.now)) result }
 {
     whole(check(alloc, texts, Limits::widest(), out))
@@ -45,7 +46,7 @@ pub(crate) fn answer_benchmark<S: Sink>(
     bench(alloc, texts, Limits::widest(), out)
 }
 
-// The listing, and behind it the reports of the benchmark.
+// The listing, and after it the reports of the benchmark.
 pub(crate) fn list_and_bench<S: Sink>(
     alloc: Global,
     texts: &Texts<'_>,
@@ -67,14 +68,14 @@ pub(crate) fn query<S: Sink, N: Sink>(
     out: &mut S,
     notes: &mut N,
 ) -> Result<bool, EngineFault>
-    ensures { IsWhole (IsQueried (change S.contents S.is_failed out.old out.new)
+    ensures { IsNoneRefused (IsQueried (change S.contents S.is_failed out.old out.new)
         (change N.contents N.is_failed notes.old notes.new) (texts_view texts.now) file.now) result }
 {
     whole(answer_query(alloc, texts, file, Limits::widest(), out, notes))
 }
 
 pub(crate) fn explain<S: Sink>(alloc: Global, file: &[u8], out: &mut S) -> Result<bool, EngineFault>
-    ensures { IsWhole (IsExplanation (change S.contents S.is_failed out.old out.new)
+    ensures { IsNoneRefused (IsExplanation (change S.contents S.is_failed out.old out.new)
         file.now) result }
 {
     whole(explain_query(alloc, file, out))
@@ -87,7 +88,7 @@ pub(crate) fn execute<S: Sink, N: Sink>(
     out: &mut S,
     notes: &mut N,
 ) -> Result<bool, EngineFault>
-    ensures { IsWhole (IsExecuted (change S.contents S.is_failed out.old out.new)
+    ensures { IsNoneRefused (IsExecuted (change S.contents S.is_failed out.old out.new)
         (change N.contents N.is_failed notes.old notes.new) (texts_view texts.now) file.now) result }
 {
     whole(answer_program(alloc, texts, file, Limits::widest(), out, notes))
@@ -99,7 +100,7 @@ pub(crate) fn quote<S: Sink>(
     file: &[u8],
     out: &mut S,
 ) -> Result<bool, EngineFault>
-    ensures { IsWhole (IsQuoted (change S.contents S.is_failed out.old out.new)
+    ensures { IsNoneRefused (IsQuoted (change S.contents S.is_failed out.old out.new)
         (texts_view texts.now) file.now) result }
 {
     whole(quote_text(alloc, texts, file, Limits::widest(), out))
@@ -112,7 +113,7 @@ pub(crate) fn try_program<S: Sink>(
     limits: Limits,
     out: &mut S,
 ) -> Result<bool, EngineFault>
-    ensures { IsWhole (IsTried limits (change S.contents S.is_failed out.old out.new)
+    ensures { IsNoneRefused (IsTried limits (change S.contents S.is_failed out.old out.new)
         (texts_view texts.now) file.now) result }
 {
     let visits = limits.visits;

@@ -51,7 +51,7 @@ fn add_name<'a>(names: &mut Vec<&'a str>, path: &'a str) -> Result<(), Failure<'
     Ok(())
 }
 
-// The names of the reports of some files, of which no two are one.
+// The names of the reports of some files. No two of them are the same.
 fn names_of<'a>(alloc: Global, paths: &[&'a str]) -> Result<Vec<&'a str>, Failure<'a>> {
     let mut names = Vec::new(alloc);
     for path in paths {

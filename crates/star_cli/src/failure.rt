@@ -11,8 +11,8 @@ use crate::names::Shown;
 use crate::reports::Halt;
 use clap::Error;
 use clap::error::ErrorKind;
+use star_common::Sink;
 use star_engine::{EngineFault, FaultLine};
-use star_schema::Sink;
 use std::alloc::{AllocError, Global};
 use std::fmt;
 

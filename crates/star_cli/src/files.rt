@@ -19,7 +19,7 @@ const MOST_TABLE_BYTES: u64 = 1_000_000_000_000;
 /// The most parts that lineorder may have.
 const MOST_PARTS: u16 = 1_000;
 
-/// The file of lineorder, behind whose name its parts have a dot and their number.
+/// The file of lineorder, after whose name its parts have a dot and their number.
 const LINEORDER: &str = "lineorder.tbl";
 
 /// The most bytes that the file of a program may have.
@@ -45,8 +45,8 @@ fn told_size(file: &impl OpenFile) -> u64 {
     }
 }
 
-// The bytes of a file of at most so many, if it is there. It is opened once. A file that is told to
-// have more is not read: it may be sparse, and larger than any memory.
+// The bytes of a file of at most `most` bytes, if it is there. It is opened once. A file that is told
+// to have more is not read: it may be sparse, and larger than any memory.
 fn read_there<R: Files + AllocGlobal>(
     rt: &R,
     path: &str,
@@ -71,7 +71,8 @@ fn failure_of(fault: FileFault, named: Failure<'_>) -> Failure<'_> {
     }
 }
 
-// The bytes of a file of at most so many, which a failure names so, also where it is not there.
+// The bytes of a file of at most `most` bytes. A failure calls the file `name`, also where it is not
+// there.
 fn read_at_most<'a, R: Files + AllocGlobal>(
     rt: &R,
     path: &str,
@@ -222,7 +223,7 @@ fn feed_lineorder<R: Files + AllocGlobal, P: Watch>(
     feed_parts(rt, folder, reader, progress)
 }
 
-// Reads lineorder: its file, or else its parts, of which there is one at least.
+// Reads lineorder: its file, or else its parts, at least one.
 fn read_lineorder<R: Files + AllocGlobal, P: Watch>(
     rt: &R,
     folder: &str,
@@ -261,8 +262,8 @@ fn read_all<R: Files + AllocGlobal, P: Watch>(
 
 /// Reads the tables of a folder, in their order. Where there is no file of lineorder its parts are
 /// read, `lineorder.tbl.1` and on, up to the first that is not there. What the tables' bytes say is
-/// looked at later: a fault of them comes behind every failure to read a file. `progress` is told how
-/// far it is, from its begin to its end.
+/// looked at later: a fault of them comes after every failure to read a file. `progress` is told
+/// how far it is, from its begin to its end.
 pub(crate) fn read_tables<R: Files + AllocGlobal, P: Watch>(
     rt: &R,
     folder: &str,

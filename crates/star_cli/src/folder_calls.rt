@@ -5,16 +5,17 @@ ghost use Rattle.std.specs.Prelude.{◌≡◌};
 ghost use Rattle.star_schema.specs.Database.{TableTexts};
 ghost use Rattle.star_schema.specs.Most.{most_rows};
 ghost use Rattle.star_catalogue.specs.Pieces.{AreRead};
-ghost use Rattle.star_cli.specs.Answers.{IsBenched, IsExecuted, IsListed, IsQueried, IsQuoted, IsTried, IsWhole};
+ghost use Rattle.star_cli.specs.Answers.{IsBenched, IsExecuted, IsListed, IsNoneRefused, IsQueried, IsQuoted, IsTried};
 ghost use Rattle.star_cli.specs.ReadFolders.{AreWidelyRead};
 ghost use Rattle.star_engine.specs.Answered.{change};
 
 use crate::calls::whole;
+use star_common::Sink;
 use star_engine::{
     EngineFault, ReadTables, answer_program_read, answer_query_read, bench_read, check_read,
     quote_text_read, trial_program_read,
 };
-use star_schema::{Limits, Sink};
+use star_schema::Limits;
 use std::alloc::Global;
 
 pub(crate) fn list<S: Sink>(
@@ -24,7 +25,7 @@ pub(crate) fn list<S: Sink>(
 ) -> Result<bool, EngineFault>
     requires { AreWidelyRead read }
     ensures { (texts : TableTexts) → AreRead read most_rows texts
-        → IsWhole (IsListed (change S.contents S.is_failed out.old out.new)
+        → IsNoneRefused (IsListed (change S.contents S.is_failed out.old out.new)
         texts) result }
 {
     whole(check_read(alloc, read, Limits::widest(), out))
@@ -51,7 +52,7 @@ pub(crate) fn query<S: Sink, N: Sink>(
 ) -> Result<bool, EngineFault>
     requires { AreWidelyRead read }
     ensures { (texts : TableTexts) → AreRead read most_rows texts
-        → IsWhole (IsQueried (change S.contents S.is_failed out.old out.new)
+        → IsNoneRefused (IsQueried (change S.contents S.is_failed out.old out.new)
         (change N.contents N.is_failed notes.old notes.new) texts file.now) result }
 {
     whole(answer_query_read(alloc, read, file, Limits::widest(), out, notes))
@@ -66,7 +67,7 @@ pub(crate) fn execute<S: Sink, N: Sink>(
 ) -> Result<bool, EngineFault>
     requires { AreWidelyRead read }
     ensures { (texts : TableTexts) → AreRead read most_rows texts
-        → IsWhole (IsExecuted (change S.contents S.is_failed out.old out.new)
+        → IsNoneRefused (IsExecuted (change S.contents S.is_failed out.old out.new)
         (change N.contents N.is_failed notes.old notes.new) texts file.now) result }
 {
     whole(answer_program_read(alloc, read, file, Limits::widest(), out, notes))
@@ -80,7 +81,7 @@ pub(crate) fn quote<S: Sink>(
 ) -> Result<bool, EngineFault>
     requires { AreWidelyRead read }
     ensures { (texts : TableTexts) → AreRead read most_rows texts
-        → IsWhole (IsQuoted (change S.contents S.is_failed out.old out.new)
+        → IsNoneRefused (IsQuoted (change S.contents S.is_failed out.old out.new)
         texts file.now) result }
 {
     whole(quote_text_read(alloc, read, file, Limits::widest(), out))
@@ -95,7 +96,7 @@ pub(crate) fn try_program<S: Sink>(
 ) -> Result<bool, EngineFault>
     requires { AreWidelyRead read }
     ensures { (texts : TableTexts) → AreRead read most_rows texts → limits.rows ≡ most_rows
-        → IsWhole (IsTried limits (change S.contents S.is_failed out.old out.new) texts
+        → IsNoneRefused (IsTried limits (change S.contents S.is_failed out.old out.new) texts
         file.now) result }
 {
     let visits = limits.visits;

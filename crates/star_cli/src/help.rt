@@ -1,7 +1,7 @@
 // What the program tells of itself and of its commands.
 
 /// What is told of a command: its name, what it is called on a command line, what it does, and
-/// behind its words an example and its exit statuses.
+/// after its words an example and its exit statuses.
 #[derive(Clone, Copy)]
 pub(crate) struct Help {
     pub(crate) name: &'static str,

@@ -4,9 +4,8 @@ ghost use Rattle.std.specs.Prelude.{◌≡◌, IfOk, string_bytes};
 ghost use Rattle.star_engine.specs.Answered.{change};
 ghost use Rattle.star_cli.specs.Lines.{IsFaultTold, IsTextTold, fault_line, fault_status};
 
+use star_common::{Sink, write_whole};
 use star_engine::{EngineFault, FaultLine};
-use star_report::write_whole;
-use star_schema::Sink;
 use std::alloc::{AllocError, Global};
 
 /// The line where memory is refused, which takes none.

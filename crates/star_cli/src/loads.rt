@@ -10,8 +10,9 @@ use crate::files::read_tables;
 use crate::lines::tell_fault;
 use crate::progress::Watch;
 use star_catalogue::Catalogue;
+use star_common::Sink;
 use star_engine::{Engine, EngineFault, ReadTables};
-use star_schema::{Limits, Sink};
+use star_schema::Limits;
 use std::alloc::{AllocError, Global};
 use std::rt::Files;
 

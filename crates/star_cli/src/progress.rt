@@ -58,7 +58,7 @@ impl Watch for () {
     fn end(&mut self) {}
 }
 
-// The moment so many milliseconds from now, if the clock tells it.
+// The moment `pause` milliseconds from now, if the clock tells it.
 fn later(clock: &impl Clock, pause: u64) -> Option<Instant> {
     match Instant::now(clock) {
         Ok(now) => now.checked_add(Duration::from_millis(pause)),

@@ -14,9 +14,8 @@ ghost use Rattle.star_cli.specs.declared.reports.Halt.TheVariants.{OutOfMemory};
 use crate::failure::Failure;
 use crate::names::Shown;
 use crate::shelf::{Shelf, ShelfFault};
+use star_common::{Sink, write_whole};
 use star_engine::{Engine, EngineFault, FaultLine, Told};
-use star_report::write_whole;
-use star_schema::Sink;
 use std::alloc::{AllocError, Global};
 
 /// A file, and the name of its report.

@@ -9,9 +9,8 @@ ghost use Rattle.star_statements.specs.Questions.{asked_by_text};
 ghost use Rattle.star_statements.specs.Sources.{has_failed, reader_of};
 
 use crate::lines::{MEMORY_LINE, MEMORY_STATUS, tell, tell_fault};
+use star_common::{Sink, write_whole};
 use star_engine::{Engine, EngineFault, QueryFault, explain_query};
-use star_report::write_whole;
-use star_schema::Sink;
 use star_statements::{Question, ReadFault, Source, question_of, read_statement};
 use std::alloc::Global;
 use std::io::Read;
@@ -25,14 +24,14 @@ pub enum Stop {
     Unread(ReadFault),
 }
 
-// The empty line behind a report.
+// The empty line after a report.
 fn end_report<S: Sink>(out: &mut S) -> Result<(), EngineFault>
     ensures { IsLineEnded (change S.contents S.is_failed out.old out.new) result }
 {
     Ok(write_whole(out, b"\n")?)
 }
 
-// The report of a query, with an empty line behind it.
+// The report of a query, with an empty line after it.
 fn report<S: Sink, N: Sink>(
     alloc: Global,
     engine: &Engine,
@@ -70,16 +69,16 @@ fn answer_statement<S: Sink, N: Sink>(
     }
 }
 
-// No session goes on behind a write that failed.
+// No session goes on after a write that failed.
 fn may_go_on(fault: &EngineFault) -> bool
     ensures { result ≡ spec.may_go_on fault.now }
 {
     !matches!(fault, EngineFault::Write { .. })
 }
 
-/// Answers one statement over loaded tables, by its text: writes on `out` what it asks for, on `err`
-/// the notes of a report or the line of a fault. The answer is whether the session goes on: it does
-/// behind every fault but a write that failed.
+/// Answers one statement over loaded tables, by its text: writes on `out` what it asks for, on
+/// `err` the notes of a report or the line of a fault. The answer is whether the session goes on:
+/// it does after every fault but a write that failed.
 pub fn step<S: Sink, E: Sink>(
     alloc: Global,
     engine: &Engine,
@@ -107,7 +106,7 @@ fn prompt_of(is_terminal: bool) -> &'static str
     if is_terminal { "star> " } else { "" }
 }
 
-// What is told behind the last statement, where a person types them.
+// What is told after the last statement, where a person types them.
 fn parting_of(is_terminal: bool) -> &'static str
     ensures { result.now ≡ spec.parting_of is_terminal }
 {

@@ -6,8 +6,7 @@ ghost use Rattle.star_cli.specs.Private.ReportSteps.{IsFailedBehind, IsFailedWit
 ghost use Rattle.star_cli.specs.Shelves.{HasKept, IsUnkept, Kept, shelving};
 ghost use Rattle.star_cli.specs.declared.shelf.ShelfFault.TheVariants.{OutOfMemory};
 
-use star_report::write_whole;
-use star_schema::Out;
+use star_common::{Out, write_whole};
 use std::alloc::{AllocError, Global};
 use std::fs::{File, OpenFile};
 use std::rt::Files;
@@ -61,7 +60,7 @@ pub(crate) struct Directory<'a, R> {
     pub(crate) failed_at: Option<u64>,
 }
 
-// What a failure is told as behind the first `sent` bytes of a report.
+// What a failure is told as after the first `sent` bytes of a report.
 fn fault_of(error: &io::Error, sent: usize) -> ShelfFault
     ensures { IsFailedBehind sent result }
 {

@@ -49,7 +49,8 @@ pub enum Task<'a> {
         folder: &'a str,
         file: &'a str,
     },
-    /// Run the program of a file over the tables of a folder, with at most so many visits.
+    /// Run the program of a file over the tables of a folder, for at most as many visits as the
+    /// limits allow.
     Trial {
         folder: &'a str,
         file: &'a str,
@@ -182,7 +183,7 @@ fn page_of<'a>(alloc: Global, words: &'a [&'a str]) -> Result<ArgMatches<'a>, Fa
     Ok(star_command(alloc)?.try_get_matches_from(words)?)
 }
 
-// What is said of words of which the first names no command: it may ask for help or the version.
+// What is said of words whose first names no command: it may ask for help or the version.
 fn no_command<'a>(alloc: Global, words: &'a [String]) -> Failure<'a> {
     match parsed(alloc, words) {
         Ok(_) => Failure::NoCommand,

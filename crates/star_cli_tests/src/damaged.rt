@@ -76,7 +76,7 @@ fn bounds_of_queries_are_told(rt: HostRuntime) -> Result<(), Fail> {
     Ok(())
 }
 
-// A comparison in so many parentheses.
+// A comparison in `count` pairs of parentheses.
 fn nested(alloc: Global, count: u32) -> Result<String, AllocError> {
     let opened = repeated(
         alloc,
@@ -102,7 +102,7 @@ fn faults_of_odd_queries_are_told(rt: HostRuntime) -> Result<(), Fail> {
     assert_refused(&rt, "select sum(1x)", "query 22 BadNumber at 11\n")
 }
 
-// Lines behind three scans, and what is told of the program.
+// Lines after three scans, and what is told of the program.
 const ODD_LINES: &[(&str, &str)] = &[
     ("scan lineorder r3\n", "program 53 TooLarge line 6\n"),
     ("", "program 52 OpenScan\n"),
@@ -125,7 +125,7 @@ fn faults_of_odd_programs_are_told(rt: HostRuntime) -> Result<(), Fail> {
     Ok(())
 }
 
-// What is told of the sample with so many bytes of its suppliers.
+// What is told of the sample with the first `length` bytes of its suppliers.
 fn line_of_cut(length: usize) -> &'static str {
     match length {
         0 => "load 9 AbsentKey table lineorder record 1 column lo_suppkey\n",
@@ -136,7 +136,7 @@ fn line_of_cut(length: usize) -> &'static str {
     }
 }
 
-// `check` over the sample with so many bytes of its suppliers.
+// Checks what `check` tells of the sample with the first `length` bytes of its suppliers.
 fn assert_cut<R: Files + AllocGlobal + Abort>(rt: &R, length: usize) -> Result<(), Fail> {
     let bytes = sample().supplier.get(..length).ok_or("length")?;
     fs::write(rt, "cut/supplier.tbl", bytes)?;

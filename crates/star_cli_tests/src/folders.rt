@@ -8,9 +8,9 @@ use std::fs::{Files, Metadata, OpenFile, OpenOptions};
 use std::io;
 use std::io::{Read, Seek, SeekFrom, Write};
 
-// The sample in a folder `f`, with lineorder in two parts, and this file of dates. At most so many bytes
-// are given at once, and a read of the file at the path `failing` fails where so many bytes of it were
-// given.
+// The sample in a folder `f`, with lineorder in two parts, and this file of dates. A read gives at
+// most `at_once` bytes, and one of the file at the path `failing` fails once `until_failure` bytes
+// of it were given.
 #[derive(Clone, Copy)]
 pub(crate) struct Folder {
     pub(crate) alloc: Global,

@@ -8,7 +8,7 @@ use std::rt::Files;
 use std::test::Fail;
 use std::{fs, io};
 
-// The sample's lines of orders: the two first, with no line end behind them, and the three last.
+// The sample's lines of orders: the two first, with no line end after them, and the three last.
 pub(crate) const TWO: &[u8] = b"\
     1|1|1|1|2|19930210|2-HIGH|0|10|1000|3000|2|980|600|2|19940105|MAIL|\n\
     1|2|1|2|1|19930210|2-HIGH|0|30|2000|3000|3|1940|1200|0|19940105|RAIL|";

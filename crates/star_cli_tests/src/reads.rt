@@ -1,4 +1,4 @@
-// What commands do over files that give few bytes at once, or of which a read fails.
+// What commands do over files that give few bytes at once, or whose reads fail.
 
 use crate::commands::{run, text};
 use crate::folders::Folder;
@@ -7,7 +7,7 @@ use std::alloc::Global;
 use std::process::Abort;
 use std::test::Fail;
 
-// The sample in a folder whose files give so many bytes at once.
+// The sample in a folder whose files give at most `at_once` bytes at once.
 fn folder(alloc: Global, at_once: usize) -> Folder {
     Folder {
         alloc,

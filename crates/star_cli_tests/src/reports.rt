@@ -294,7 +294,7 @@ fn asks_for_folders_that_are_there(rt: HostRuntime) -> Result<(), Fail> {
     )
 }
 
-// As many files as are named, none of which is there.
+// The words of `reports` with `count` files, none of them there.
 fn many(alloc: Global, count: u32) -> Result<Vec<String>, AllocError> {
     let mut words = owned(alloc, ["reports", "none", "none"].as_slice())?;
     for number in 0..count {
@@ -387,7 +387,7 @@ const BLOCKED: &[&str] = &[
     "asked/years.cube.sql",
 ];
 
-// The run behind which the second report can't be kept: the status and what is told.
+// The run after which the second report can't be kept: the status and what is told.
 fn assert_blocked<R: Files + AllocGlobal + Abort>(rt: &R, line: &str) -> Result<(), Fail> {
     let out = "count quote 5 visits 5 lookups 0 updates 5\n";
     assert_run(rt, BLOCKED, out, line, 6)?;

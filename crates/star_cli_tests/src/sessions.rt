@@ -136,8 +136,8 @@ fn goes_on_behind_a_refusal(rt: HostRuntime) -> Result<(), Fail> {
     assert_spoken(&rt, "wide", &SQUARES)
 }
 
-// A statement of so many bytes from its first one on that is no blank, its line end among them, and
-// another behind it.
+// A statement of `bytes` bytes, counted from its first that is no blank, with its line end, and
+// another statement after it.
 fn long_statement(alloc: Global, bytes: usize) -> Result<Vec<u8>, AllocError> {
     let start = b"select count(*) from lineorder";
     let end = b";\n";
@@ -179,7 +179,7 @@ fn passes_over_what_is_too_long(rt: HostRuntime) -> Result<(), Fail> {
 // How many bytes the two streams take, the status, and what they took of a session of two queries.
 const SHORT: &[(usize, usize, u8, &str, &str)] = &[
     (3, 100, 6, "cou", "quote 5\nwrite 3\n"),
-    // The empty line behind a report is a write of its own.
+    // The empty line after a report is a write of its own.
     (
         9,
         100,

@@ -53,7 +53,7 @@ fn names_files_on_one_line(rt: HostRuntime) -> Result<(), Fail> {
     assert_runs(&rt, ODD_NAMES)
 }
 
-// The status of a command whose two streams take so many bytes, and what they took.
+// The status of a command whose two streams have limited room, and what they took.
 pub(crate) fn run_short<R: Files + AllocGlobal>(
     rt: &R,
     words: &[&str],

@@ -11,7 +11,7 @@ use Rattle.star_interval.specs.Interval.{range_of}
 use Rattle.star_interval.specs.Range.{Holds}
 use Rattle.star_column.specs.Width.{bits_of, least_width}
 use Rattle.star_column.specs.Private.Bounds.{AreBounds}
-use Rattle.star_column.specs.Private.Words.{above, numbers_in, width_of, IsPacked}
+use Rattle.star_column.specs.Private.Words.{numbers_above, numbers_in, word_bits, IsPacked}
 use Rattle.star_column.specs.declared.words.Words.{Words}
 use Rattle.star_column.proofs.Extremes.{all_between}
 
@@ -33,24 +33,25 @@ unfolding least_width
 width_64 n from = grind (arith, nat_tests)
 
 -- ---- a packed column
-pub length-above : (low : ℤ) (ns : List ℕ) → length (above low ns) ≡ length ns
+pub length-above : (low : ℤ) (ns : List ℕ) → length (numbers_above low ns) ≡ length ns
 length-above low ns = length-map ns (λ d. low +ℤ pos d)
 
 pub packed_at : (low : ℤ) (ns : List ℕ) (row d : ℕ) → slice_get ns row ≡ Some d
-    → slice_get (above low ns) row ≡ Some (low +ℤ pos d)
+    → slice_get (numbers_above low ns) row ≡ Some (low +ℤ pos d)
 packed_at low ns row d there =
     slice_get-map (λ n. low +ℤ pos n) ns row ∙ ap (option_map (λ n. low +ℤ pos n)) there
 
 pub packed_held : (bounds : Interval) (words : Words) → IsPacked bounds words
-    → All (Holds (range_of bounds)) (above bounds.low (numbers_in words))
+    → All (Holds (range_of bounds)) (numbers_above bounds.low (numbers_in words))
 packed_held bounds words packed =
-    all_between (range_of bounds) (above bounds.low (numbers_in words)) packed.bounds_are.low
+    all_between (range_of bounds) (numbers_above bounds.low (numbers_in words))
+    packed.bounds_are.low
     packed.bounds_are.high
 
 -- what a column keeps, as its parts were built
 pub are_packed : (bounds : Interval) (words : Words) (ns : List ℤ) → length ns < 2 ^ 32
-    → AreBounds bounds ns → above bounds.low (numbers_in words) ≡ ns
-    → width_of words ≡ least_width (unsigned_abs (bounds.high -ℤ bounds.low))
+    → AreBounds bounds ns → numbers_above bounds.low (numbers_in words) ≡ ns
+    → word_bits words ≡ least_width (unsigned_abs (bounds.high -ℤ bounds.low))
     → IsPacked bounds words
 unfolding bits_of
 are_packed bounds words ns few are is width =

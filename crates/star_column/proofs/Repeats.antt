@@ -6,10 +6,10 @@ use Rattle.std.specs.Int.RustNames.{unsigned_abs}
 use Rattle.std.specs.List.{All}
 use Rattle.std.proofs.lemmas.List.Elements.{All-cons, All-head, All-nil, All-tail}
 use Rattle.std.proofs.lemmas.Simd.{map-map}
-use Rattle.star_flat.specs.Repeated.{places}
+use Rattle.star_flat.specs.Repeated.{places_in}
 
 module _ (words rows : List ℤ) (ns : List ℕ) (read : words ≡ rows) where
-  pub words_within : All (λ p. p < length ns) (places rows)
+  pub words_within : All (λ p. p < length ns) (places_in rows)
       → All (λ z. unsigned_abs z < length ns) words
   words_within within =
       subst (All (λ z. unsigned_abs z < length ns)) (sym read) (from_places rows within)
@@ -25,7 +25,7 @@ module _ (words rows : List ℤ) (ns : List ℕ) (read : words ≡ rows) where
 
   pub words_read : {E : Type 0} (found : Result (Vec ℕ Global) E)
       → IfOk found (λ kept. kept.items ≡ map (λ z. get_or ns (unsigned_abs z) 0) words)
-      → IfOk found (λ kept. kept.items ≡ map (λ p. get_or ns p 0) (places rows))
+      → IfOk found (λ kept. kept.items ≡ map (λ p. get_or ns p 0) (places_in rows))
   words_read (Ok kept) is =
       is ∙ ap (map (λ z. get_or ns (unsigned_abs z) 0)) read
       ∙ sym (map-map (λ p. get_or ns p 0) unsigned_abs rows)

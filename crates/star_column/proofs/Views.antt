@@ -12,20 +12,21 @@ use Rattle.star_schema.proofs.Dictionaries.{IsDictionary-dictionary_of}
 use Rattle.star_schema.proofs.TextPlaces.{low_in-place}
 use Rattle.star_interval.specs.Range.{Holds, Range}
 use Rattle.star_column.specs.Private.Codes.{AreCodes}
-use Rattle.star_flat.specs.Repeated.{texts_at}
-use Rattle.star_column.specs.Private.Words.{above}
+use Rattle.star_flat.specs.Repeated.{texts_at_places}
+use Rattle.star_column.specs.Private.Words.{numbers_above}
 use Rattle.star_column.proofs.Coded.{least-codes_of}
 use Rattle.star_column.proofs.Differences.{packed_at}
 
 -- what holds of all values holds of a row's
-pub lent_holds : (r : Range) (low : ℤ) (ns : List ℕ) (row d : ℕ) → All (Holds r) (above low ns)
+pub lent_holds : (r : Range) (low : ℤ) (ns : List ℕ) (row d : ℕ)
+    → All (Holds r) (numbers_above low ns)
     → slice_get ns row ≡ Some d → Holds r (low +ℤ pos d)
 lent_holds r low ns row d all there =
     let at_row = packed_at low ns row d there in
-    let within : row < length (above low ns) =
-    slice_get_within (above low ns) row (low +ℤ pos d) at_row in
-    rw (get_or_from_slice_get (above low ns) row (low +ℤ pos d) (pos 0) at_row)
-    at (All-get_or (Holds r) (above low ns) row (pos 0) within all)
+    let within : row < length (numbers_above low ns) =
+    slice_get_within (numbers_above low ns) row (low +ℤ pos d) at_row in
+    rw (get_or_from_slice_get (numbers_above low ns) row (low +ℤ pos d) (pos 0) at_row)
+    at (All-get_or (Holds r) (numbers_above low ns) row (pos 0) within all)
 
 -- each code is the number of texts below its text
 module _ (dictionary : List (List ℕ)) (codes : List ℕ) (are : AreCodes dictionary codes) where
@@ -33,20 +34,21 @@ module _ (dictionary : List (List ℕ)) (codes : List ℕ) (are : AreCodes dicti
   zero_more n = omega (arith, ints)
 
   same : (n : ℕ) → n < length dictionary → pos 0 +ℤ pos n
-      ≡ pos (low_in (dictionary_of (texts_at dictionary codes)) (get_or dictionary n []))
+      ≡ pos (low_in (dictionary_of (texts_at_places dictionary codes)) (get_or dictionary n []))
   same n within =
-      let ds = dictionary_of (texts_at dictionary codes) in
+      let ds = dictionary_of (texts_at_places dictionary codes) in
       let there : slice_get ds n ≡ Some (get_or dictionary n []) =
       ap (λ xs. slice_get xs n) (sym are.dictionary_is)
       ∙ slice_get-get_or dictionary n [] within in
       zero_more n
       ∙ ap pos (sym (low_in-place ds
-      (IsDictionary-dictionary_of (texts_at dictionary codes)).sorted n (get_or dictionary n [])
+      (IsDictionary-dictionary_of (texts_at_places dictionary codes)).sorted n
+      (get_or dictionary n [])
       there))
 
-  same_codes : above (pos 0) codes ≡ codes_of (texts_at dictionary codes)
+  same_codes : numbers_above (pos 0) codes ≡ codes_of (texts_at_places dictionary codes)
   same_codes =
-      let texts = texts_at dictionary codes in
+      let texts = texts_at_places dictionary codes in
       map_agree (λ n. pos 0 +ℤ pos n)
       (λ n. pos (low_in (dictionary_of texts) (get_or dictionary n []))) codes
       (All-weaker (λ n. n < length dictionary)
@@ -56,7 +58,7 @@ module _ (dictionary : List (List ℕ)) (codes : List ℕ) (are : AreCodes dicti
       (λ n. get_or dictionary n []) codes)
 
   pub above_codes : (low : ℤ) (texts : List (List ℕ)) → low ≡ least (codes_of texts)
-      → texts_at dictionary codes ≡ texts → above low codes ≡ codes_of texts
+      → texts_at_places dictionary codes ≡ texts → numbers_above low codes ≡ codes_of texts
   above_codes low texts low_is texts_are =
       let zero : low ≡ pos 0 = low_is ∙ sym (least-codes_of texts) in
       rw (zero, ← texts_are) same_codes

@@ -3,10 +3,10 @@
 
 ghost use Rattle.std.specs.Prelude.{◌≡◌, ◌<◌, ◌^◌, All, IfOk, length, map, slice_index};
 ghost use Rattle.std.specs.Int.RustNames.{unsigned_abs};
-ghost use Rattle.star_flat.specs.Repeated.{AreRepeated, places, texts_at};
+ghost use Rattle.star_flat.specs.Repeated.{AreRepeated, places_in, texts_at_places};
 
 use crate::dictionary::Dictionary;
-use star_flat::{FlatNumbers, RepeatedTexts, SignedWord, SignedWords};
+use star_flat::{FlatNumbers, RepeatedTexts, SignedWord, SignedWords, release};
 use std::alloc::{AllocError, Global};
 
 /// The dictionary of these texts, and the code of each. Only texts that are kept are put in order.
@@ -15,20 +15,21 @@ pub(crate) fn code_each(
     texts: &RepeatedTexts,
 ) -> Result<(Dictionary, Vec<u32>), AllocError>
     requires { length texts.now < 2 ^ 32 }
-    ensures texts { IfOk result (λ coded. texts_at coded.0 coded.1.items ≡ texts.now) }
+    ensures texts { IfOk result (λ coded. texts_at_places coded.0 coded.1.items ≡ texts.now) }
     ensures repeated { IfOk result (λ coded. AreRepeated coded.0 coded.1.items) }
 {
     let (kept, rows) = texts.parts();
     let (different, codes) = kept.coded(alloc)?;
     let each = numbers_at(alloc, rows, codes.as_slice())?;
+    release(codes);
     Ok((Dictionary::of_ordered(different), each))
 }
 
 /// What stands at each of these places.
 fn numbers_at(alloc: Global, rows: &FlatNumbers, numbers: &[u32]) -> Result<Vec<u32>, AllocError>
-    requires { All (λ place. place < length numbers.now) (places rows.now) }
+    requires { All (λ place. place < length numbers.now) (places_in rows.now) }
     ensures { IfOk result (λ found. found.items
-        ≡ map (λ place. slice_index numbers.now place) (places rows.now)) }
+        ≡ map (λ place. slice_index numbers.now place) (places_in rows.now)) }
 {
     match rows.words() {
         SignedWords::Bits8(words) => read_at(alloc, words.as_slice(), numbers),

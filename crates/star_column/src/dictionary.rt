@@ -1,6 +1,6 @@
 // The dictionary of a column: its texts, each once, in the order of their bytes.
 
-ghost use Rattle.std.specs.Prelude.{◌≡◌, ◌<◌, ◌^◌, Some, IfOk, count_by, length, map, slice_get};
+ghost use Rattle.std.specs.Prelude.{◌≡◌, ◌<◌, ◌^◌, Some, count_by, length, slice_get};
 ghost use Rattle.std.specs.List.Sorted.{IsStrictlySortedBy};
 ghost use Rattle.star_schema.specs.Dictionary.{text_cmp, low_in, high_in};
 ghost use Rattle.star_column.specs.Private.Edge.{is_after};

@@ -30,7 +30,7 @@ impl Model for NumberColumn {
 }
 
 impl NumberColumn {
-    /// The column of these numbers, of which there are at most 4,294,967,295.
+    /// Makes a column of these numbers, at most 4,294,967,295.
     ///
     /// It keeps the vector, without the room that this has to spare, and takes no memory, so it is
     /// always an `Ok`: a `Result` as for every other kind of column.

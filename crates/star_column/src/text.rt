@@ -9,7 +9,7 @@ use crate::column::ColumnData;
 use crate::dictionary::Dictionary;
 use crate::view::ColumnView;
 use crate::words::Words;
-use star_flat::RepeatedTexts;
+use star_flat::{RepeatedTexts, release};
 use star_interval::Interval;
 use std::alloc::{AllocError, Global};
 use std::marker::Model;
@@ -31,20 +31,20 @@ impl Model for TextColumn {
     ghost use Rattle.star_schema.specs.Dictionary.{codes_of};
     ghost use Rattle.star_column.specs.Width.{bits_of};
     ghost use Rattle.star_column.specs.Private.Codes.{AreCodes};
-    ghost use Rattle.star_flat.specs.Repeated.{texts_at};
-    ghost use Rattle.star_column.specs.Private.Words.{numbers_in, width_of};
+    ghost use Rattle.star_flat.specs.Repeated.{texts_at_places};
+    ghost use Rattle.star_column.specs.Private.Words.{numbers_in, word_bits};
 
     ghost Value = { List (List ℕ) };
 
-    ghost view = { λ column. texts_at column.dictionary (numbers_in column.codes) };
+    ghost view = { λ column. texts_at_places column.dictionary (numbers_in column.codes) };
 
     ghost invariant = { λ column. AreCodes column.dictionary (numbers_in column.codes)
-        × (width_of column.codes
-        ≡ bits_of (codes_of (texts_at column.dictionary (numbers_in column.codes)))) };
+        × (word_bits column.codes
+        ≡ bits_of (codes_of (texts_at_places column.dictionary (numbers_in column.codes)))) };
 }
 
 impl TextColumn {
-    /// The column of these texts, of which there are at most 4,294,967,295.
+    /// Encodes these texts, at most 4,294,967,295, as a column.
     pub fn build(alloc: Global, texts: &[Vec<u8>]) -> Result<TextColumn, AllocError>
         requires { length texts.now < 2 ^ 32 }
         ensures { IfOk result (λ column. column ≡ map (λ text. text.items) texts.now) }
@@ -53,14 +53,16 @@ impl TextColumn {
         TextColumn::encode(alloc, &repeated)
     }
 
-    /// The column of these texts, of which there are at most 4,294,967,295. They are let go.
+    /// Encodes these texts, at most 4,294,967,295, as a column, and lets them go.
     ///
     /// Only texts that are kept are sorted, so that no texts are slow to find.
     pub fn from_flat(alloc: Global, texts: RepeatedTexts) -> Result<TextColumn, AllocError>
         requires { length texts < 2 ^ 32 }
         ensures { IfOk result (λ column. column ≡ texts) }
     {
-        TextColumn::encode(alloc, &texts)
+        let column = TextColumn::encode(alloc, &texts)?;
+        texts.release();
+        Ok(column)
     }
 
     // The column of these texts, which stay with the caller.
@@ -69,8 +71,12 @@ impl TextColumn {
         ensures { IfOk result (λ column. column ≡ texts.now) }
     {
         let (dictionary, codes) = code_each(alloc, texts)?;
-        let codes = Words::of_codes(alloc, codes.as_slice(), dictionary.entries())?;
-        Ok(TextColumn { codes, dictionary })
+        let words = Words::of_codes(alloc, codes.as_slice(), dictionary.entries())?;
+        release(codes);
+        Ok(TextColumn {
+            codes: words,
+            dictionary,
+        })
     }
 
     /// The code of a row's text: its place in the dictionary, which is also the number of texts

@@ -1,11 +1,11 @@
 // Unsigned numbers in words of 8, 16, 32 or 64 bits.
 
-ghost use Rattle.std.specs.Prelude.{◌≡◌, ◌+◌, ◌-◌, ◌<◌, ◌^◌, ℕ, ◌-ℤ◌, ◌≤ℤ◌, All, IfOk, Some, length, map, slice_get, slice_index};
+ghost use Rattle.std.specs.Prelude.{◌≡◌, ◌+◌, ◌-◌, ◌<◌, ◌^◌, ℕ, ◌-ℤ◌, ◌≤ℤ◌, All, IfOk, Some, length, map, slice_get};
 ghost use Rattle.std.specs.Int.RustNames.{unsigned_abs};
 ghost use Rattle.star_interval.specs.Range.{Holds};
 ghost use Rattle.star_interval.specs.Interval.{range_of};
 ghost use Rattle.star_column.specs.Width.{least_width};
-ghost use Rattle.star_column.specs.Private.Words.{above, numbers_in, width_of};
+ghost use Rattle.star_column.specs.Private.Words.{numbers_above, numbers_in, word_bits};
 
 use crate::view::LentWords;
 use star_flat::SignedWord;
@@ -150,7 +150,7 @@ impl Words {
 
     /// How many bits each number takes.
     pub(crate) fn bits(&self) -> u32
-        ensures { result ≡ width_of self.now }
+        ensures { result ≡ word_bits self.now }
     {
         match self {
             Words::Bits8(_) => u8::BITS,
@@ -177,9 +177,9 @@ impl Words {
     ) -> Result<Words, AllocError>
         requires { All (λ number. Holds (range_of bounds) (S.number number)) numbers.now }
         ensures numbers { IfOk result
-            (λ words. above bounds.low (numbers_in words) ≡ map S.number numbers.now) }
+            (λ words. numbers_above bounds.low (numbers_in words) ≡ map S.number numbers.now) }
         ensures width { IfOk result
-            (λ words. width_of words ≡ least_width (unsigned_abs (bounds.high -ℤ bounds.low))) }
+            (λ words. word_bits words ≡ least_width (unsigned_abs (bounds.high -ℤ bounds.low))) }
     {
         let low = bounds.low;
         let span = bounds.high.abs_diff(low);
@@ -194,11 +194,12 @@ impl Words {
         }
     }
 
-    /// These codes, in the least width in which each code of a dictionary with so many entries fits.
+    /// Packs these codes in the least width that holds each code of a dictionary with `entries`
+    /// entries.
     pub(crate) fn of_codes(alloc: Global, codes: &[u32], entries: u32) -> Result<Words, AllocError>
         requires { All (λ code. code < entries) codes.now }
         ensures numbers { IfOk result (λ words. numbers_in words ≡ codes.now) }
-        ensures width { IfOk result (λ words. width_of words ≡ least_width (entries - 1)) }
+        ensures width { IfOk result (λ words. word_bits words ≡ least_width (entries - 1)) }
     {
         let span = entries.saturating_sub(1);
         if span <= u32::from(u8::MAX) {
@@ -220,7 +221,7 @@ fn differences<S: SignedWord, W: Word>(
     requires above { All (λ number. low ≤ℤ S.number number) numbers.now }
     requires fit { All (λ number. unsigned_abs (S.number number -ℤ low) < W.limit) numbers.now }
     ensures { IfOk result
-        (λ words. above low (map W.number words.items) ≡ map S.number numbers.now) }
+        (λ words. numbers_above low (map W.number words.items) ≡ map S.number numbers.now) }
 {
     let mut words = Vec::with_capacity(alloc, numbers.len())?;
     for number in numbers {

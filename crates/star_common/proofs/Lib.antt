@@ -2,3 +2,4 @@ pub mod Lists
 pub mod NumeralLemmas
 pub mod Firsts
 pub mod Members
+pub mod Sends

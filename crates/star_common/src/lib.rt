@@ -1,13 +1,17 @@
-//! What every crate stands on: numbers in digits, texts in quotes, lists that contracts see as
-//! lists, and where output goes.
+//! What every crate stands on: numbers in digits, texts in quotes, printable bytes, lists that
+//! contracts see as lists, and where output goes.
 #![tactic(auto)]
 
+mod delivery;
 mod items;
 mod numeral;
+mod printable;
 mod quoting;
 mod sink;
 
+pub use delivery::{WriteFault, write_whole};
 pub use items::Items;
 pub use numeral::numeral_value;
+pub use printable::{are_printable, is_printable};
 pub use quoting::push_quoted;
 pub use sink::{Out, Sink, SinkFault};

@@ -20,7 +20,7 @@ use Rattle.star_program.specs.declared.body.Step.{Step}
 use Rattle.star_program.specs.declared.body.Step.TheVariants.{Act}
 use Rattle.star_compile_laws.specs.Compiled.{Env, Rest, Rests, writes_one, register_count, column_code, expression_code, condition_code, conjunct_code, keys_code, values_code, one_before, binary_code, write, one_more}
 use Rattle.star_compile.specs.declared.emitter.Emitter.{Emitter}
-use Rattle.star_compile.specs.Private.Emitted.{Whole, steps_then, env_of, whole, Wrote, Writes, HasRoom, keys_after, value_after, values_after}
+use Rattle.star_compile.specs.Private.Emitted.{Completed, steps_then, env_of, completed, Wrote, Writes, HasRegisterRoom, keys_after, value_after, values_after}
 
 -- ---- one more step
 
@@ -29,15 +29,15 @@ then_last : (steps : List Step) (s : Step) (k : Code)
 then_last [] s k = refl
 then_last (x ∷ steps) s k = ap (step.before x) (then_last steps s k)
 
-abbrev pub made : Code → ℕ → Whole
+abbrev pub made : Code → ℕ → Completed
 made c n = record { code = c; registers = n }
 
 -- an instruction that numbers so many registers
 pub act : (old new : Emitter) (o : Op) (k : Code)
     → new.steps.items ≡ old.steps.items ++ Act o ∷ []
     → new.next ≡ old.next + writes_one (target_of o)
-    → whole new k ≡ whole old (Then o k)
-unfolding whole
+    → completed new k ≡ completed old (Then o k)
+unfolding completed
 act old new o k pushed next =
     let code : steps_then new.steps.items k ≡ steps_then old.steps.items (Then o k) =
     ap (λ l. steps_then l k) pushed ∙ then_last old.steps.items (Act o) k in
@@ -50,8 +50,8 @@ abbrev assignment : Operation → (Env → Env) → Env → Rest → Code
 assignment o known env k = Then (Assign env.next o) (k (known env) env.next)
 
 pub room_to_assign : {e : Emitter} {o : Operation} {known : Env → Env}
-    → HasRoom e (assignment o known) → e.next < 4096
-unfolding whole
+    → HasRegisterRoom e (assignment o known) → e.next < 4096
+unfolding completed
 room_to_assign room = omega (arith, room.fits)
 
 abbrev env : ℕ → List (ColumnId × ℕ) → List (TableId × ℕ) → Env
@@ -68,8 +68,9 @@ assigned {old = old} {new = new} {o = o} {r = r} pushed next loaded found known_
       same = λ k.
           act old new (Assign old.next o) (k (env_of new) r) pushed next
           ∙ (λ i.
-          whole old
-          (Then (Assign old.next o) (k (env ((next ∙ sym known_next) i) (loaded i) (found i)) (register i))));
+          completed old
+          (Then (Assign old.next o)
+          (k (env ((next ∙ sym known_next) i) (loaded i) (found i)) (register i))));
     }
 
 -- the same of what a call answers
@@ -88,18 +89,19 @@ abbrev followed_by : {K : Type 0} → (Env → Rest → Code) → (ℕ → Env �
 followed_by first second env k = first env (λ e x. second x e k)
 
 -- there is room for a piece that, with some code after it, makes a whole of few registers
-pub room_where : {K : Type 0} {e : Emitter} {piece : Env → K → Code} {w : Whole} (rest : K)
-    → whole e (piece (env_of e) rest) ≡ w → w.registers ≤ 4096 → HasRoom e piece
+pub room_where : {K : Type 0} {e : Emitter} {piece : Env → K → Code} {w : Completed} (rest : K)
+    → completed e (piece (env_of e) rest) ≡ w → w.registers ≤ 4096 → HasRegisterRoom e piece
 room_where rest same few =
     record { rest = rest; fits = subst (λ w. w.registers ≤ 4096) (sym same) few }
 
 pub room_for_first : {K : Type 0} {e : Emitter} {first : Env → Rest → Code}
-    (second : ℕ → Env → K → Code) → HasRoom e (followed_by first second) → HasRoom e first
+    (second : ℕ → Env → K → Code) → HasRegisterRoom e (followed_by first second)
+    → HasRegisterRoom e first
 room_for_first second room = record { rest = λ e x. second x e room.rest; fits = room.fits }
 
 pub room_for_second : {K : Type 0} {old new : Emitter} {first : Env → Rest → Code} {x : ℕ}
     (second : ℕ → Env → K → Code) → Writes old new first x
-    → HasRoom old (followed_by first second) → HasRoom new (second x)
+    → HasRegisterRoom old (followed_by first second) → HasRegisterRoom new (second x)
 room_for_second second wrote room =
     room_where room.rest (wrote.same (λ e x. second x e room.rest)) room.fits
 
@@ -113,8 +115,8 @@ then_if_ok (Ok y) new second f g =
 
 -- an operator's right part, behind its left one
 pub room_for_right : {old new : Emitter} {left : Env → Rest → Code} (right : Env → Rest → Code)
-    (o : Operator) {x : ℕ} → Writes old new left x → HasRoom old (binary_code left right o)
-    → HasRoom new right
+    (o : Operator) {x : ℕ} → Writes old new left x → HasRegisterRoom old (binary_code left right o)
+    → HasRegisterRoom new right
 room_for_right right o {x = x} wrote room =
     room_for_first (λ y. write (Binary o x y))
     (room_for_second (λ x. followed_by right (λ y. write (Binary o x y))) wrote room)
@@ -123,7 +125,7 @@ room_for_right right o {x = x} wrote room =
 
 -- what is left of a piece follows what is written of it
 pub record Follows {K : Type 0} (old new : Emitter) (piece left : Env → K → Code) : Type 0 where
-  pub same : (k : K) → whole new (left (env_of new) k) ≡ whole old (piece (env_of old) k)
+  pub same : (k : K) → completed new (left (env_of new) k) ≡ completed old (piece (env_of old) k)
 
 -- ---- registers so far
 
@@ -136,7 +138,8 @@ Behind after code =
 -- one register more, and those after it
 one_behind : (first : Env → Rest → Code) (after : List ℕ → Env → Rests → Code)
     (code : Env → Rests → Code) → Behind after code
-    → Behind (λ so_far env k. first env (λ e x. after (so_far ++ x ∷ []) e k)) (one_before first code)
+    → Behind (λ so_far env k. first env (λ e x. after (so_far ++ x ∷ []) e k))
+    (one_before first code)
 one_behind first after code behind so_far env k =
     λ i.
     first env (λ e x.
@@ -148,19 +151,20 @@ module _ {X : Type 0} (after : List X → List ℕ → Env → Rests → Code)
     (code : List X → Env → Rests → Code) (behind : (xs : List X) → Behind (after xs) (code xs))
     {old new : Emitter} (xs left : List X) (so_far : List ℕ)
     (follows : Follows old new (after xs []) (after left so_far)) where
-  room_for_left : {l : List X} → left ≡ l → HasRoom old (code xs) → HasRoom new (after l so_far)
+  room_for_left : {l : List X} → left ≡ l → HasRegisterRoom old (code xs)
+      → HasRegisterRoom new (after l so_far)
   room_for_left same room =
-      subst (λ l. HasRoom new (after l so_far)) same
+      subst (λ l. HasRegisterRoom new (after l so_far)) same
       (room_where room.rest
-      (follows.same room.rest ∙ ap (whole old) (behind xs [] (env_of old) room.rest)) room.fits)
+      (follows.same room.rest ∙ ap (completed old) (behind xs [] (env_of old) room.rest)) room.fits)
 
   pub all_written : ((env : Env) (k : Rests) → after [] so_far env k ≡ k env so_far) → left ≡ []
       → Writes old new (code xs) so_far
   all_written ends none = record {
     same = λ k.
-        ap (whole new) (sym (ends (env_of new) k))
-        ∙ ap (λ l. whole new (after l so_far (env_of new) k)) (sym none) ∙ follows.same k
-        ∙ ap (whole old) (behind xs [] (env_of old) k);
+        ap (completed new) (sym (ends (env_of new) k))
+        ∙ ap (λ l. completed new (after l so_far (env_of new) k)) (sym none) ∙ follows.same k
+        ∙ ap (completed old) (behind xs [] (env_of old) k);
   }
 
 module _ (js : List Join) where
@@ -175,7 +179,8 @@ module _ (js : List Join) where
       → Behind (values_after js (fold f a ∷ ms)) (values_code js (fold f a ∷ ms))
   number_behind f a ms = one_behind (expression_code js a) (values_after js ms) (values_code js ms)
 
-  pub values_behind : (ms : List (Measure ColumnId)) → Behind (values_after js ms) (values_code js ms)
+  pub values_behind : (ms : List (Measure ColumnId))
+      → Behind (values_after js ms) (values_code js ms)
   values_behind [] so_far env k = ap (k env) (sym (append-nil so_far))
   values_behind (count ∷ ms) so_far env k = values_behind ms so_far env k
   values_behind (fold f a ∷ ms) so_far env k = number_behind f a ms (values_behind ms) so_far env k
@@ -184,19 +189,21 @@ module _ (js : List Join) where
   pub room_for_key : {old new : Emitter} (cs : List ColumnId) {left : List ColumnId} {c : ColumnId}
       {rest : List ColumnId} (so_far : List ℕ) → left ≡ c ∷ rest
       → Follows old new (keys_after js cs []) (keys_after js left so_far)
-      → HasRoom old (keys_code js cs) → HasRoom new (column_code js c)
+      → HasRegisterRoom old (keys_code js cs) → HasRegisterRoom new (column_code js c)
   room_for_key cs {left = left} {rest = rest} so_far same follows room =
       room_for_first (λ x. keys_after js rest (so_far ++ x ∷ []))
       (room_for_left (keys_after js) (keys_code js) keys_behind cs left so_far follows same room)
 
   -- the next number
-  pub room_for_value : {old new : Emitter} (ms : List (Measure ColumnId)) {left : List (Measure ColumnId)} {m : Measure ColumnId}
+  pub room_for_value : {old new : Emitter} (ms : List (Measure ColumnId))
+      {left : List (Measure ColumnId)} {m : Measure ColumnId}
       {rest : List (Measure ColumnId)} (so_far : List ℕ) → left ≡ m ∷ rest
       → Follows old new (values_after js ms []) (values_after js left so_far)
-      → HasRoom old (values_code js ms) → HasRoom new (value_after js m so_far)
+      → HasRegisterRoom old (values_code js ms) → HasRegisterRoom new (value_after js m so_far)
   room_for_value ms {left = left} {rest = rest} so_far same follows room =
       let here =
-      room_for_left (values_after js) (values_code js) values_behind ms left so_far follows same room in
+      room_for_left (values_after js) (values_code js) values_behind ms left so_far follows same
+      room in
       record { rest = λ e rs. values_after js rest rs e here.rest; fits = here.fits }
 
 -- a condition, and a keep of it
@@ -211,8 +218,9 @@ conjunct_written (Ok u) js c {middle = middle} new {x = x} wrote pushed next loa
       same = λ k.
           act middle new (Keep x) (k (env_of new)) pushed (omega (arith, next))
           ∙ (λ i.
-          whole middle
-          (Then (Keep x) (k (env (next i) ((ap (λ v. v.items) loaded) i) ((ap (λ v. v.items) found) i)))))
+          completed middle
+          (Then (Keep x) (k (env (next i) ((ap (λ v. v.items) loaded) i)
+          ((ap (λ v. v.items) found) i)))))
           ∙ wrote.same (λ e x. Then (Keep x) (k e));
     }
 

@@ -8,7 +8,7 @@ use Rattle.star_program.specs.Code.{Code, Stop}
 use Rattle.star_program.specs.CodeOfSteps.{before, code_of_steps}
 use Rattle.star_compile_laws.specs.Compiled.{Env, env_first, register_count, conjuncts_code, keys_code, values_code, put_code, turn_code}
 use Rattle.star_compile.specs.declared.emitter.Emitter.{Emitter}
-use Rattle.star_compile.specs.Private.Emitted.{Whole, steps_then, env_of, whole, Wrote, Writes, HasRoom}
+use Rattle.star_compile.specs.Private.Emitted.{Completed, steps_then, env_of, completed, Wrote, Writes, HasRegisterRoom}
 use Rattle.star_compile.proofs.Emits.{act, made, room_where}
 
 -- an emitter that has written nothing
@@ -27,12 +27,12 @@ module _ (p : Plan) where
   after_conjuncts e = keys_code p.joins p.keys e after_keys
 
   -- all of a turn
-  abbrev turn : Whole
+  abbrev turn : Completed
   turn = made (turn_code p) (1 + register_count (turn_code p))
 
   at_first : (e : Emitter) → IsFirst e
-      → whole e (conjuncts_code p.joins p.conjuncts (env_of e) after_conjuncts) ≡ turn
-  unfolding whole
+      → completed e (conjuncts_code p.joins p.conjuncts (env_of e) after_conjuncts) ≡ turn
+  unfolding completed
   at_first e first =
       (λ i.
       made (steps_then (first.steps i) (conjuncts_code p.joins p.conjuncts (at i) after_conjuncts))
@@ -43,31 +43,31 @@ module _ (p : Plan) where
       at = λ i. record { next = first.next i; loaded = first.loaded i; found = first.found i }
 
   pub room_for_conjuncts : (e : Emitter) → IsFirst e → 1 + register_count (turn_code p) ≤ 4096
-      → HasRoom e (conjuncts_code p.joins p.conjuncts)
+      → HasRegisterRoom e (conjuncts_code p.joins p.conjuncts)
   room_for_conjuncts e first few = room_where after_conjuncts (at_first e first) few
 
   module _ (e0 e1 : Emitter) (first : IsFirst e0)
       (conjuncts : Wrote e0 e1 (conjuncts_code p.joins p.conjuncts)) where
-    at_keys : whole e1 (after_conjuncts (env_of e1)) ≡ turn
+    at_keys : completed e1 (after_conjuncts (env_of e1)) ≡ turn
     at_keys = conjuncts.same after_conjuncts ∙ at_first e0 first
 
     pub room_for_keys : 1 + register_count (turn_code p) ≤ 4096
-        → HasRoom e1 (keys_code p.joins p.keys)
+        → HasRegisterRoom e1 (keys_code p.joins p.keys)
     room_for_keys few = room_where after_keys at_keys few
 
     module _ (e2 : Emitter) (ks : List ℕ) (keys : Writes e1 e2 (keys_code p.joins p.keys) ks) where
-      at_values : whole e2 (after_keys (env_of e2) ks) ≡ turn
+      at_values : completed e2 (after_keys (env_of e2) ks) ≡ turn
       at_values = keys.same after_keys ∙ at_keys
 
       pub room_for_values : 1 + register_count (turn_code p) ≤ 4096
-          → HasRoom e2 (values_code p.joins p.measures)
+          → HasRegisterRoom e2 (values_code p.joins p.measures)
       room_for_values few = room_where (put_code ks) at_values few
 
       module _ (e3 e4 : Emitter) (vs : List ℕ)
           (values : Writes e2 e3 (values_code p.joins p.measures) vs)
           (pushed : e4.steps.items ≡ e3.steps.items ++ Act (Put 0 ks vs) ∷ [])
           (next : e4.next ≡ e3.next) where
-        at_end : whole e4 Stop ≡ turn
+        at_end : completed e4 Stop ≡ turn
         at_end =
             act e3 e4 (Put 0 ks vs) Stop pushed (omega (arith, next)) ∙ values.same (put_code ks)
             ∙ at_values
@@ -78,7 +78,7 @@ module _ (p : Plan) where
 
         pub turn_made : (code_of_steps e4.steps.items ≡ turn_code p)
             × (e4.next ≡ 1 + register_count (turn_code p))
-        unfolding whole
+        unfolding completed
         turn_made =
             let count : e4.next + 0 ≡ 1 + register_count (turn_code p) =
             ap (λ w. w.registers) at_end in

@@ -5,7 +5,7 @@ ghost use Rattle.star_schema.specs.Schema as schema;
 ghost use Rattle.star_schema.specs.declared.table.TableId.TheVariants.{Lineorder};
 ghost use Rattle.star_compile_laws.specs.Compiled as spec;
 ghost use Rattle.star_compile_laws.specs.Compiled.{found_in, foreign_of, loaded_in, register_in};
-ghost use Rattle.star_compile.specs.Private.Emitted.{HasRoom, Writes};
+ghost use Rattle.star_compile.specs.Private.Emitted.{HasRegisterRoom, Writes};
 
 use crate::emitter::Emitter;
 use star_plan::Join;
@@ -54,7 +54,7 @@ fn foreign_key(joins: &[Join], table: TableId) -> ColumnId
 
 impl Emitter {
     fn load(&mut self, column: ColumnId, row: u16) -> Result<u16, AllocError>
-        requires room { HasRoom self.old (spec.load_code column row) }
+        requires room { HasRegisterRoom self.old (spec.load_code column row) }
         ensures written { IfOk result (Writes self.old self.new (spec.load_code column row)) }
     {
         let register = self.assign(Operation::Load { column, row })?;
@@ -64,7 +64,7 @@ impl Emitter {
 
     // The row of a table with a key.
     fn find(&mut self, table: TableId, key: u16) -> Result<u16, AllocError>
-        requires room { HasRoom self.old (spec.find_code table key) }
+        requires room { HasRegisterRoom self.old (spec.find_code table key) }
         ensures written { IfOk result (Writes self.old self.new (spec.find_code table key)) }
     {
         let register = self.assign(Operation::Find { table, key })?;
@@ -74,7 +74,7 @@ impl Emitter {
 
     // A column of the fact.
     fn fact_column(&mut self, column: ColumnId) -> Result<u16, AllocError>
-        requires room { HasRoom self.old (λ env k.
+        requires room { HasRegisterRoom self.old (λ env k.
             spec.fact_code column env k (loaded_in env.loaded column)) }
         ensures written { IfOk result (Writes self.old self.new (λ env k.
             spec.fact_code column env k (loaded_in env.loaded column))) }
@@ -87,7 +87,7 @@ impl Emitter {
 
     // The row of a dimension.
     fn row(&mut self, joins: &[Join], table: TableId) -> Result<u16, AllocError>
-        requires room { HasRoom self.old (λ env k.
+        requires room { HasRegisterRoom self.old (λ env k.
             spec.row_code joins.now table env k (found_in env.found table)) }
         ensures written { IfOk result (Writes self.old self.new (λ env k.
             spec.row_code joins.now table env k (found_in env.found table))) }
@@ -103,7 +103,7 @@ impl Emitter {
 
     // A column of the fact, or of a dimension's row.
     fn place(&mut self, joins: &[Join], column: ColumnId) -> Result<u16, AllocError>
-        requires room { HasRoom self.old (λ env k.
+        requires room { HasRegisterRoom self.old (λ env k.
             spec.place_code joins.now column env k
             (schema.is_table (schema.table_of column) Lineorder)) }
         ensures written { IfOk result (Writes self.old self.new (λ env k.
@@ -121,7 +121,7 @@ impl Emitter {
 
     /// The register of a column, which is loaded at its first use.
     pub(crate) fn column(&mut self, joins: &[Join], column: ColumnId) -> Result<u16, AllocError>
-        requires room { HasRoom self.old (spec.column_code joins.now column) }
+        requires room { HasRegisterRoom self.old (spec.column_code joins.now column) }
         ensures written { IfOk result (
             Writes self.old self.new (spec.column_code joins.now column)) }
     {

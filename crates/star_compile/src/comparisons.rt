@@ -6,7 +6,7 @@ ghost use Rattle.star_plan.specs.Spelled.{value_is_spelled};
 ghost use Rattle.star_program.specs.declared.op.Operation.TheVariants.{Binary};
 ghost use Rattle.star_query.specs.declared.token.Relation.TheVariants as sign;
 ghost use Rattle.star_compile_laws.specs.Compiled as spec;
-ghost use Rattle.star_compile.specs.Private.Emitted.{HasRoom, Writes};
+ghost use Rattle.star_compile.specs.Private.Emitted.{HasRegisterRoom, Writes};
 
 use crate::emitter::Emitter;
 use crate::operands::{edge_of, end_of, start_of};
@@ -23,7 +23,7 @@ impl Emitter {
         value: u16,
         operand: Operation,
     ) -> Result<u16, AllocError>
-        requires room { HasRoom self.old (spec.beside operand (λ n. Binary operator value n)) }
+        requires room { HasRegisterRoom self.old (spec.beside operand (λ n. Binary operator value n)) }
         ensures written { IfOk result (
             Writes self.old self.new (spec.beside operand (λ n. Binary operator value n))) }
     {
@@ -42,7 +42,7 @@ impl Emitter {
         operand: Operation,
         value: u16,
     ) -> Result<u16, AllocError>
-        requires room { HasRoom self.old (spec.beside operand (λ n. Binary operator n value)) }
+        requires room { HasRegisterRoom self.old (spec.beside operand (λ n. Binary operator n value)) }
         ensures written { IfOk result (
             Writes self.old self.new (spec.beside operand (λ n. Binary operator n value))) }
     {
@@ -62,7 +62,7 @@ impl Emitter {
         from: &Literal,
         upto: &Literal,
     ) -> Result<u16, AllocError>
-        requires room { HasRoom self.old
+        requires room { HasRegisterRoom self.old
             (spec.between_code column value (literal_value_view from.now) (literal_value_view upto.now)) }
         requires spelled { value_is_spelled (literal_value_view upto.now) ≡ true }
         ensures written { IfOk result (Writes self.old self.new
@@ -75,7 +75,7 @@ impl Emitter {
 
     // Whether the value equals the literal.
     fn equal(&mut self, column: ColumnId, value: u16, literal: &Literal) -> Result<u16, AllocError>
-        requires room { HasRoom self.old
+        requires room { HasRegisterRoom self.old
             (spec.equal_code column value (literal_value_view literal.now)) }
         requires spelled { value_is_spelled (literal_value_view literal.now) ≡ true }
         ensures written { IfOk result (Writes self.old self.new
@@ -96,7 +96,7 @@ impl Emitter {
         value: u16,
         literal: &Literal,
     ) -> Result<u16, AllocError>
-        requires room { HasRoom self.old
+        requires room { HasRegisterRoom self.old
             (spec.test_code sign.AtMost column value (literal_value_view literal.now)) }
         ensures written { IfOk result (Writes self.old self.new
             (spec.test_code sign.AtMost column value (literal_value_view literal.now))) }
@@ -120,7 +120,7 @@ impl Emitter {
         value: u16,
         literal: &Literal,
     ) -> Result<u16, AllocError>
-        requires room { HasRoom self.old
+        requires room { HasRegisterRoom self.old
             (spec.test_code sign.Greater column value (literal_value_view literal.now)) }
         ensures written { IfOk result (Writes self.old self.new
             (spec.test_code sign.Greater column value (literal_value_view literal.now))) }
@@ -145,7 +145,7 @@ impl Emitter {
         value: u16,
         literal: &Literal,
     ) -> Result<u16, AllocError>
-        requires room { HasRoom self.old
+        requires room { HasRegisterRoom self.old
             (spec.test_code relation column value (literal_value_view literal.now)) }
         requires spelled { value_is_spelled (literal_value_view literal.now) ≡ true }
         ensures written { IfOk result (Writes self.old self.new

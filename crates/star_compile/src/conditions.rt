@@ -7,7 +7,7 @@ ghost use Rattle.star_plan.specs.Views.{comparison_view, row_condition_view};
 ghost use Rattle.star_plan.specs.Spelled.{condition_is_spelled};
 ghost use Rattle.star_compile_laws.specs.Compiled as spec;
 ghost use Rattle.star_compile_laws.specs.Compiled.{condition_code};
-ghost use Rattle.star_compile.specs.Private.Emitted.{HasRoom, Writes, Wrote};
+ghost use Rattle.star_compile.specs.Private.Emitted.{HasRegisterRoom, Writes, Wrote};
 
 use crate::emitter::Emitter;
 use star_plan::{Join, RowCondition};
@@ -23,7 +23,7 @@ impl Emitter {
         joins: &[Join],
         comparison: &Comparison<ColumnId>,
     ) -> Result<u16, AllocError>
-        requires room { HasRoom self.old
+        requires room { HasRegisterRoom self.old
             (condition_code joins.now (test (comparison_view comparison.now))) }
         requires spelled { condition_is_spelled (test (comparison_view comparison.now)) ≡ true }
         ensures written { IfOk result (Writes self.old self.new
@@ -41,7 +41,7 @@ impl Emitter {
         }
     }
 
-    // The left part, the right one, and the operator behind both.
+    // The left part, the right one, and the operator after both.
     #[cycle(condition)]
     fn connective(
         &mut self,
@@ -50,7 +50,7 @@ impl Emitter {
         left: &RowCondition,
         right: &RowCondition,
     ) -> Result<u16, AllocError>
-        requires room { HasRoom self.old (spec.binary_code
+        requires room { HasRegisterRoom self.old (spec.binary_code
             (condition_code joins.now (row_condition_view left.now))
             (condition_code joins.now (row_condition_view right.now)) operator) }
         requires left { condition_is_spelled (row_condition_view left.now) ≡ true }
@@ -75,7 +75,7 @@ impl Emitter {
         joins: &[Join],
         condition: &RowCondition,
     ) -> Result<u16, AllocError>
-        requires room { HasRoom self.old
+        requires room { HasRegisterRoom self.old
             (condition_code joins.now (row_condition_view condition.now)) }
         requires spelled { condition_is_spelled (row_condition_view condition.now) ≡ true }
         ensures written { IfOk result (Writes self.old self.new
@@ -94,7 +94,7 @@ impl Emitter {
 
     // Keeps the rows for which a condition holds.
     fn conjunct(&mut self, joins: &[Join], condition: &RowCondition) -> Result<(), AllocError>
-        requires room { HasRoom self.old
+        requires room { HasRegisterRoom self.old
             (spec.conjunct_code joins.now (row_condition_view condition.now)) }
         requires spelled { condition_is_spelled (row_condition_view condition.now) ≡ true }
         ensures written { IfOk result (λ _. Wrote self.old self.new
@@ -110,7 +110,7 @@ impl Emitter {
         joins: &[Join],
         conditions: &[RowCondition],
     ) -> Result<(), AllocError>
-        requires room { HasRoom self.old
+        requires room { HasRegisterRoom self.old
             (spec.conjuncts_code joins.now (map row_condition_view conditions.now)) }
         requires spelled { list_all condition_is_spelled
             (map row_condition_view conditions.now) ≡ true }

@@ -1,10 +1,10 @@
-// Writes the instructions of a turn, one behind another.
+// Writes the instructions of a turn, one after another.
 
 ghost use Rattle.std.specs.Prelude.{◌≡◌, ◌+◌, ◌<◌, ◌++◌, ◌∷◌, [], IfOk};
 ghost use Rattle.star_program.specs.declared.body.Step.TheVariants.{Act};
 ghost use Rattle.star_program.specs.declared.op.Op.TheVariants.{Assign, Keep, Put};
 ghost use Rattle.star_compile_laws.specs.Compiled as spec;
-ghost use Rattle.star_compile.specs.Private.Emitted.{HasRoom, Writes};
+ghost use Rattle.star_compile.specs.Private.Emitted.{HasRegisterRoom, Writes};
 
 use star_program::{Items, Op, Operation, Step};
 use star_schema::{ColumnId, TableId};
@@ -55,7 +55,7 @@ impl Emitter {
 
     /// Writes an operation, and gives the register of what it makes.
     pub(crate) fn write(&mut self, operation: Operation) -> Result<u16, AllocError>
-        requires room { HasRoom self.old (spec.write operation) }
+        requires room { HasRegisterRoom self.old (spec.write operation) }
         ensures written { IfOk result (Writes self.old self.new (spec.write operation)) }
     {
         self.assign(operation)

@@ -4,7 +4,7 @@ ghost use Rattle.std.specs.Prelude.{IfOk};
 ghost use Rattle.star_plan.specs.Views.{column_expression_view};
 ghost use Rattle.star_compile_laws.specs.Compiled as spec;
 ghost use Rattle.star_compile_laws.specs.Compiled.{expression_code};
-ghost use Rattle.star_compile.specs.Private.Emitted.{HasRoom, Writes};
+ghost use Rattle.star_compile.specs.Private.Emitted.{HasRegisterRoom, Writes};
 
 use crate::emitter::Emitter;
 use star_plan::Join;
@@ -14,7 +14,7 @@ use star_schema::ColumnId;
 use std::alloc::AllocError;
 
 impl Emitter {
-    // The left part, the right one, and the operator behind both.
+    // The left part, the right one, and the operator after both.
     #[cycle(expression)]
     fn arithmetic(
         &mut self,
@@ -23,7 +23,7 @@ impl Emitter {
         left: &Expression<ColumnId>,
         right: &Expression<ColumnId>,
     ) -> Result<u16, AllocError>
-        requires room { HasRoom self.old (spec.binary_code
+        requires room { HasRegisterRoom self.old (spec.binary_code
             (expression_code joins.now (column_expression_view left.now))
             (expression_code joins.now (column_expression_view right.now)) operator) }
         ensures written { IfOk result (Writes self.old self.new (spec.binary_code
@@ -46,7 +46,7 @@ impl Emitter {
         joins: &[Join],
         expression: &Expression<ColumnId>,
     ) -> Result<u16, AllocError>
-        requires room { HasRoom self.old
+        requires room { HasRegisterRoom self.old
             (expression_code joins.now (column_expression_view expression.now)) }
         ensures written { IfOk result (Writes self.old self.new
             (expression_code joins.now (column_expression_view expression.now))) }

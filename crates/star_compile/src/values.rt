@@ -3,7 +3,7 @@
 ghost use Rattle.std.specs.Prelude.{IfOk};
 ghost use Rattle.star_plan.specs.Views.{column_measure_view, measures_view};
 ghost use Rattle.star_compile_laws.specs.Compiled.{keys_code, values_code};
-ghost use Rattle.star_compile.specs.Private.Emitted.{HasRoom, Writes, value_after};
+ghost use Rattle.star_compile.specs.Private.Emitted.{HasRegisterRoom, Writes, value_after};
 
 use crate::emitter::Emitter;
 use star_plan::{Aggregate, Join};
@@ -19,7 +19,7 @@ impl Emitter {
         joins: &[Join],
         columns: &[ColumnId],
     ) -> Result<Vec<u16>, AllocError>
-        requires room { HasRoom self.old (keys_code joins.now columns.now) }
+        requires room { HasRegisterRoom self.old (keys_code joins.now columns.now) }
         ensures written { IfOk result (λ registers.
             Writes self.old self.new (keys_code joins.now columns.now) registers.items) }
     {
@@ -31,14 +31,14 @@ impl Emitter {
         Ok(registers)
     }
 
-    // The register of an aggregate's number, behind those so far; of a count none.
+    // The register of an aggregate's number, after those so far; of a count none.
     fn value(
         &mut self,
         joins: &[Join],
         measure: &Measure<ColumnId>,
         registers: &mut Vec<u16>,
     ) -> Result<(), AllocError>
-        requires room { HasRoom self.old
+        requires room { HasRegisterRoom self.old
             (value_after joins.now (column_measure_view measure.now) registers.old.items) }
         ensures written { IfOk result (λ _. Writes self.old self.new
             (value_after joins.now (column_measure_view measure.now) registers.old.items)
@@ -58,7 +58,7 @@ impl Emitter {
         joins: &[Join],
         aggregates: &[Aggregate],
     ) -> Result<Vec<u16>, AllocError>
-        requires room { HasRoom self.old (values_code joins.now (measures_view aggregates.now)) }
+        requires room { HasRegisterRoom self.old (values_code joins.now (measures_view aggregates.now)) }
         ensures written { IfOk result (λ registers. Writes self.old self.new
             (values_code joins.now (measures_view aggregates.now)) registers.items) }
     {

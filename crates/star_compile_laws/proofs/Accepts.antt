@@ -147,7 +147,8 @@ module _ (turn : Turn) where
         points.judged_then turn (At b.known) (At KnownFlag) l k true true p _
         (bound_judged c o b p l room)
         (λ a. columns.written turn (used a.out) KnownFlag a.after k
-        (λ h. uses a.after a.out h (columns.still turn (At b.known) l p _ a (column_known c) x at) a.says)
+        (λ h. uses a.after a.out h (columns.still turn (At b.known) l p _ a (column_known c) x at)
+        a.says)
         a.room)
 
     -- an operator that compares
@@ -162,7 +163,8 @@ module _ (turn : Turn) where
     before_bound o is c edge b x = λ q m room at_x at_m. record {
       place = λ t. refl;
       operands = is.0 turn.parts.registers (kinds_known q.known) x m
-          ∙ columns.comparable turn q x m (column_known c) b.known room at_x at_m b.column_ordered b.after;
+          ∙ columns.comparable turn q x m (column_known c) b.known room at_x at_m b.column_ordered
+          b.after;
       source = λ g t. refl;
       makes = is.1 (q.known x) (q.known m);
       range = λ t. ap (overflow_of turn.world) (is.1 (q.known x) (q.known m));
@@ -173,7 +175,8 @@ module _ (turn : Turn) where
     after_bound o is c edge b x = λ q m room at_x at_m. record {
       place = λ t. refl;
       operands = is.0 turn.parts.registers (kinds_known q.known) m x
-          ∙ columns.comparable turn q m x b.known (column_known c) room at_m at_x b.ordered b.before;
+          ∙ columns.comparable turn q m x b.known (column_known c) room at_m at_x b.ordered
+          b.before;
       source = λ g t. refl;
       makes = is.1 (q.known m) (q.known x);
       range = λ t. ap (overflow_of turn.world) (is.1 (q.known m) (q.known x));
@@ -207,9 +210,11 @@ module _ (turn : Turn) where
         record {
           place = λ t. refl;
           operands = both_none _ _
-              (columns.comparable turn z.after x m (column_known c) b.known h there first b.column_ordered
+              (columns.comparable turn z.after x m (column_known c) b.known h there first
+              b.column_ordered
               b.after)
-              (columns.compares turn z.after x z.out (column_known c) d.known h there z.says d.after);
+              (columns.compares turn z.after x z.out (column_known c) d.known h there z.says
+              d.after);
           source = λ g t. refl;
           makes = refl;
           range = λ t. refl;
@@ -222,7 +227,8 @@ module _ (turn : Turn) where
         → (p : Point) (k : Rest) → At (column_known c) p x
         → Judges true (At KnownFlag) k p (between_code c x from upto p.env k)
     between_judged c x from upto kind_from kind_upto said_from said_upto p k at room =
-        within_judged c (start_of c from) (end_behind c upto) (start_bounds c from kind_from said_from)
+        within_judged c (start_of c from) (end_behind c upto)
+        (start_bounds c from kind_from said_from)
         (end_bounds c upto kind_upto said_upto) x p k at room
 
     not_judged : (y : ℕ) (p : Point) (k : Rest) → At KnownFlag p y
@@ -417,11 +423,15 @@ module _ (turn : Turn) where
         (λ h. record {
           place = λ t. refl;
           operands = is.takes turn.parts.registers (kinds_known p.known) x y
-              ∙ columns.two_of turn p is_number_kind x y u v h (number_at p x a at_x) (number_at p y b at_y) refl
+              ∙ columns.two_of turn p is_number_kind x y u v h (number_at p x a at_x)
+              (number_at p y b at_y) refl
               refl;
           source = λ g t. refl;
-          makes = is.makes (p.known x) (p.known y) ∙ λ i. known_arithmetic z (at_x.1.2 i) (at_y.1.2 i);
-          range = λ t. ap (overflow_of turn.world) (is.makes (p.known x) (p.known y) ∙ λ i. known_arithmetic z (at_x.1.2 i) (at_y.1.2 i));
+          makes = is.makes (p.known x) (p.known y) ∙ λ i.
+              known_arithmetic z (at_x.1.2 i) (at_y.1.2 i);
+          range = λ t. ap (overflow_of turn.world)
+              (is.makes (p.known x) (p.known y) ∙ λ i.
+              known_arithmetic z (at_x.1.2 i) (at_y.1.2 i));
         })
         room)
 
@@ -432,13 +442,16 @@ module _ (turn : Turn) where
         (expression_code js a p.env k)
 
     -- an operator after its two parts
-    two_judged : (a b : Expression ColumnId) (o : Operator) (z : ℤ → ℤ → ℤ) → Computes o z → JudgesRange a
+    two_judged : (a b : Expression ColumnId) (o : Operator) (z : ℤ → ℤ → ℤ) → Computes o z
+        → JudgesRange a
         → JudgesRange b → (expression_is_sound js a && expression_is_sound js b) ≡ true
         → (p : Point) (k : Rest)
         → Judges
         (nodes_fit turn.world.bounds a && (nodes_fit turn.world.bounds b
-        && fits_i64 (corner_range z (expression_range turn.world.bounds a) (expression_range turn.world.bounds b))))
-        (Ranged (corner_range z (expression_range turn.world.bounds a) (expression_range turn.world.bounds b))) k p
+        && fits_i64 (corner_range z (expression_range turn.world.bounds a)
+        (expression_range turn.world.bounds b))))
+        (Ranged (corner_range z (expression_range turn.world.bounds a)
+        (expression_range turn.world.bounds b))) k p
         (binary_code (expression_code js a) (expression_code js b) o p.env k)
     two_judged a b o z is first second sound p k room =
         let parts = and_parts (expression_is_sound js a) (expression_is_sound js b) sound in
@@ -454,7 +467,8 @@ module _ (turn : Turn) where
         (fits_i64 c) x.after _
         (second parts.1 x.after m x.room)
         (λ y. let v = KnownNumber q x.says.1.0 x.says.1.1 in
-        let at_x = columns.still turn (Ranged r) m x.after _ y v x.out (number_at x.after x.out q x.says) in
+        let at_x = columns.still turn (Ranged r) m x.after _ y v x.out
+        (number_at x.after x.out q x.says) in
         operator_judged o z is x.out y.out q r y.after k
         (ranged q x.says.1.0 x.says.1.1 y.after x.out at_x) y.says y.room))
 
@@ -470,10 +484,18 @@ module _ (turn : Turn) where
         (points.answer turn p (column_code js c p.env k))) is
         (columns.column_judged turn js foreign within c p k parts.0 room))
     expression_judged (constant z) sound p k room =
-        points.weaker turn (λ t. t) (At (known_number (only z))) (Ranged (only z)) k (fits_i64 (only z))
+        points.weaker turn (λ t. t) (At (known_number (only z))) (Ranged (only z)) k
+        (fits_i64 (only z))
         p _ (λ h. ranged (only z) no_reach None h.after h.out h.says)
         (columns.written turn (operation.Const z) (known_number (only z)) p k
-        (λ h. record { place = λ t. refl; operands = refl; source = λ g t. refl; makes = refl; range = λ t. refl })
+        (λ h. record {
+          place = λ t. refl;
+          operands = refl;
+          source = λ g t. refl;
+          makes =
+              refl;
+          range = λ t. refl;
+        })
         room)
     expression_judged (add a b) sound p k room =
         two_judged a b operator.Add ◌+ℤ◌ adds (expression_judged a) (expression_judged b)

@@ -210,7 +210,8 @@ module _ (w : World) (p : Plan) (sound : IsSoundPlan p) (n : ℕ) (pending : ℕ
       (values_code p.joins ms q.env k)
 
   -- one value and those of the aggregates after it
-  value_judged : (a : Expression ColumnId) (ms : List (Measure ColumnId)) → expression_is_sound p.joins a ≡ true
+  value_judged : (a : Expression ColumnId) (ms : List (Measure ColumnId))
+      → expression_is_sound p.joins a ≡ true
       → JudgesValues ms → (q : Point) (k : Env → List ℕ → Code)
       → Judges (nodes_fit w.bounds a && list_all (measure_fits w.bounds) ms)
       (RangesStand (expression_range w.bounds a ∷ ranges_of w ms)) k q
@@ -275,7 +276,8 @@ module _ (w : World) (p : Plan) (sound : IsSoundPlan p) (n : ℕ) (pending : ℕ
   numbers_fit [] (r ∷ rs) q room h = absurd h
   numbers_fit (a ∷ as') [] q room h = absurd h
 
-  value_counts : (ms : List (Measure ColumnId)) → length (ranges_of w ms) ≡ value_count (map aggregate_of ms)
+  value_counts : (ms : List (Measure ColumnId))
+      → length (ranges_of w ms) ≡ value_count (map aggregate_of ms)
   value_counts [] = refl
   value_counts (count ∷ ms) = value_counts ms
   value_counts (fold Sum a ∷ ms) = ap suc (value_counts ms)

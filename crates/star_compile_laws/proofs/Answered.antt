@@ -75,7 +75,8 @@ keys_decoded w (c ∷ cs) row h =
     λ i. decoded_same w c h.0.0 (joined_value c row) h.0.1 i ∷ keys_decoded w cs row h.1 i
 
 keys_kept : (w : World) (cs : List ColumnId) (a b : Joined) → ShowsAll w cs a → ShowsAll w cs b
-    → Keeps by_code.key_value_cmp value_cmp (decoded_at w cs) (map (λ c. coded w c (joined_value c a)) cs)
+    → Keeps by_code.key_value_cmp value_cmp (decoded_at w cs)
+    (map (λ c. coded w c (joined_value c a)) cs)
     (map (λ c. coded w c (joined_value c b)) cs)
 keys_kept w [] a b p q = tt
 keys_kept w (c ∷ cs) a b p q = (
@@ -158,7 +159,11 @@ module _ (ts : Tables) (w : World) (seen : Sees ts w) (p : Plan) (sound : IsSoun
       map-map (entry_applied (decoded_at w p.keys)) (update_of_row w p) (plan_rows ts p)
       ∙ map_same (λ r. entry_applied (decoded_at w p.keys) (update_of_row w p r)) (entry_of p)
       (plan_rows ts p)
-      (λ r h. ap (λ ks. record { keys = ks; values = map (measured (λ c. joined_value c r)) p.measures })
+      (λ r h. ap (λ ks. record {
+        keys = ks;
+        values =
+            map (measured (λ c. joined_value c r)) p.measures;
+      })
       (keys_decoded w p.keys r (row_shows r h)))
 
   entry_length : (e : Entry KeyValue) → Contains (map (update_of_row w p) (plan_rows ts p)) e
@@ -170,7 +175,8 @@ module _ (ts : Tables) (w : World) (seen : Sees ts w) (p : Plan) (sound : IsSoun
 
   groups_the_rows : (us : List (Entry KeyValue)) (groups : List (GroupRow KeyValue))
       → us ≡ reverse (map (update_of_row w p) (plan_rows ts p))
-      → AreGroups by_code.key_value_cmp p.shape (length p.keys) (map aggregate_of p.measures) us groups
+      → AreGroups by_code.key_value_cmp p.shape (length p.keys) (map aggregate_of p.measures) us
+      groups
       → AreGroups value_cmp p.shape (length p.keys) (map aggregate_of p.measures)
       (map (entry_of p) (plan_rows ts p)) (map (decoded_row w (plan_group p)) groups)
   groups_the_rows us groups are h =
@@ -182,7 +188,8 @@ module _ (ts : Tables) (w : World) (seen : Sees ts w) (p : Plan) (sound : IsSoun
       groups_reordered by_code.key_value_cmp p.shape k gs (reverse es) es groups
       (IsPermutation-sym es (reverse es) (IsPermutation-reverse es)) turned in
       let there =
-      groups_applied by_code.key_value_cmp value_cmp p.shape k gs (decoded_at w p.keys) es entry_kept
+      groups_applied by_code.key_value_cmp value_cmp p.shape k gs (decoded_at w p.keys) es
+      entry_kept
       groups straight in
       let same : map (row_applied (decoded_at w p.keys)) groups ≡ map (decoded_row w (plan_group p))
       groups =

@@ -1,4 +1,5 @@
--- A fact of code that holds of a turn, instruction by instruction: of a piece where it holds of what
+-- A fact of code that holds of a turn, instruction by instruction: of a piece where it holds of
+-- what
 -- follows the piece.
 use Rattle.std.proofs.Common.{◌≡◌, ℕ, Bool, true, false, List, [], ◌∷◌, Option, Some, None, refl, ap, ◌∙◌}
 use Rattle.star_schema.specs.declared.table.TableId.{TableId}
@@ -18,7 +19,9 @@ use Rattle.star_program.specs.declared.op.Operation.TheVariants.{Binary, Const, 
 use Rattle.star_program.specs.declared.op.Operator.{Operator}
 use Rattle.star_program.specs.declared.op.Operator.TheVariants as operator
 use Rattle.star_program.specs.Code.{Code, Stop, Then}
-use Rattle.star_compile_laws.specs.Compiled.{Env, Rest, Rests, one_before, beside, between_code, binary_code, column_code, column_from, condition_code, conjuncts_code, end_behind, env_first, equal_code, expression_code, fact_code, find_code, foreign_of, found_in, keys_code, load_code, loaded_in, one_more, place_code, put_code, row_code, start_of, test_code, turn_code, values_code, with_found, with_loaded, write}
+use Rattle.star_compile_laws.specs.Compiled.{Env, Rest, Rests, one_before, beside, between_code, binary_code, column_code, column_from, condition_code, conjuncts_code}
+use Rattle.star_compile_laws.specs.Compiled.{end_behind, env_first, equal_code, expression_code, fact_code, find_code, foreign_of, found_in, keys_code, load_code, loaded_in}
+use Rattle.star_compile_laws.specs.Compiled.{one_more, place_code, put_code, row_code, start_of, test_code, turn_code, values_code, with_found, with_loaded, write}
 
 -- an operation that neither loads a column nor finds a row
 abbrev pub is_plain : Operation → Bool

@@ -177,7 +177,8 @@ module _ (w : World) (parts : Parts) (pending : ℕ → Bool) where
 
       fault : Option Fault
       fault =
-          fault_of parts x.inside (target_again x.written (Some t)) (kinds_known x.known) (Assign t o)
+          fault_of parts x.inside (target_again x.written (Some t)) (kinds_known x.known)
+          (Assign t o)
 
       told : first_reason w parts pending x at (Then (Assign t o) rest)
           ≡ option_or (at_place at (option_or (option_map Faulty fault)
@@ -214,7 +215,8 @@ module _ (w : World) (parts : Parts) (pending : ℕ → Bool) where
 
   -- an instruction that writes no register
   passed : (fault : Option Fault) (at : ℕ) (behind wide : Option (ℕ × Reason))
-      → NothingElse (option_or (at_place at (option_or (option_map Faulty fault) (option_or None None)))
+      → NothingElse (option_or
+      (at_place at (option_or (option_map Faulty fault) (option_or None None)))
       behind)
       → (NothingElse behind → behind ≡ wide)
       → option_or (at_place at (option_or (option_map Faulty fault) (option_or None None))) behind

@@ -18,7 +18,7 @@ use Rattle.star_program.specs.declared.op.Operation.{Operation}
 use Rattle.star_program.specs.declared.op.Operation.TheVariants.{Find, Load}
 use Rattle.star_program.specs.World.{is_column}
 use Rattle.star_compile_laws.specs.Compiled.{Env, compiled, env_first, foreign_of, found_in, loaded_in, one_more, turn_code, with_found, with_loaded}
-use Rattle.star_compile_laws.specs.Looks.{finds, loads, one_if, times}
+use Rattle.star_compile_laws.specs.Looks.{finds, loads, one_if, times_made}
 use Rattle.star_compile_laws.proofs.Carried.{is_plain, turn_carries}
 use Rattle.star_compile_laws.proofs.Entries.{entry_after, missing, entry_falls}
 
@@ -111,9 +111,9 @@ still_none false n None apart none = refl
 still_none false n (Some r) apart none = absurd (cc)
 
 turn_pays : (test : Operation → Bool) (price : Env → ℕ) → IsPrice test price → (p : Plan)
-    → IsSoundPlan p → times test (turn_code p) ≤ price env_first
+    → IsSoundPlan p → times_made test (turn_code p) ≤ price env_first
 turn_pays test price paid p sound =
-    turn_carries p (λ env code. times test code ≤ price env)
+    turn_carries p (λ env code. times_made test code ≤ price env)
     (λ env c. loaded_in env.loaded c ≡ None) (record {
       plain = λ env o rest plain h.
           let nothing : one_if (test o) ≡ 0 = ap one_if (paid.plain o plain) in
@@ -131,10 +131,12 @@ turn_pays test price paid p sound =
       found = λ env t c none. none;
     })
 
-pub loaded_once : (p : Plan) (c : ColumnId) → IsSoundPlan p → times (loads c) (compiled p).body ≤ 1
+pub loaded_once : (p : Plan) (c : ColumnId) → IsSoundPlan p
+    → times_made (loads c) (compiled p).body ≤ 1
 unfolding missing
 loaded_once p c sound = omega (arith, turn_pays (loads c) (loads_left c) (loads_paid c) p sound)
 
-pub found_once : (p : Plan) (t : TableId) → IsSoundPlan p → times (finds t) (compiled p).body ≤ 1
+pub found_once : (p : Plan) (t : TableId) → IsSoundPlan p
+    → times_made (finds t) (compiled p).body ≤ 1
 unfolding missing
 found_once p t sound = omega (arith, turn_pays (finds t) (finds_left t) (finds_paid t) p sound)

@@ -46,7 +46,11 @@ untaxed_fits : Fits 5 5 wide.bounds untaxed
 untaxed_fits = record { visits = omega arith; nodes = refl }
 
 untaxed_refused : first_refusal wide 5 (compiled untaxed)
-    ≡ Some (Refused (2, Overflow (pos 0) (pos (2 ^ 63)) (record { column = LoTax; low = pos 0; high = pos (2 ^ 63) } ∷ [])))
+    ≡ Some (Refused (
+      2,
+      Overflow (pos 0) (pos (2 ^ 63))
+          (record { column = LoTax; low = pos 0; high = pos (2 ^ 63) } ∷ []),
+    ))
 unfolding column_of first_answer is_i64 reached
 untaxed_refused = refl
 

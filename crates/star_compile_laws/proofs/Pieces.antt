@@ -330,7 +330,8 @@ module _ (w : World) (f : Parts) (may : ℕ → Bool) (at : TableId → ℕ) whe
 
   ranked3 : (o p q : Option Value) (y z u : ℤ) (g : ℤ → ℤ → ℤ → Bool) (regs : Registers) (s : State)
       (t : ℕ) (b : Bool) → number_read o ≡ y → number_read p ≡ z → number_read q ≡ u → g y z u ≡ b
-      → sets regs s t (Flag (g (number_read o) (number_read p) (number_read q))) ≡ sets regs s t (Flag b)
+      → sets regs s t (Flag (g (number_read o) (number_read p) (number_read q)))
+      ≡ sets regs s t (Flag b)
   ranked3 o p q y z u g regs s t b e1 e2 e3 e4 =
       (λ i. sets regs s t (Flag (g (e1 i) (e2 i) (e3 i)))) ∙ ap (λ c. sets regs s t (Flag c)) e4
 
@@ -382,7 +383,8 @@ module _ (w : World) (f : Parts) (may : ℕ → Bool) (at : TableId → ℕ) whe
         (λ m1 m2. Within x m1 m2) _ k env n regs s e knows below refl (λ regs' s' t. refl)
         (λ m1 m2 t regs' s' p q1 q2. ranked3 (regs' x) (regs' m1) (regs' m2) z a (b +ℤ pos 1)
         (λ y u v. is_le (int_cmp u y) && is_lt (int_cmp y v)) regs' s' t _ (ap number_read p ∙ at_x)
-        (ap number_read q1) (ap number_read q2) (ap (λ o. is_le (int_cmp a z) && o) (number_upto z b)))
+        (ap number_read q1) (ap number_read q2)
+        (ap (λ o. is_le (int_cmp a z) && o) (number_upto z b)))
         h
 
     module _ (i : ℕ) (v : List ℕ) (at_x : number_read (regs x) ≡ pos (w.code c i))
@@ -452,7 +454,8 @@ module _ (w : World) (f : Parts) (may : ℕ → Bool) (at : TableId → ℕ) whe
           (sym (le_not_lt (slice_cmp nat_cmp v a))
           ∙ ap is_le (sym (nat_list_cmp_total.antisymm a v)))) (text_within a b k h)
 
-    text_rank : (i : ℕ) (b : Bool) → b ≡ true → number_read (Some (loaded w c i b)) ≡ pos (w.code c i)
+    text_rank : (i : ℕ) (b : Bool) → b ≡ true
+        → number_read (Some (loaded w c i b)) ≡ pos (w.code c i)
     text_rank i true p = refl
     text_rank i false p = absurd (cc)
 
@@ -466,7 +469,8 @@ module _ (w : World) (f : Parts) (may : ℕ → Bool) (at : TableId → ℕ) whe
     test_runs q i (held.Number z) (held.Number a) shows kind at_x h =
         number_test q z a (ap number_read at_x ∙ number_rank c i (is_text c) shows.0 ∙ shows.1) h
     test_runs q i (held.Text v) (held.Text t) shows kind at_x h =
-        text_test i v (ap number_read at_x ∙ text_rank i (is_text c) shows.0) shows.1.low shows.1.high
+        text_test i v (ap number_read at_x ∙ text_rank i (is_text c) shows.0) shows.1.low
+        shows.1.high
         q t h
     test_runs q i (held.Number z) (held.Text t) shows kind at_x h =
         let a : true ≡ false = sym (holds_texts c kind) ∙ shows.0 in absurd (cc)

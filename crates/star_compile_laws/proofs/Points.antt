@@ -62,7 +62,8 @@ leaving w (KnownNumber r reach origin) at rest e = (
   at,
   r,
   reached w reach,
-  ap (λ b. option_or (at_place at (refuses (not b) (Overflow r.low r.high (reached w reach)))) rest) e,
+  ap (λ b. option_or (at_place at (refuses (not b) (Overflow r.low r.high (reached w reach)))) rest)
+      e,
 )
 leaving w (KnownText c) at rest e = absurd (cc)
 leaving w (KnownPlace c) at rest e = absurd (cc)
@@ -216,7 +217,8 @@ module _ (turn : Turn) where
 
   -- ---- an assignment
 
-  -- an operation has no fault of kinds or sources, makes what is so known, and is judged by its range
+  -- an operation has no fault of kinds or sources, makes what is so known, and is judged by its
+  -- range
   pub record Suits (o : Operation) (v : Known) (p : Point) : Type 0 where
     pub place : (t : ℕ) → place_fault turn.parts true (Assign t o) ≡ None
     pub operands : operation_fault turn.parts.registers (kinds_known p.known) o ≡ None

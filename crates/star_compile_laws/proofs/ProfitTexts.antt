@@ -57,7 +57,9 @@ q41_text : program_text (compiled q41)
     ∷ codes "show profit aggregate 0"
     ∷ codes "sort key 0 ascending"
     ∷ codes "sort key 1 ascending" ∷ [])
-unfolding column_of table_name program_text written_line lines_of_code register_text target_text assigned_text op_text key_text group_text written_column show_text sort_text digits quoted shape_name aggregate_name mnemonic_name direction_name
+unfolding column_of table_name program_text written_line lines_of_code register_text target_text
+    assigned_text op_text key_text group_text written_column show_text sort_text digits quoted
+    shape_name aggregate_name mnemonic_name direction_name
 q41_text = refl
 
 q42_text : program_text (compiled q42)
@@ -115,7 +117,9 @@ q42_text : program_text (compiled q42)
     ∷ codes "sort key 0 ascending"
     ∷ codes "sort key 1 ascending"
     ∷ codes "sort key 2 ascending" ∷ [])
-unfolding column_of table_name program_text written_line lines_of_code register_text target_text assigned_text op_text key_text group_text written_column show_text sort_text digits quoted shape_name aggregate_name mnemonic_name direction_name
+unfolding column_of table_name program_text written_line lines_of_code register_text target_text
+    assigned_text op_text key_text group_text written_column show_text sort_text digits quoted
+    shape_name aggregate_name mnemonic_name direction_name
 q42_text = refl
 
 q43_text : program_text (compiled q43)
@@ -169,7 +173,9 @@ q43_text : program_text (compiled q43)
     ∷ codes "sort key 0 ascending"
     ∷ codes "sort key 1 ascending"
     ∷ codes "sort key 2 ascending" ∷ [])
-unfolding column_of table_name program_text written_line lines_of_code register_text target_text assigned_text op_text key_text group_text written_column show_text sort_text digits quoted shape_name aggregate_name mnemonic_name direction_name
+unfolding column_of table_name program_text written_line lines_of_code register_text target_text
+    assigned_text op_text key_text group_text written_column show_text sort_text digits quoted
+    shape_name aggregate_name mnemonic_name direction_name
 q43_text = refl
 
 profits_text : program_text (compiled profits)
@@ -212,7 +218,9 @@ profits_text : program_text (compiled profits)
     ∷ codes "show lines aggregate 1"
     ∷ codes "sort aggregate 0 descending"
     ∷ codes "sort key 0 ascending" ∷ [])
-unfolding column_of table_name program_text written_line lines_of_code register_text target_text assigned_text op_text key_text group_text written_column show_text sort_text digits quoted shape_name aggregate_name mnemonic_name direction_name
+unfolding column_of table_name program_text written_line lines_of_code register_text target_text
+    assigned_text op_text key_text group_text written_column show_text sort_text digits quoted
+    shape_name aggregate_name mnemonic_name direction_name
 profits_text = refl
 
 others_text : program_text (compiled others)
@@ -274,5 +282,7 @@ others_text : program_text (compiled others)
     ∷ codes "show max2 aggregate 1"
     ∷ codes "show count3 aggregate 2"
     ∷ codes "sort key 0 descending" ∷ [])
-unfolding column_of table_name program_text written_line lines_of_code register_text target_text assigned_text op_text key_text group_text written_column show_text sort_text digits quoted shape_name aggregate_name mnemonic_name direction_name
+unfolding column_of table_name program_text written_line lines_of_code register_text target_text
+    assigned_text op_text key_text group_text written_column show_text sort_text digits quoted
+    shape_name aggregate_name mnemonic_name direction_name
 others_text = refl

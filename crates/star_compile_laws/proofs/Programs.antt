@@ -159,7 +159,8 @@ at_place test (x ∷ xs) (suc n) d h below =
     at_place test xs n d (and_parts (test x) (list_all test xs) h).1 (omega arith)
 
 shown_named : (p : Plan) → IsSoundPlan p → IsSpelledPlan p → (c : GroupColumn)
-    → is_group_column (length p.keys) (length p.measures) c ≡ true → is_show_name (shown_name p c) ≡ true
+    → is_group_column (length p.keys) (length p.measures) c ≡ true
+    → is_show_name (shown_name p c) ≡ true
 shown_named p sound spelled (group.Key n) h = column_named (slice_index_or p.keys n DDatekey)
 shown_named p sound spelled (group.Aggregate n) h =
     let a = ltb-true n (length p.measures) h in

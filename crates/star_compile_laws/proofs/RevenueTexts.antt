@@ -41,7 +41,9 @@ q11_text : program_text (compiled q11)
     ∷ codes "end"
     ∷ codes "report 0"
     ∷ codes "show revenue aggregate 0" ∷ [])
-unfolding column_of table_name program_text written_line lines_of_code register_text target_text assigned_text op_text key_text group_text written_column show_text sort_text digits quoted shape_name aggregate_name mnemonic_name direction_name
+unfolding column_of table_name program_text written_line lines_of_code register_text target_text
+    assigned_text op_text key_text group_text written_column show_text sort_text digits quoted
+    shape_name aggregate_name mnemonic_name direction_name
 q11_text = refl
 
 q12_text : program_text (compiled q12)
@@ -72,7 +74,9 @@ q12_text : program_text (compiled q12)
     ∷ codes "end"
     ∷ codes "report 0"
     ∷ codes "show revenue aggregate 0" ∷ [])
-unfolding column_of table_name program_text written_line lines_of_code register_text target_text assigned_text op_text key_text group_text written_column show_text sort_text digits quoted shape_name aggregate_name mnemonic_name direction_name
+unfolding column_of table_name program_text written_line lines_of_code register_text target_text
+    assigned_text op_text key_text group_text written_column show_text sort_text digits quoted
+    shape_name aggregate_name mnemonic_name direction_name
 q12_text = refl
 
 q13_text : program_text (compiled q13)
@@ -107,7 +111,9 @@ q13_text : program_text (compiled q13)
     ∷ codes "end"
     ∷ codes "report 0"
     ∷ codes "show revenue aggregate 0" ∷ [])
-unfolding column_of table_name program_text written_line lines_of_code register_text target_text assigned_text op_text key_text group_text written_column show_text sort_text digits quoted shape_name aggregate_name mnemonic_name direction_name
+unfolding column_of table_name program_text written_line lines_of_code register_text target_text
+    assigned_text op_text key_text group_text written_column show_text sort_text digits quoted
+    shape_name aggregate_name mnemonic_name direction_name
 q13_text = refl
 
 q21_text : program_text (compiled q21)
@@ -143,7 +149,9 @@ q21_text : program_text (compiled q21)
     ∷ codes "show p_brand1 key 1"
     ∷ codes "sort key 0 ascending"
     ∷ codes "sort key 1 ascending" ∷ [])
-unfolding column_of table_name program_text written_line lines_of_code register_text target_text assigned_text op_text key_text group_text written_column show_text sort_text digits quoted shape_name aggregate_name mnemonic_name direction_name
+unfolding column_of table_name program_text written_line lines_of_code register_text target_text
+    assigned_text op_text key_text group_text written_column show_text sort_text digits quoted
+    shape_name aggregate_name mnemonic_name direction_name
 q21_text = refl
 
 q22_text : program_text (compiled q22)
@@ -178,7 +186,9 @@ q22_text : program_text (compiled q22)
     ∷ codes "show p_brand1 key 1"
     ∷ codes "sort key 0 ascending"
     ∷ codes "sort key 1 ascending" ∷ [])
-unfolding column_of table_name program_text written_line lines_of_code register_text target_text assigned_text op_text key_text group_text written_column show_text sort_text digits quoted shape_name aggregate_name mnemonic_name direction_name
+unfolding column_of table_name program_text written_line lines_of_code register_text target_text
+    assigned_text op_text key_text group_text written_column show_text sort_text digits quoted
+    shape_name aggregate_name mnemonic_name direction_name
 q22_text = refl
 
 q23_text : program_text (compiled q23)
@@ -213,7 +223,9 @@ q23_text : program_text (compiled q23)
     ∷ codes "show p_brand1 key 1"
     ∷ codes "sort key 0 ascending"
     ∷ codes "sort key 1 ascending" ∷ [])
-unfolding column_of table_name program_text written_line lines_of_code register_text target_text assigned_text op_text key_text group_text written_column show_text sort_text digits quoted shape_name aggregate_name mnemonic_name direction_name
+unfolding column_of table_name program_text written_line lines_of_code register_text target_text
+    assigned_text op_text key_text group_text written_column show_text sort_text digits quoted
+    shape_name aggregate_name mnemonic_name direction_name
 q23_text = refl
 
 q31_text : program_text (compiled q31)
@@ -257,7 +269,9 @@ q31_text : program_text (compiled q31)
     ∷ codes "show revenue aggregate 0"
     ∷ codes "sort key 2 ascending"
     ∷ codes "sort aggregate 0 descending" ∷ [])
-unfolding column_of table_name program_text written_line lines_of_code register_text target_text assigned_text op_text key_text group_text written_column show_text sort_text digits quoted shape_name aggregate_name mnemonic_name direction_name
+unfolding column_of table_name program_text written_line lines_of_code register_text target_text
+    assigned_text op_text key_text group_text written_column show_text sort_text digits quoted
+    shape_name aggregate_name mnemonic_name direction_name
 q31_text = refl
 
 q32_text : program_text (compiled q32)
@@ -301,7 +315,9 @@ q32_text : program_text (compiled q32)
     ∷ codes "show revenue aggregate 0"
     ∷ codes "sort key 2 ascending"
     ∷ codes "sort aggregate 0 descending" ∷ [])
-unfolding column_of table_name program_text written_line lines_of_code register_text target_text assigned_text op_text key_text group_text written_column show_text sort_text digits quoted shape_name aggregate_name mnemonic_name direction_name
+unfolding column_of table_name program_text written_line lines_of_code register_text target_text
+    assigned_text op_text key_text group_text written_column show_text sort_text digits quoted
+    shape_name aggregate_name mnemonic_name direction_name
 q32_text = refl
 
 q33_text : program_text (compiled q33)
@@ -351,7 +367,9 @@ q33_text : program_text (compiled q33)
     ∷ codes "show revenue aggregate 0"
     ∷ codes "sort key 2 ascending"
     ∷ codes "sort aggregate 0 descending" ∷ [])
-unfolding column_of table_name program_text written_line lines_of_code register_text target_text assigned_text op_text key_text group_text written_column show_text sort_text digits quoted shape_name aggregate_name mnemonic_name direction_name
+unfolding column_of table_name program_text written_line lines_of_code register_text target_text
+    assigned_text op_text key_text group_text written_column show_text sort_text digits quoted
+    shape_name aggregate_name mnemonic_name direction_name
 q33_text = refl
 
 q34_text : program_text (compiled q34)
@@ -400,5 +418,7 @@ q34_text : program_text (compiled q34)
     ∷ codes "show revenue aggregate 0"
     ∷ codes "sort key 2 ascending"
     ∷ codes "sort aggregate 0 descending" ∷ [])
-unfolding column_of table_name program_text written_line lines_of_code register_text target_text assigned_text op_text key_text group_text written_column show_text sort_text digits quoted shape_name aggregate_name mnemonic_name direction_name
+unfolding column_of table_name program_text written_line lines_of_code register_text target_text
+    assigned_text op_text key_text group_text written_column show_text sort_text digits quoted
+    shape_name aggregate_name mnemonic_name direction_name
 q34_text = refl

@@ -169,7 +169,8 @@ number_shown : (w : World) (c : ColumnId) (n : ℕ) (v : Value) → is_text c �
 number_shown w c n (Number z) e shows = ap Number (sym shows.1)
 number_shown w c n (Text t) e shows = let a : true ≡ false = sym shows.0 ∙ e in absurd (cc)
 
-found_some : (w : World) (t : TableId) (o : Option ℕ) → IsRowNumberOf w t o → o ≡ Some (unwrap_or o 0)
+found_some : (w : World) (t : TableId) (o : Option ℕ) → IsRowNumberOf w t o
+    → o ≡ Some (unwrap_or o 0)
 found_some w t None h = absurd h
 found_some w t (Some n) h = refl
 
@@ -403,7 +404,8 @@ module _ (ts : Tables) (w : World) (seen : Sees ts w) (p : Plan) (sound : IsSoun
 
   -- the run of its scan
   scanned : (may : ℕ → Bool) (e : State) → run_while w may (compiled p) ≡ Ended e
-      → Scanned (updates_of_rows w (compiled p) may p (place_in w p.joins) row_of_fact is_turn place_of_fact
+      → Scanned (updates_of_rows w (compiled p) may p (place_in w p.joins) row_of_fact is_turn
+      place_of_fact
       (numbers (w.size Lineorder) 0)) (w.size Lineorder)
       (sum_by (λ i. turn_lookups p (row_of_fact i)) (numbers (w.size Lineorder) 0)) empty_state e
   scanned may e h =
@@ -421,7 +423,8 @@ module _ (ts : Tables) (w : World) (seen : Sees ts w) (p : Plan) (sound : IsSoun
       ∙ ap (λ us. reverse_aux us []) (sym rows_are)
 
   looked_up_in : (is : List ℕ)
-      → sum_by (turn_lookups p) (map row_of_fact is) ≡ sum_by (λ i. turn_lookups p (row_of_fact i)) is
+      → sum_by (turn_lookups p) (map row_of_fact is)
+      ≡ sum_by (λ i. turn_lookups p (row_of_fact i)) is
   looked_up_in [] = refl
   looked_up_in (i ∷ is) =
       sum_by-cons (turn_lookups p) (row_of_fact i) (map row_of_fact is)

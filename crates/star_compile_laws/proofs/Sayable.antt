@@ -1,10 +1,10 @@
 -- A compiled program can be written: each of its statements can be said.
-use Rattle.std.proofs.Common.{◌≡◌, ℕ, suc, ◌+◌, ◌≤◌, ◌<◌, ◌^◌, Bool, true, false, List, [], ◌∷◌, Option, Some, None, All, refl, arith}
+use Rattle.std.proofs.Common.{◌≡◌, ℕ, suc, ◌+◌, ◌≤◌, ◌<◌, ◌^◌, Bool, true, false, List, [], ◌∷◌, Option, Some, None, All, FitsSigned, w64, refl, arith}
 use mathlib.Core.Logic.{inl, inr, ◌⊎◌}
 use Rattle.std.proofs.lemmas.Int.{ints}
 use Rattle.std.specs.Prelude.{ℤ, pos, negsuc, ◌≤ℤ◌, ◌+ℤ◌}
 use Rattle.std.specs.List.{list_all}
-use Rattle.std.proofs.lemmas.Bool.{and_parts, ltb-true}
+use Rattle.std.proofs.lemmas.Bool.{and_parts, lt-ltb, ltb-true}
 use Rattle.std.proofs.lemmas.List.Elements.{All-nil, All-cons}
 use Rattle.star_schema.specs.declared.table.TableId.{TableId}
 use Rattle.star_schema.specs.declared.table.TableId.TheVariants.{Lineorder}
@@ -25,30 +25,40 @@ use Rattle.star_program.specs.declared.op.Operation.TheVariants.{Const, Edge, Bi
 use Rattle.star_program.specs.declared.op.Operator.{Operator}
 use Rattle.star_program.specs.declared.op.Operator.TheVariants as operator
 use Rattle.star_program.specs.Code.{Code, Stop, Then, Each}
+use Rattle.star_interval.specs.Range.{is_i64}
 use Rattle.star_program.specs.World.{is_column}
-use Rattle.star_program.specs.Text.Spellable.{HasFourDigits, IsConstant, IsPrinted, IsSpellableOp, IsSpellableOperation}
-use Rattle.star_compile_laws.specs.Compiled.{Env, Rests, one_before, binary_code, column_code, beside, start_of, end_behind, Rest, equal_code, find_code, env_first, loaded_in, found_in, one_more, with_loaded, with_found, foreign_of, fact_code, row_code, place_code, column_from, test_code, between_code, condition_code, expression_code, conjuncts_code, keys_code, values_code, put_code, turn_code, write, load_code, register_count}
+use Rattle.star_program.specs.Text.Spellable.{HasFourDigits, IsPrinted, IsSpellableOp, IsSpellableOperation}
+use Rattle.star_compile_laws.specs.Compiled.{Env, Rests, one_before, binary_code, column_code, beside, start_of, end_behind, Rest, equal_code, find_code, env_first, loaded_in}
+use Rattle.star_compile_laws.specs.Compiled.{found_in, one_more, with_loaded, with_found, foreign_of, fact_code, row_code, place_code, column_from, test_code, between_code}
+use Rattle.star_compile_laws.specs.Compiled.{condition_code, expression_code, conjuncts_code, keys_code, values_code, put_code, turn_code, write, load_code, register_count}
 use Rattle.star_compile_laws.proofs.Entries.{entry_split}
 
 -- ---- what a plan's numbers and texts are
 
-pub constant_said : (z : ℤ) → has_few_digits z ≡ true → IsConstant z
-unfolding has_few_digits
-constant_said (pos n) h = let p = ltb-true n (10 ^ 18) h in omega arith
-constant_said (negsuc n) h = let p = ltb-true (suc n) (10 ^ 18) h in omega arith
+pub constant_said : (z : ℤ) → has_few_digits z ≡ true → is_i64 z ≡ true
+unfolding has_few_digits is_i64
+constant_said (pos n) h = let p = ltb-true n (10 ^ 18) h in lt-ltb n (2 ^ 63) (omega (arith, p))
+constant_said (negsuc n) h = let p = ltb-true (suc n) (10 ^ 18) h in
+    lt-ltb n (2 ^ 63) (omega (arith, p))
 
 said_between : (z : ℤ) → negsuc 9223372036854775807 ≤ℤ z → z ≤ℤ pos 9223372036854775807
-    → IsConstant z
-said_between (pos n) a b = omega (arith, ints)
-said_between (negsuc n) a b = omega (arith, ints)
+    → is_i64 z ≡ true
+unfolding is_i64
+said_between (pos n) a b = lt-ltb n (2 ^ 63) (omega (arith, ints))
+said_between (negsuc n) a b = lt-ltb n (2 ^ 63) (omega (arith, ints))
 
-next_below : (n : ℕ) → suc n < 10 ^ 18 → IsConstant (negsuc n +ℤ pos 1)
+next_below : (n : ℕ) → suc n < 10 ^ 18 → is_i64 (negsuc n +ℤ pos 1) ≡ true
 next_below n h = said_between (negsuc n +ℤ pos 1) (omega (arith, ints)) (omega (arith, ints))
 
-pub next_said : (z : ℤ) → has_few_digits z ≡ true → IsConstant (z +ℤ pos 1)
-unfolding has_few_digits
-next_said (pos n) h = let p = ltb-true n (10 ^ 18) h in omega arith
+pub next_said : (z : ℤ) → has_few_digits z ≡ true → is_i64 (z +ℤ pos 1) ≡ true
+unfolding has_few_digits is_i64
+next_said (pos n) h = let p = ltb-true n (10 ^ 18) h in lt-ltb (n + 1) (2 ^ 63) (omega (arith, p))
 next_said (negsuc n) h = next_below n (ltb-true (suc n) (10 ^ 18) h)
+
+pub said_fits : (z : ℤ) → is_i64 z ≡ true → FitsSigned w64 z
+unfolding is_i64
+said_fits (pos n) h = let p = ltb-true n (2 ^ 63) h in omega (arith, p)
+said_fits (negsuc n) h = let p = ltb-true n (2 ^ 63) h in omega (arith, p)
 
 pub text_said : (t : List ℕ) → is_printable_text t ≡ true → IsPrinted t
 unfolding is_printable_text
@@ -74,7 +84,8 @@ known_or_next : {P : Type 0} (n r : ℕ) (A : Type 0) → HasFourDigits n → (A
 known_or_next n r A short known (inl a) = known a
 known_or_next n r A short known (inr (p, e)) = omega arith
 
-good_loaded : (env : Env) (c : ColumnId) → HasFourDigits env.next → Good env → Good (with_loaded env c)
+good_loaded : (env : Env) (c : ColumnId) → HasFourDigits env.next → Good env
+    → Good (with_loaded env c)
 good_loaded env c short g = record {
   columns =
       λ d r e.
@@ -127,7 +138,8 @@ of_find t key short env k g room h = (
       (omega arith) (omega arith),
 )
 
-of_binary : (left right : Env → Rest → Code) (o : Operator) → Says HasFourDigits left → Says HasFourDigits right
+of_binary : (left right : Env → Rest → Code) (o : Operator) → Says HasFourDigits left
+    → Says HasFourDigits right
     → Says HasFourDigits (binary_code left right o)
 of_binary left right o first second env k g room h =
     first env (λ e x. right e (λ e y. write (Binary o x y) e k)) g room
@@ -144,7 +156,8 @@ of_before first others one more env k g room h =
 -- ---- tests
 
 of_beside : (o : Operation) (used : ℕ → Operation) → IsSpellableOperation o
-    → ((n : ℕ) → HasFourDigits n → IsSpellableOperation (used n)) → Says HasFourDigits (beside o used)
+    → ((n : ℕ) → HasFourDigits n → IsSpellableOperation (used n))
+    → Says HasFourDigits (beside o used)
 of_beside o used first second env k g room h =
     of_write o first env (λ e n. write (used n) e k) g room
     (λ e n g sn room. of_write (used n) (second n sn) e k g room h)
@@ -165,7 +178,8 @@ of_between c x a b va vb sx env k g room h =
     of_write (start_of c a) (start_said c a va) env
     (λ e m. beside (end_behind c b) (λ n. Within x m n) e k) g room
     (λ e m g sm room.
-    of_beside (end_behind c b) (λ n. Within x m n) (end_said c b vb) (λ n sn. (sx, sm, sn)) e k g room
+    of_beside (end_behind c b) (λ n. Within x m n) (end_said c b vb) (λ n sn. (sx, sm, sn)) e k g
+    room
     h)
 
 of_equal : (c : ColumnId) (x : ℕ) (v : Value) → value_is_spelled v ≡ true → HasFourDigits x
@@ -176,7 +190,8 @@ of_equal c x (Number a) said sx env k g room h =
 of_equal c x (Text t) said sx env k g room h =
     of_between c x (Text t) (Text t) said said sx env k g room h
 
-of_test : (s : Relation) (c : ColumnId) (x : ℕ) (v : Value) → value_is_spelled v ≡ true → HasFourDigits x
+of_test : (s : Relation) (c : ColumnId) (x : ℕ) (v : Value) → value_is_spelled v ≡ true
+    → HasFourDigits x
     → Says HasFourDigits (test_code s c x v)
 of_test sign.Equal c x v said sx env k g room h = of_equal c x v said sx env k g room h
 of_test sign.Unequal c x v said sx env k g room h =
@@ -220,7 +235,8 @@ module _ (js : List Join) where
       (λ e r g sr room. of_find t r sr e k g room h)
 
   of_place : (c : ColumnId) (env : Env) (k : Rest) (b : Bool) → Good env
-      → Room env (place_code js c env k b) → Follows HasFourDigits k → Spelled (place_code js c env k b)
+      → Room env (place_code js c env k b) → Follows HasFourDigits k
+      → Spelled (place_code js c env k b)
   of_place c env k true g room h = of_load c 0 (omega arith) env k g room h
   of_place c env k false g room h =
       of_row (table_of c) env (λ e r. load_code c r e k) (found_in env.found (table_of c)) refl g

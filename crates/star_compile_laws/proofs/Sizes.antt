@@ -23,7 +23,9 @@ use Rattle.star_program.specs.declared.op.Operator.{Operator}
 use Rattle.star_program.specs.declared.op.Operator.TheVariants as operator
 use Rattle.star_program.specs.Code.{Code, Stop, Then, Each, code_size}
 use Rattle.star_program.specs.Faults.{target_of}
-use Rattle.star_compile_laws.specs.Compiled.{Env, Rest, Rests, one_before, beside, binary_code, column_code, start_of, end_behind, equal_code, find_code, env_first, loaded_in, found_in, one_more, with_loaded, with_found, foreign_of, fact_code, row_code, place_code, column_from, test_code, between_code, condition_code, expression_code, conjuncts_code, keys_code, values_code, put_code, body_code, write, load_code, writes_one, register_count}
+use Rattle.star_compile_laws.specs.Compiled.{Env, Rest, Rests, one_before, beside, binary_code, column_code, start_of, end_behind, equal_code, find_code, env_first, loaded_in}
+use Rattle.star_compile_laws.specs.Compiled.{found_in, one_more, with_loaded, with_found, foreign_of, fact_code, row_code, place_code, column_from, test_code, between_code}
+use Rattle.star_compile_laws.specs.Compiled.{condition_code, expression_code, conjuncts_code, keys_code, values_code, put_code, body_code, write, load_code, writes_one, register_count}
 use Rattle.star_compile_laws.specs.Looks.{one_if}
 use Rattle.star_compile_laws.proofs.Entries.{missing, entry_falls}
 
@@ -198,11 +200,13 @@ module _ (js : List Join) where
   of_condition : (c : RowCondition) → AddsLess (6 * comparisons_of c) (condition_code js c)
   of_condition (or a b) env k m h =
       of_binary (condition_code js a) (condition_code js b) operator.Or (6 * comparisons_of a)
-      (6 * comparisons_of b) (6 * (comparisons_of a + comparisons_of b)) (omega arith) (of_condition a)
+      (6 * comparisons_of b) (6 * (comparisons_of a + comparisons_of b)) (omega arith)
+      (of_condition a)
       (of_condition b) env k m h
   of_condition (and a b) env k m h =
       of_binary (condition_code js a) (condition_code js b) operator.And (6 * comparisons_of a)
-      (6 * comparisons_of b) (6 * (comparisons_of a + comparisons_of b)) (omega arith) (of_condition a)
+      (6 * comparisons_of b) (6 * (comparisons_of a + comparisons_of b)) (omega arith)
+      (of_condition a)
       (of_condition b) env k m h
   of_condition (not a) env k m h =
       omega (
@@ -267,7 +271,8 @@ module _ (js : List Join) where
   of_measure : (x : Measure ColumnId) (a : Expression ColumnId) (ms : List (Measure ColumnId))
       → measure_operands x ≡ operands_of a
       → Adds (2 * sum_by measure_operands ms) (values_code js ms)
-      → Adds (2 * sum_by measure_operands (x ∷ ms)) (one_before (expression_code js a) (values_code js ms))
+      → Adds (2 * sum_by measure_operands (x ∷ ms))
+      (one_before (expression_code js a) (values_code js ms))
   of_measure x a ms operands rest env k m h =
       omega (
         arith,
@@ -277,7 +282,8 @@ module _ (js : List Join) where
             (2 * sum_by measure_operands ms) (of_value a) rest env k m h,
       )
 
-  of_values : (ms : List (Measure ColumnId)) → Adds (2 * sum_by measure_operands ms) (values_code js ms)
+  of_values : (ms : List (Measure ColumnId))
+      → Adds (2 * sum_by measure_operands ms) (values_code js ms)
   of_values [] env k m h = omega (arith, h env [])
   of_values (count ∷ ms) env k m h =
       omega (arith, sum_by-cons measure_operands count ms, of_values ms env k m h)

@@ -28,7 +28,8 @@ use Rattle.star_program.specs.Faults.{fault_of}
 use Rattle.star_program.specs.Effects.{State, loaded, kinds_in}
 use Rattle.star_program.specs.Private.Doing.{sets_found}
 use Rattle.star_program.specs.Run.{End, Ended, follow, meaning}
-use Rattle.star_compile_laws.specs.Compiled.{Env, Rest, loaded_in, found_in, with_loaded, with_found, write, load_code, find_code, foreign_of, fact_code, row_code, place_code, column_from, column_code, test_code, between_code, condition_code, expression_code}
+use Rattle.star_compile_laws.specs.Compiled.{Env, Rest, loaded_in, found_in, with_loaded, with_found, write, load_code, find_code, foreign_of, fact_code}
+use Rattle.star_compile_laws.specs.Compiled.{row_code, place_code, column_from, column_code, test_code, between_code, condition_code, expression_code}
 use Rattle.star_compile_laws.proofs.TurnRows.{Shows, IsTurn}
 use Rattle.star_compile_laws.proofs.Entries.{entry_same, entry_other, entry_known}
 use Rattle.star_compile_laws.proofs.Joins.{holds_numbers}
@@ -112,7 +113,8 @@ module _ (w : World) (f : Parts) (may : ℕ → Bool) (at : TableId → ℕ) whe
         → found_in env.found t ≡ o → (n : ℕ) (regs : Registers) (s e : State)
         → Knows w f may at env regs
         → meaning w f may (row_code js t env k o) n true regs s ≡ Ended e
-        → Reached w f may at (At w f may at (Row t (at t))) k env regs s e (ahead s (row_code js t env k o))
+        → Reached w f may at (At w f may at (Row t (at t))) k env regs s e
+        (ahead s (row_code js t env k o))
     row_runs t j k env (Some r) p n regs s e knows h =
         reached w f may at (At w f may at (Row t (at t))) k env r n regs s e knows
         (knows.rows t r p) h
@@ -152,7 +154,8 @@ module _ (w : World) (f : Parts) (may : ℕ → Bool) (at : TableId → ℕ) whe
         → is_table (table_of c) Lineorder ≡ b → (b || joins_table js (table_of c)) ≡ true
         → (n : ℕ) (regs : Registers) (s e : State) → Knows w f may at env regs
         → meaning w f may (place_code js c env k b) n true regs s ≡ Ended e
-        → Reached w f may at (At w f may at (here c)) k env regs s e (ahead s (place_code js c env k b))
+        → Reached w f may at (At w f may at (here c)) k env regs s e
+        (ahead s (place_code js c env k b))
     place_runs c k env true p j n regs s e knows h =
         load_runs c 0 k env n regs s e knows
         (ap row_read knows.fact ∙ ap at (sym (table_same (table_of c) Lineorder p))) h
@@ -167,7 +170,8 @@ module _ (w : World) (f : Parts) (may : ℕ → Bool) (at : TableId → ℕ) whe
         → loaded_in env.loaded c ≡ o → in_scope js (table_of c) ≡ true
         → (n : ℕ) (regs : Registers) (s e : State) → Knows w f may at env regs
         → meaning w f may (column_from js c env k o) n true regs s ≡ Ended e
-        → Reached w f may at (At w f may at (here c)) k env regs s e (ahead s (column_from js c env k o))
+        → Reached w f may at (At w f may at (here c)) k env regs s e
+        (ahead s (column_from js c env k o))
     column_from_runs c k env (Some r) p j n regs s e knows h =
         reached w f may at (At w f may at (here c)) k env r n regs s e knows (knows.columns c r p) h
     column_from_runs c k env None p j n regs s e knows h =
@@ -200,7 +204,8 @@ module _ (w : World) (f : Parts) (may : ℕ → Bool) (at : TableId → ℕ) whe
         let p =
         column_runs js row turn c oks.0 (λ e x. test_code q c x v e k) env n regs s e knows h in
         chained w f may at p (test_runs w f may at c p.out k p.env' p.n p.regs' p.s' e p.knows
-        p.says.0 q (at (table_of c)) (joined_value c row) v (turn.shows c oks.0) oks.1 p.says.1 p.goes)
+        p.says.0 q (at (table_of c)) (joined_value c row) v (turn.shows c oks.0) oks.1 p.says.1
+        p.goes)
     condition_runs (test (between c a b)) ok = λ k env n regs s e knows h.
         let oks =
         and_parts (in_scope js (table_of c))
@@ -226,7 +231,8 @@ module _ (w : World) (f : Parts) (may : ℕ → Bool) (at : TableId → ℕ) whe
     expression_runs (column c) ok =
         let oks = and_parts (in_scope js (table_of c)) (same_kind (kind_of c) kind.Number) ok in
         subst (λ v. Runs w f may at (At w f may at v) (column_code js c))
-        (shown_number c (at (table_of c)) (joined_value c row) (is_text c) refl (holds_numbers c oks.1)
+        (shown_number c (at (table_of c)) (joined_value c row) (is_text c) refl
+        (holds_numbers c oks.1)
         (turn.shows c oks.0))
         (column_runs js row turn c oks.0)
     expression_runs (constant z) ok =

@@ -139,7 +139,8 @@ module _ (w : World) (f : Parts) (may : ℕ → Bool) (at : TableId → ℕ) (p 
       (λ flags. ahead q.s' (Then (Keep q.out) rest) (flags_of (c ∷ cs) ++ flags))
       (λ flags. q.looked (flags_of (c ∷ cs) ++ flags))
       (kept_by (holds c row) (all_hold cs row) (flags_of cs) k q.out rest q.env' q.n q.regs' q.s' e
-      (subst (λ o. follow q.n (keeps q.regs' q.s' (flag_read o)) (meaning w f may rest (q.n + 1) true)
+      (subst (λ o. follow q.n (keeps q.regs' q.s' (flag_read o))
+      (meaning w f may rest (q.n + 1) true)
       ≡ Ended e) q.says.1 g)
       (conjuncts_run cs oks.1 k q.env' (q.n + 1) q.regs' q.s' e q.knows))
 
@@ -197,7 +198,8 @@ module _ (w : World) (f : Parts) (may : ℕ → Bool) (at : TableId → ℕ) (p 
   values_of (count ∷ ms) = values_of ms
   values_of (fold f a ∷ ms) = Number (expression_number a row) ∷ values_of ms
 
-  value_runs : (a : Expression ColumnId) (ms : List (Measure ColumnId)) → expression_is_sound p.joins a ≡ true
+  value_runs : (a : Expression ColumnId) (ms : List (Measure ColumnId))
+      → expression_is_sound p.joins a ≡ true
       → Runs w f may at (Stand (values_of ms)) (values_code p.joins ms)
       → Runs w f may at (Stand (Number (expression_number a row) ∷ values_of ms))
       (one_before (expression_code p.joins a) (values_code p.joins ms))
@@ -219,7 +221,8 @@ module _ (w : World) (f : Parts) (may : ℕ → Bool) (at : TableId → ℕ) (p 
   -- ---- the put
 
   key_shown : (c : ColumnId) (v : held.Value) (b : Bool) → is_text c ≡ b
-      → Shows w c (at (table_of c)) v → key_read (Some (loaded w c (at (table_of c)) b)) ≡ coded w c v
+      → Shows w c (at (table_of c)) v
+      → key_read (Some (loaded w c (at (table_of c)) b)) ≡ coded w c v
   key_shown c (held.Number z) false q shows = ap key.Number shows.1
   key_shown c (held.Text v) true q shows = ap key.Code shows.1.place
   key_shown c (held.Number z) true q shows = let a : true ≡ false = sym q ∙ shows.0 in absurd (cc)
@@ -233,7 +236,8 @@ module _ (w : World) (f : Parts) (may : ℕ → Bool) (at : TableId → ℕ) (p 
       let oks =
       and_parts (in_scope p.joins (table_of c)) (list_all (λ c. in_scope p.joins (table_of c)) cs)
       ok in
-      λ i. (ap key_read q.1 ∙ key_shown c (joined_value c row) (is_text c) refl (turn.shows c oks.0)) i
+      λ i. (ap key_read q.1 ∙ key_shown c (joined_value c row) (is_text c) refl
+      (turn.shows c oks.0)) i
       ∷ keys_stand cs oks.1 rs next regs q.2 i
   keys_stand [] ok (r ∷ rs) next regs q = absurd q
   keys_stand (c ∷ cs) ok [] next regs q = absurd q
@@ -321,7 +325,8 @@ module _ (w : World) (f : Parts) (may : ℕ → Bool) (at : TableId → ℕ) (p 
       (stand_kept (map (here w f may at) p.keys) r.out r.env'.next t.env'.next r.regs' t.regs'
       t.onward t.kept r.says) t.says t.goes in
       record {
-        put = u.put ∙ ap (λ us. with_update us 0 (update_of_row w p row)) (t.same ∙ r.same ∙ q.same);
+        put = u.put ∙ ap (λ us. with_update us 0 (update_of_row w p row))
+            (t.same ∙ r.same ∙ q.same);
         visits = u.visits ∙ t.visits ∙ r.visits ∙ q.visits;
         updates = u.updates ∙ ap (λ n. n + 1) (t.updates ∙ r.updates ∙ q.updates);
         looked = u.lookups ∙ sym (add-zero t.s'.lookups) ∙ t.looked [] ∙ r.looked [] ∙ q.looked [];

@@ -119,7 +119,13 @@ module _ (w : World) (most : ℕ) (p : Plan) where
         → IsOverflow (first_refusal w most (compiled p))
     over_when o (inl h) e wide = absurd (wide (accepted_fits (e ∙ ap (option_map Refused) h.0)))
     over_when o (inr h) e wide =
-        let over = h.0 in (over.0, over.1.low, over.1.high, over.2, e ∙ ap (option_map Refused) over.3)
+        let over = h.0 in (
+          over.0,
+          over.1.low,
+          over.1.high,
+          over.2,
+          e ∙ ap (option_map Refused) over.3,
+        )
 
     pub overflows : rows ≤ most → (Fits rows most w.bounds p → ⊥)
         → IsOverflow (first_refusal w most (compiled p))

@@ -10,19 +10,21 @@ use Rattle.star_schema.specs.Loadable.{keys_of}
 use Rattle.star_schema.specs.Schema.{column_of, place_of}
 use Rattle.star_schema.specs.Tables.{Number, Text}
 use Rattle.star_schema.specs.Texts.{texts_at}
-use Rattle.std.specs.Prelude.{codes, if◌then◌else◌}
+use Rattle.std.specs.Prelude.{codes, false, if◌then◌else◌, nat_eq}
 use Rattle.star_interval.specs.Range.{Range, is_i64, is_i128, only}
 use Rattle.star_query.specs.declared.token.Relation.TheVariants.{AtMost, Less}
 use Rattle.star_query.specs.Tree.{add, column, mul}
 use Rattle.star_plan.specs.Meaning.{Plan}
 use Rattle.star_program.specs.Run.{End, Ended, run_of}
+use Rattle.star_program.specs.declared.op.Operation.TheVariants.{Binary}
+use Rattle.star_program.specs.declared.op.Operator.TheVariants.{Sub}
 use Rattle.star_program.specs.World.{is_text}
 use Rattle.star_safety.specs.declared.reason.Reached.{Reached}
 use Rattle.star_safety.specs.declared.reason.Reason.TheVariants.{Overflow}
 use Rattle.star_world.specs.WorldOf.{world_of}
 use Rattle.star_compile_laws.specs.Compiled.{compiled}
 use Rattle.star_compile_laws.specs.Counts.{lookups_of}
-use Rattle.star_compile_laws.specs.Wide.{turn_wide}
+use Rattle.star_compile_laws.specs.Wide.{Computed, computed, given, turn_wide}
 use Rattle.star_compile_laws.proofs.PlanWords.{compare, summed}
 use Rattle.star_compile_laws.proofs.Plans.{q11}
 use Rattle.star_compile_laws.proofs.WorkedAnswers.{by_nation, few}
@@ -117,7 +119,15 @@ unfolding column_of is_i64
 one_more = refl
 
 -- a text has no range
-no_numbers : turn_wide (λ c. if is_text c then record { low = pos 0; high = pos (2 ^ 64) } else only (pos 0))
+no_numbers : turn_wide (λ c.
+    if is_text c then record { low = pos 0; high = pos (2 ^ 64) } else only (pos 0))
     by_nation ≡ None
 unfolding column_of is_i64
 no_numbers = refl
+
+-- of 7 less 3
+abbrev seven_less_three : Computed
+seven_less_three = computed discounted (λ r. if nat_eq r 0 then given (pos 7) else given (pos 3)) (Binary Sub 0 1)
+
+difference : (seven_less_three.range ≡ only (pos 4)) × (seven_less_three.columns LoDiscount ≡ false)
+difference = (refl, refl)

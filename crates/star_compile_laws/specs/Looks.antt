@@ -22,8 +22,8 @@ abbrev pub one_if : Bool → ℕ
 one_if b = if b then 1 else 0
 
 -- how many instructions make what passes a test, those of scans among them
-abbrev pub times : (Operation → Bool) → Code → ℕ
-times test Stop = 0
-times test (Then (Assign t o) rest) = one_if (test o) + times test rest
-times test (Then _ rest) = times test rest
-times test (Each t r body rest) = times test body + times test rest
+abbrev pub times_made : (Operation → Bool) → Code → ℕ
+times_made test Stop = 0
+times_made test (Then (Assign t o) rest) = one_if (test o) + times_made test rest
+times_made test (Then _ rest) = times_made test rest
+times_made test (Each t r body rest) = times_made test body + times_made test rest

@@ -14,7 +14,7 @@ ghost use Rattle.star_program.specs.ShowLines.{shown_fault};
 ghost use Rattle.star_program.specs.Text.Spellable.{IsSpellable};
 ghost use Rattle.star_safety.specs.Quote.{quote};
 ghost use Rattle.star_compile_laws.specs.Compiled.{compiled};
-ghost use Rattle.star_compile_laws.specs.Looks.{finds, loads, times};
+ghost use Rattle.star_compile_laws.specs.Looks.{finds, loads, times_made};
 
 /// A compiled plan is a program: within the limits, of a report that names what is there, and
 /// spelled by some text. It has far fewer instructions than a program may have.
@@ -35,7 +35,7 @@ pub fn compiled_programs_visit_each_row_once()
 /// dimension once.
 pub fn compiled_programs_look_once()
     ensures columns { (p : Plan) (c : ColumnId)
-        → IsSoundPlan p → times (loads c) (compiled p).body ≤ 1 }
+        → IsSoundPlan p → times_made (loads c) (compiled p).body ≤ 1 }
     ensures rows { (p : Plan) (t : TableId)
-        → IsSoundPlan p → times (finds t) (compiled p).body ≤ 1 }
+        → IsSoundPlan p → times_made (finds t) (compiled p).body ≤ 1 }
 {}

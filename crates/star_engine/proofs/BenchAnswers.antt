@@ -13,15 +13,14 @@ use Rattle.star_engine.specs.declared.fault.EngineFault.TheVariants as engine
 use Rattle.star_engine.specs.declared.thirteen.BenchmarkQuery.{BenchmarkQuery}
 use Rattle.star_engine.specs.declared.thirteen.BenchmarkQuery.TheVariants.{Q11}
 use Rattle.star_engine.specs.declared.thirteen.TheConstants.{THIRTEEN}
-use Rattle.star_engine.specs.Answered.{Change, IsAnswered}
+use Rattle.star_engine.specs.Answered.{Change, IsAnswered, IsWritten}
 use Rattle.star_engine.specs.Bench.{AreSections, IsBenchOver, IsFinding, IsSection, named_quote}
 use Rattle.star_engine.specs.Executions.{quote_over}
 use Rattle.star_engine.specs.Notes.{quote_line}
 use Rattle.star_engine.specs.Queries.{FitsRows, IsPlanOf, fact_rows}
 use Rattle.star_engine.specs.Thirteen.{query_name, query_text}
-use Rattle.star_engine.specs.Private.BenchSteps.{AreSectionsOver, ArePrepared, IsFound, IsSectionOver}
+use Rattle.star_engine.specs.Private.BenchSteps.{AreSectionsOver, ArePrepared, IsRunFound, IsSectionOver}
 use Rattle.star_engine.specs.Private.QuerySteps.{IsProgramOfQuery}
-use Rattle.star_engine.specs.Private.Steps.{IsWritten}
 use Rattle.star_engine.proofs.QueryAnswers.{IsJudged, refusal_told}
 
 -- ---- verdicts
@@ -42,7 +41,7 @@ module _ (most : ℕ) (database : Database)
     (judged : (query : List ℕ) (p : Plan) → IsPlanOf query p → IsJudged most database query p) where
   -- what is found of a query's program
   found_told : (query : List ℕ) (p : Plan) → IsPlanOf query p → (fits : Bool) (text : List ℕ)
-      → IsFound database most (compiled p) fits text → IsFinding most database query text
+      → IsRunFound database most (compiled p) fits text → IsFinding most database query text
   found_told query p meant true text (outcome, run, printed) =
       let laws = judged query p meant in
       inl (
@@ -57,7 +56,7 @@ module _ (most : ℕ) (database : Database)
       )
 
   judgement : (query : List ℕ) (p : Plan) → IsPlanOf query p → (fits : Bool) (text : List ℕ)
-      → IsFound database most (compiled p) fits text → IsTrue fits ↔ FitsRows most database query
+      → IsRunFound database most (compiled p) fits text → IsTrue fits ↔ FitsRows most database query
   judgement query p meant true text (outcome, run, printed) =
       ((λ is. (judged query p meant).accepted.1 run.accepted), (λ fits. refl))
   judgement query p meant false text (refusal, refused, printed) =
@@ -67,8 +66,8 @@ module _ (most : ℕ) (database : Database)
   module _ (q : BenchmarkQuery) (x : Prepared) (named : x.query ≡ q)
       (is : IsProgramOfQuery (query_text q) x.program) (fits : Bool) (section : List ℕ)
       (over : IsSectionOver database most x fits section) where
-    finding : IsFound database most (compiled is.p) fits over.found
-    finding = subst (λ made. IsFound database most made fits over.found) is.made over.finding
+    finding : IsRunFound database most (compiled is.p) fits over.found
+    finding = subst (λ made. IsRunFound database most made fits over.found) is.made over.finding
 
     quoted : quote_over database x.program ≡ fact_rows database
     quoted = ap (quote_over database) is.made ∙ (judged (query_text q) is.p is.meant).quoted
@@ -124,5 +123,6 @@ pub unwritten : {S A : Type 0} (sink : Change S) (text : List ℕ) (IsText : Lis
     (IsDue : EngineFault → Type 0) (result : Result A EngineFault) (fault : EngineFault)
     → result ≡ Err fault → IsText text → IsWritten sink text (Err fault)
     → IsAnswered sink IsText IsDue result
-unwritten sink text IsText IsDue result (engine.Write sent) is due section = rw is (text, due, section)
+unwritten sink text IsText IsDue result (engine.Write sent) is due section =
+    rw is (text, due, section)
 unwritten sink text IsText IsDue result _ is due section = absurd section

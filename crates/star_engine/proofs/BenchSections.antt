@@ -34,7 +34,8 @@ pub one_section : (database : Database) (most : ℕ) (all left more : List Prepa
     (fits one now : Bool) (text section : List ℕ) → left ≡ x ∷ more → now ≡ fits && one
     → IsSectionOver database most x one section → GoesOn database most all left fits text
     → GoesOn database most all more now (text ++ section)
-one_section database most all left more x fits one now text section first both is goes fit rest others =
+one_section database most all left more x fits one now text section first both is goes fit rest
+    others =
     let whole =
     goes (one && fit) (section ++ rest)
     (subst (λ xs. AreSectionsOver database most xs (one && fit) (section ++ rest)) (sym first)
@@ -62,7 +63,8 @@ pub one_prepared : (qs : List BenchmarkQuery) (i : ℕ) (q : BenchmarkQuery) (x 
     (made now : List Prepared) → slice_get qs i ≡ Some q → x.query ≡ q
     → IsProgramOfQuery (query_text q) x.program → now ≡ made ++ x ∷ []
     → ((others : List Prepared) → ArePrepared (drop i qs) others → ArePrepared qs (made ++ others))
-    → (others : List Prepared) → ArePrepared (drop (i + 1) qs) others → ArePrepared qs (now ++ others)
+    → (others : List Prepared) → ArePrepared (drop (i + 1) qs) others
+    → ArePrepared qs (now ++ others)
 one_prepared qs i q x made now at named is pushed goes others rest =
     let whole =
     goes (x ∷ others)

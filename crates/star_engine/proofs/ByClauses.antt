@@ -8,7 +8,8 @@ use Rattle.star_engine.specs.Noted.{HasTold, IsNoted, IsTellingBrokenOff, IsTell
 
 -- ---- a text
 
-module _ {S A : Type 0} (sink : Change S) (IsText : List ℕ → Type 0) (IsDue : EngineFault → Type 0) where
+module _ {S A : Type 0} (sink : Change S) (IsText : List ℕ → Type 0)
+    (IsDue : EngineFault → Type 0) where
   pub has_written : (result : Result A EngineFault) → IsAnswered sink IsText IsDue result
       → OnOk result (HasWritten sink IsText)
   has_written (Ok answer) answered = answered

@@ -10,7 +10,8 @@ use Rattle.star_engine.specs.Loads.{HoldsOfRows}
 use Rattle.star_engine.specs.Noted.{IsNoted, Telling}
 use Rattle.star_engine.proofs.NotedAs.{noted_as}
 
--- what is answered of one text is answered of another, where all that is due of the one is due of the
+-- what is answered of one text is answered of another, where all that is due of the one is due of
+-- the
 -- other
 pub answered_as : {S A : Type 0} (sink : Change S) (IsText OtherText : List ℕ → Type 0)
     (IsDue OtherDue : EngineFault → Type 0) (result : Result A EngineFault)

@@ -66,7 +66,8 @@ means text w = record {
   short = w.short;
   tokens = tokens_in (cut_of text);
   cut = cut_is (cut_of text) w.cut;
-  derives = derives (symbols (tokens_in (cut_of text))) (query_in (verdict text)) (whole_is (verdict text) w.whole);
+  derives = derives (symbols (tokens_in (cut_of text))) (query_in (verdict text))
+      (whole_is (verdict text) w.whole);
 }
 
 pub are_named : (text : List ℕ) → IsWorked text → (tree : Tree) → Means text tree → IsWellNamed tree

@@ -1,4 +1,5 @@
--- What is answered with notes of one thing is answered of another, where all that is due of the one is
+-- What is answered with notes of one thing is answered of another, where all that is due of the one
+-- is
 -- due of the other.
 use Rattle.std.proofs.Common.{ℕ, List, inl, inr}
 use Rattle.std.specs.Prelude.{Result, Ok, Err}

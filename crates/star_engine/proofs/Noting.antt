@@ -6,14 +6,14 @@ use Rattle.std.proofs.Math.Seq.{take-append-add}
 use Rattle.std.proofs.lemmas.List.{length-append}
 use Rattle.star_engine.specs.declared.fault.EngineFault.{EngineFault}
 use Rattle.star_engine.specs.declared.fault.EngineFault.TheVariants.{OutOfMemory, Write}
-use Rattle.star_engine.specs.Answered.{Change, HasGained, HasGainedPart, IsUntouched, change}
+use Rattle.star_engine.specs.Answered.{Change, HasGained, HasGainedPart, IsUntouched, IsWritten, change}
 use Rattle.star_engine.specs.Noted.{BeforeTheReport, BehindTheReport, InTheReport, IsNoted, Telling}
-use Rattle.star_engine.specs.Private.Steps.{IsDelivered, IsPart, IsWritten}
+use Rattle.star_engine.specs.Private.Steps.{AreBothWritten, IsPart}
 
 -- the report was not sent whole, and no note is written behind it
 pub report_broken : {S N : Type 0} (out : Change S) (notes : Change N) (text report done : List ℕ)
     (fault : EngineFault) → text ≡ report → IsWritten out text (Err fault) → IsUntouched notes
-    → IsDelivered out notes report done (Err fault)
+    → AreBothWritten out notes report done (Err fault)
 report_broken out notes text report done (Write sent) is part same =
     inl (subst (λ t. HasGainedPart out t sent) is part, same)
 report_broken out notes text report done _ is part same = absurd part
@@ -33,7 +33,8 @@ gained_both : {N : Type 0} (contents : N → Option (List ℕ)) (is_failed : N �
     → HasGained (change contents is_failed mid new) second
     → HasGained (change contents is_failed old new) (first ++ second)
 gained_both contents is_failed old mid new first second h k = record {
-  gained = Appends-trans (contents old) (contents mid) (contents new) first second h.gained k.gained;
+  gained = Appends-trans (contents old) (contents mid) (contents new) first second h.gained
+      k.gained;
   not_failed = k.not_failed;
 }
 
@@ -44,7 +45,8 @@ gained_part : {N : Type 0} (contents : N → Option (List ℕ)) (is_failed : N �
 gained_part contents is_failed old mid new first second noted h k = record {
   part = omega (arith, length-append first second, k.part);
   gained = rw (take-append-add first second noted)
-      (Appends-trans (contents old) (contents mid) (contents new) first (take noted second) h.gained k.gained);
+      (Appends-trans (contents old) (contents mid) (contents new) first (take noted second) h.gained
+      k.gained);
   failed = k.failed;
 }
 
@@ -54,17 +56,34 @@ pub delivered : {S N : Type 0} (out : Change S) (contents : N → Option (List �
     (IsDue : EngineFault → Type 0) (telling : Telling) (result : Result (Unit {0}) EngineFault)
     → IsQuote telling.quoted → IsTold telling
     → HasGained (change contents is_failed old mid) telling.quoted
-    → IsDelivered out (change contents is_failed mid new) telling.report telling.done result
+    → AreBothWritten out (change contents is_failed mid new) telling.report telling.done result
     → IsNoted out (change contents is_failed old new) IsQuote IsTold IsDue result
-delivered out contents is_failed old mid new IsQuote IsTold IsDue telling (Ok answer) quote told noted sent =
-    (telling, told, sent.0, gained_both contents is_failed old mid new telling.quoted telling.done noted sent.1)
-delivered out contents is_failed old mid new IsQuote IsTold IsDue telling (Err OutOfMemory) quote told noted sent =
-    (sent.0, inr (telling.quoted, quote, subst (λ n. HasGained (change contents is_failed old n) telling.quoted) (sym sent.1) noted))
-delivered out contents is_failed old mid new IsQuote IsTold IsDue telling (Err (Write count)) quote told noted sent =
+delivered out contents is_failed old mid new IsQuote IsTold IsDue telling (Ok answer) quote told
+    noted sent = (
+      telling,
+      told,
+      sent.0,
+      gained_both contents is_failed old mid new telling.quoted telling.done
+          noted sent.1,
+    )
+delivered out contents is_failed old mid new IsQuote IsTold IsDue telling (Err OutOfMemory) quote
+    told noted sent = (
+      sent.0,
+      inr (
+        telling.quoted,
+        quote,
+        subst (λ n. HasGained (change contents is_failed old n) telling.quoted) (sym sent.1) noted,
+      ),
+    )
+delivered out contents is_failed old mid new IsQuote IsTold IsDue telling (Err (Write count)) quote
+    told noted sent =
     elim sent [
       | inl p ↦ InTheReport telling told
-          (subst (λ n. HasGained (change contents is_failed old n) telling.quoted) (sym p.1) noted) p.0
+          (subst (λ n. HasGained (change contents is_failed old n) telling.quoted) (sym p.1) noted)
+          p.0
       | inr p ↦ BehindTheReport telling told (length telling.quoted + p.2.0) (omega arith)
-          (gained_part contents is_failed old mid new telling.quoted telling.done p.2.0 noted p.2.1) p.0 p.1
+          (gained_part contents is_failed old mid new telling.quoted telling.done p.2.0 noted p.2.1)
+          p.0 p.1
     ]
-delivered out contents is_failed old mid new IsQuote IsTold IsDue telling (Err _) quote told noted sent = absurd sent
+delivered out contents is_failed old mid new IsQuote IsTold IsDue telling (Err _) quote told noted
+    sent = absurd sent

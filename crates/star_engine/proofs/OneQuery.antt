@@ -1,5 +1,5 @@
 -- What is told of a query is one, and so is its fault; where it is told, no fault is due.
-use Rattle.std.proofs.Common.{◌≡◌, ◌≢◌, ◌∙◌, ◌≤◌, ◌<◌, ℕ, List, Some, None, ap, subst, sym, inl, inr, ◌⊎◌, arith}
+use Rattle.std.proofs.Common.{◌≡◌, ◌≢◌, ◌∙◌, ◌≤◌, ◌<◌, ℕ, List, Some, None, ap, subst, sym, inl, inr, ◌⊎◌}
 use Rattle.std.specs.Prelude.{length, nat_le}
 use Rattle.std.specs.Option.{option_map}
 use Rattle.std.proofs.lemmas.Bool.{leb-false, leb-true}
@@ -39,7 +39,8 @@ use Rattle.star_engine.specs.Queries.{IsPlanFault, IsPlanOf, IsQuery, IsQueryFau
 -- ---- what is told
 
 plan_is_one : (query : List ℕ) (p q : Plan) → IsPlanOf query p → IsPlanOf query q → p ≡ q
-plan_is_one query p q h k = one_plan_of_a_text query h.tree k.tree p q h.means k.means h.resolved k.resolved
+plan_is_one query p q h k =
+    one_plan_of_a_text query h.tree k.tree p q h.means k.means h.resolved k.resolved
 
 pub telling_is_one : (visits : ℕ) (database : Database) (query : List ℕ) (telling other : Telling)
     → IsQueryToldOver visits database query telling → IsQueryToldOver visits database query other
@@ -62,19 +63,22 @@ telling_is_one visits database query telling other h k =
 
 no_text_fault : (query : List ℕ) (tree : Tree) (fault : QueryFault) → Means query tree
     → IsQueryFault query fault → ⊥
-no_text_fault query tree fault means is = texts.no_fault query tree fault is.not_memory means is.first
+no_text_fault query tree fault means is =
+    texts.no_fault query tree fault is.not_memory means is.first
 
 no_name_fault : (query : List ℕ) (tree : Tree) (fault : PlanFault) → Means query tree
     → IsWellNamed tree → IsPlanFault query fault → ⊥
 no_name_fault query tree fault means named is =
     let same : tree ≡ is.tree = one_meaning query tree is.tree means is.means in
-    let none : plan_fault is.tree ≡ None = subst (λ t. plan_fault t ≡ None) same (names.no_fault tree named) in
+    let none : plan_fault is.tree ≡ None =
+    subst (λ t. plan_fault t ≡ None) same (names.no_fault tree named) in
     let first = is.first in absurd (cc)
 
 pub told_is_answered : (visits : ℕ) (database : Database) (query : List ℕ) (telling : Telling)
     (fault : EngineFault) → IsQueryToldOver visits database query telling
     → IsUnansweredOver visits database query fault → ⊥
-told_is_answered visits database query telling (engine.Refused refused) told due = due.unfit told.fitting
+told_is_answered visits database query telling (engine.Refused refused) told due =
+    due.unfit told.fitting
 told_is_answered visits database query telling (engine.Query fault) told due =
     no_text_fault query told.fitting.tree fault told.fitting.means due
 told_is_answered visits database query telling (engine.Plan fault) told due =
@@ -85,7 +89,8 @@ pub told_of_texts_is_answered : (rows visits : ℕ) (texts : TableTexts) (query 
     (telling : Telling) (fault : EngineFault) → IsQueryTold rows visits texts query telling
     → IsUnanswered rows visits texts query fault → ⊥
 told_of_texts_is_answered rows visits texts query telling (engine.Refused refused) told due =
-    told_is_answered visits (database_of texts) query telling (engine.Refused refused) told.holds due.holds
+    told_is_answered visits (database_of texts) query telling (engine.Refused refused) told.holds
+    due.holds
 told_of_texts_is_answered rows visits texts query telling (engine.Load fault) told due =
     due.1.not_loadable told.loadable
 told_of_texts_is_answered rows visits texts query telling (engine.Query fault) told due =
@@ -96,10 +101,13 @@ told_of_texts_is_answered rows visits texts query telling _ told due = due
 
 -- ---- one fault
 
-query_fault_is_one : (query : List ℕ) (a b : QueryFault) → IsQueryFault query a → IsQueryFault query b → a ≡ b
-query_fault_is_one query a b h k = texts.one_fault query a b h.not_memory k.not_memory h.first k.first
+query_fault_is_one : (query : List ℕ) (a b : QueryFault) → IsQueryFault query a
+    → IsQueryFault query b → a ≡ b
+query_fault_is_one query a b h k =
+    texts.one_fault query a b h.not_memory k.not_memory h.first k.first
 
-plan_fault_is_one : (query : List ℕ) (a b : PlanFault) → IsPlanFault query a → IsPlanFault query b → a ≡ b
+plan_fault_is_one : (query : List ℕ) (a b : PlanFault) → IsPlanFault query a → IsPlanFault query b
+    → a ≡ b
 plan_fault_is_one query a b h k =
     let same = one_meaning query h.tree k.tree h.means k.means in
     let first : plan_fault k.tree ≡ Some a = subst (λ t. plan_fault t ≡ Some a) same h.first in
@@ -113,9 +121,11 @@ refused_same : (a b : ℕ × Reason) → a ≡ b → refusal.Refused a.0 a.1 ≡
 refused_same a b same = ap (λ (r : ℕ × Reason). refusal.Refused r.0 r.1) same
 
 -- two refusals that say the same are the same, where they say something
-shown_is_one : (a b : Refusal) (x : admissible.Refusal) → refusal_view a ≡ Some x → refusal_view b ≡ Some x → a ≡ b
+shown_is_one : (a b : Refusal) (x : admissible.Refusal) → refusal_view a ≡ Some x
+    → refusal_view b ≡ Some x → a ≡ b
 shown_is_one (refusal.TooCostly u) (refusal.TooCostly v) x h k = cc
-shown_is_one (refusal.Refused at reason) (refusal.Refused other why) x h k = refused_same (at, reason) (other, why) (cc)
+shown_is_one (refusal.Refused at reason) (refusal.Refused other why) x h k =
+    refused_same (at, reason) (other, why) (cc)
 shown_is_one (refusal.BadShow a) (refusal.BadShow b) x h k = cc
 shown_is_one refusal.OutOfMemory b x h k = absurd (cc)
 shown_is_one (refusal.TooCostly u) _ x h k = absurd (cc)
@@ -172,7 +182,8 @@ loaded_fault : (rows visits : ℕ) (texts : TableTexts) (query : List ℕ) (load
     → IsUnanswered rows visits texts query fault → engine.Load load ≡ fault
 loaded_fault rows visits texts query load (engine.Load other) is h k =
     ap (λ f. engine.Load f) (load_fault_is_one rows texts load other h k.1)
-loaded_fault rows visits texts query load (engine.Refused refused) is h k = absurd (h.not_loadable k.loadable)
+loaded_fault rows visits texts query load (engine.Refused refused) is h k =
+    absurd (h.not_loadable k.loadable)
 loaded_fault rows visits texts query load (engine.Query fault) (p, meant) h k =
     absurd (no_text_fault query meant.tree fault meant.means k)
 loaded_fault rows visits texts query load (engine.Plan fault) (p, meant) h k =
@@ -184,13 +195,16 @@ over_rows : (rows visits : ℕ) (texts : TableTexts) (query : List ℕ) (fault :
     → ((load : LoadFault) → fault ≢ engine.Load load) → IsUnanswered rows visits texts query fault
     → IsUnansweredOver visits (database_of texts) query fault
 over_rows rows visits texts query (engine.Refused refused) none due = due.holds
-over_rows rows visits texts query (engine.Load load) none due = absurd (none load (λ i. engine.Load load))
+over_rows rows visits texts query (engine.Load load) none due =
+    absurd (none load (λ i. engine.Load load))
 over_rows rows visits texts query (engine.Query fault) none due = due
 over_rows rows visits texts query (engine.Plan fault) none due = due
 over_rows rows visits texts query _ none due = due
 
 -- whether a fault is of tables
-which : (fault : EngineFault) → ((load : LoadFault) × (fault ≡ engine.Load load)) ⊎ ((load : LoadFault) → fault ≢ engine.Load load)
+which : (fault : EngineFault)
+    → ((load : LoadFault) × (fault ≡ engine.Load load))
+    ⊎ ((load : LoadFault) → fault ≢ engine.Load load)
 which (engine.Load load) = inl (load, λ i. engine.Load load)
 which engine.OutOfMemory = inr (λ load e. cc)
 which (engine.Query f) = inr (λ load e. cc)
@@ -214,6 +228,7 @@ fault_of_texts_is_one rows visits texts query fault other h k =
             sym (of_load.1 ∙ loaded_fault rows visits texts query of_load.0 fault due.0 due.1 h))
         | inr other_no_load ↦
             fault_is_one visits (database_of texts) query fault other
-            (over_rows rows visits texts query fault no_load h) (over_rows rows visits texts query other other_no_load k)
+            (over_rows rows visits texts query fault no_load h)
+            (over_rows rows visits texts query other other_no_load k)
       ]
     ]

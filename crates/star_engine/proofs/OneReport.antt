@@ -1,4 +1,5 @@
--- A file's report over some tables is one, and so is what is told of its run; where it is told, no fault is due.
+-- A file's report over some tables is one, and so is what is told of its run; where it is told, no
+-- fault is due.
 use Rattle.std.proofs.Common.{◌≡◌, ◌∙◌, ℕ, List, subst, sym}
 use Rattle.star_schema.specs.Loadable.{database_of}
 use Rattle.star_schema.specs.Database.{Database, TableTexts}
@@ -25,17 +26,21 @@ use Rattle.star_engine.specs.Notes.{counts_line, quote_line}
 use Rattle.star_engine.specs.Trials.{IsBoundedReport}
 
 -- a run that comes to its end has one outcome
-yields_one : (w : World) (parts : Parts) (end : End) (a b : Outcome) → Yields w parts end a → Yields w parts end b → a ≡ b
+yields_one : (w : World) (parts : Parts) (end : End) (a b : Outcome) → Yields w parts end a
+    → Yields w parts end b → a ≡ b
 yields_one w parts end a b h k =
     let same : h.s ≡ k.s = cc (h.ended, k.ended) in
     one_outcome w parts k.s a b (subst (λ s. IsOutcome w parts s a) same h.told) k.told
 
-pub report_is_one : (database : Database) (file : List ℕ) (visits : ℕ) (report other : List ℕ) → IsBoundedReport database file visits report → IsBoundedReport database file visits other → report ≡ other
+pub report_is_one : (database : Database) (file : List ℕ) (visits : ℕ) (report other : List ℕ)
+    → IsBoundedReport database file visits report → IsBoundedReport database file visits other
+    → report ≡ other
 report_is_one database file visits report other h k =
     let w = world_of database in
     let program = one_program file h.program k.program h.of_file.spelled k.of_file.spelled in
     let yields = subst (λ p. Yields w p (bounded_run_of w visits p) h.outcome) program h.yields in
-    let outcome = yields_one w k.program (bounded_run_of w visits k.program) h.outcome k.outcome yields k.yields in
+    let outcome = yields_one w k.program (bounded_run_of w visits k.program) h.outcome k.outcome
+    yields k.yields in
     h.printed ∙ (λ i. report_text (outcome i).names (outcome i).rows) ∙ sym k.printed
 
 -- what is told of the program of a file is one
@@ -46,13 +51,16 @@ telling_is_one visits database file telling other h k =
     let w = world_of database in
     let program = one_program file h.program k.program h.of_file.spelled k.of_file.spelled in
     let yields = subst (λ p. Yields w p (run_of w p) h.holds.outcome) program h.holds.yields in
-    let outcome = yields_one w k.program (run_of w k.program) h.holds.outcome k.holds.outcome yields k.holds.yields in
+    let outcome = yields_one w k.program (run_of w k.program) h.holds.outcome k.holds.outcome yields
+    k.holds.yields in
     let quoted : telling.quoted ≡ other.quoted =
     h.holds.quoted ∙ (λ i. quote_line (quote_over database (program i))) ∙ sym k.holds.quoted in
     let report : telling.report ≡ other.report =
-    h.holds.reported ∙ (λ i. report_text (outcome i).names (outcome i).rows) ∙ sym k.holds.reported in
+    h.holds.reported ∙ (λ i. report_text (outcome i).names (outcome i).rows)
+    ∙ sym k.holds.reported in
     let done : telling.done ≡ other.done =
-    h.holds.done ∙ (λ i. counts_line (outcome i).visits (outcome i).lookups (outcome i).updates) ∙ sym k.holds.done in
+    h.holds.done ∙ (λ i. counts_line (outcome i).visits (outcome i).lookups (outcome i).updates)
+    ∙ sym k.holds.done in
     λ i. record { quoted = quoted i; report = report i; done = done i }
 
 -- ---- what is told is not refused
@@ -68,7 +76,8 @@ accepted_is_not_refused : (database : Database) (most : ℕ) (file : List ℕ) (
     → IsAcceptedWithin database most told → IsRefusal database most refused refusal → ⊥
 accepted_is_not_refused database most file told refused refusal h k accepted is =
     is.not_accepted
-    (subst (IsAcceptedWithin database most) (one_program file told refused h.spelled k.spelled) accepted)
+    (subst (IsAcceptedWithin database most) (one_program file told refused h.spelled k.spelled)
+    accepted)
 
 pub told_is_not_untold : (visits : ℕ) (database : Database) (file : List ℕ)
     (telling : Telling) (fault : EngineFault) → IsToldOver visits database file telling
@@ -89,5 +98,6 @@ told_of_texts_is_not_untold most visits texts file telling (Load fault) told due
 told_of_texts_is_not_untold most visits texts file telling (Program fault) told due =
     told_is_not_untold visits (database_of texts) file telling (Program fault) told.holds due
 told_of_texts_is_not_untold most visits texts file telling (Refused refusal) told due =
-    told_is_not_untold visits (database_of texts) file telling (Refused refusal) told.holds due.holds
+    told_is_not_untold visits (database_of texts) file telling (Refused refusal) told.holds
+    due.holds
 told_of_texts_is_not_untold most visits texts file telling _ told due = due

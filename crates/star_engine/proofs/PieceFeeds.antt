@@ -3,8 +3,7 @@ use Rattle.std.proofs.Common.{◌≡◌, ◌+◌, ◌<◌, ◌≤◌, ◌∙◌,
 use Rattle.std.specs.Prelude.{◌-◌, ◌^◌, min}
 use Rattle.std.specs.Io.KnownBytes.{Consumes}
 use Rattle.std.proofs.lemmas.List.{append-nil, length-append}
-use Rattle.star_schema.specs.declared.table.TableId.{TableId}
-use Rattle.star_reader.specs.Partway.{HasRead, Reading}
+use Rattle.star_reader.specs.Partway.{Reading}
 use Rattle.star_engine.specs.declared.input.Input.{Input}
 use Rattle.star_engine.specs.Reading.{ReadingGoesOn, came_of, has_failed, reader_of, reads_of}
 use Rattle.star_engine.specs.Private.PieceSteps.{HasFed}
@@ -26,9 +25,11 @@ none_consumed (Some a) = refl
 gone_none : (reader : Reading) → ReadingGoesOn reader reader []
 gone_none reader = λ table most parts text h. rw (append-nil text) h
 
-gone_on : (a b c : Reading) (x y : List ℕ) → ReadingGoesOn a b x → ReadingGoesOn b c y → ReadingGoesOn a c (x ++ y)
+gone_on : (a b c : Reading) (x y : List ℕ) → ReadingGoesOn a b x → ReadingGoesOn b c y
+    → ReadingGoesOn a c (x ++ y)
 gone_on a b c x y first next = λ table most parts text h.
-    rw (← (append_assoc text x y)) (next table most parts (text ++ x) (first table most parts text h))
+    rw (← (append_assoc text x y))
+    (next table most parts (text ++ x) (first table most parts text h))
 
 pub start : {R : Type 0} (remaining : R → Option (List ℕ)) (input : Input R) (reader : Reading)
     → HasFed remaining input input reader reader 0 0
@@ -52,17 +53,18 @@ pub more : {R : Type 0} (remaining : R → Option (List ℕ)) (first old new : I
     → came_of new ≡ min (came_of old + count) (2 ^ 64 - 1)
     → reads_of new ≤ reads_of old + 1 → has_failed new ≡ has_failed old
     → HasFed remaining first new before after (reads + 1) (taken + count)
-more remaining first old new before mid after reads taken count limit piece h size gone on some within small came asked unfailed = record {
-  bytes = h.bytes ++ piece;
-  size = omega (arith, size, h.size, length-append h.bytes piece);
-  consumed = consumed_on (remaining (reader_of first)) (remaining (reader_of old))
-      (remaining (reader_of new)) h.bytes piece h.consumed gone;
-  on = gone_on before mid after h.bytes piece h.on on;
-  counted = omega (arith, h.counted, some);
-  came = omega (arith, came, h.came, within, small);
-  asked = omega (arith, asked, h.asked);
-  unfailed = unfailed ∙ h.unfailed;
-}
+more remaining first old new before mid after reads taken count limit piece h size gone on some
+    within small came asked unfailed = record {
+      bytes = h.bytes ++ piece;
+      size = omega (arith, size, h.size, length-append h.bytes piece);
+      consumed = consumed_on (remaining (reader_of first)) (remaining (reader_of old))
+          (remaining (reader_of new)) h.bytes piece h.consumed gone;
+      on = gone_on before mid after h.bytes piece h.on on;
+      counted = omega (arith, h.counted, some);
+      came = omega (arith, came, h.came, within, small);
+      asked = omega (arith, asked, h.asked);
+      unfailed = unfailed ∙ h.unfailed;
+    }
 
 -- all pieces
 pub whole : {R : Type 0} (remaining : R → Option (List ℕ)) (first old new : Input R)

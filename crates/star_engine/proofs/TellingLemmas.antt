@@ -37,7 +37,8 @@ unread false most database file (engine.Plan fault) is = is
 unread false most database file _ is = absurd is
 
 -- an answer with other words for its value and its fault
-pub matched_as : {A : Type 0} (IsValue IsOther : A → Type 0) (IsDue IsOtherDue : EngineFault → Type 0)
+pub matched_as : {A : Type 0} (IsValue IsOther : A → Type 0)
+    (IsDue IsOtherDue : EngineFault → Type 0)
     (result : Result A EngineFault) → ((value : A) → IsValue value → IsOther value)
     → ((fault : EngineFault) → IsDue fault → IsOtherDue fault)
     → MatchResult result IsValue (OrMemory IsDue) → MatchResult result IsOther (OrMemory IsOtherDue)
@@ -62,7 +63,8 @@ module _ (most : ℕ) (database : Database) (file : List ℕ) (program : Parts)
         p = of_kind.p;
         meant = of_kind.meant;
         foretold = made.foretold
-            ∙ ap (λ visits. forecast_line visits (most_rows_over database (compiled of_kind.p))) law.quoted;
+            ∙ ap (λ visits. forecast_line visits (most_rows_over database (compiled of_kind.p)))
+            law.quoted;
       }
 
   pub told : (is_program : Bool) → IsProgramOfKind is_program file program → (telling : Telling)

@@ -21,7 +21,8 @@ use Rattle.star_engine.specs.Thirteen.{query_text}
 use Rattle.star_engine.proofs.Meanings.{IsWorked, are_named, meaning, means}
 
 pub worked : (q : BenchmarkQuery) → IsWorked (query_text q)
-unfolding query_text cut_from reserved reserved_words spelling column_of column_called table_called has_name table_name first_answer function_word has_text
+unfolding query_text cut_from reserved reserved_words spelling column_of column_called table_called
+    has_name table_name first_answer function_word has_text
 worked Q11 = record { short = lit≤ tt; cut = refl; whole = refl; named = refl }
 worked Q12 = record { short = lit≤ tt; cut = refl; whole = refl; named = refl }
 worked Q13 = record { short = lit≤ tt; cut = refl; whole = refl; named = refl }

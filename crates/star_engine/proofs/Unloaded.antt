@@ -1,6 +1,6 @@
 -- What a call answers where the tables can't be loaded.
 use Rattle.std.proofs.Common.{ℕ, List, inl}
-use Rattle.std.specs.Prelude.{Result, Ok, Err}
+use Rattle.std.specs.Prelude.{Err}
 use Rattle.star_schema.specs.Database.{TableTexts}
 use Rattle.star_catalogue.specs.declared.fault.LoadFault.{LoadFault}
 use Rattle.star_engine.specs.declared.fault.EngineFault.{EngineFault}

@@ -22,7 +22,15 @@ use Rattle.star_engine.specs.declared.fault.EngineFault.TheVariants.{OutOfMemory
 use Rattle.star_engine.specs.FaultTexts.{engine_fault_text}
 
 -- of a trap and of the limit no word says whose fault it is, as of all others
-texts : map engine_fault_text (OutOfMemory ∷ Query (Unexpected 20) ∷ Plan (JoinMissing 32) ∷ Program (BadLine 12) ∷ Load (DuplicateKey Lineorder 5) ∷ Trial (Trap 3 AbsentKey) ∷ Trial Limit ∷ Refused (TooCostly 10) ∷ Refused (BadShow 1) ∷ Write 65536 ∷ [])
-    ≡ codes "memory" ∷ codes "query 24 Unexpected at 20" ∷ codes "query 34 JoinMissing at 32" ∷ codes "program 51 BadLine line 12" ∷ codes "load 8 DuplicateKey table lineorder record 5" ∷ codes "trap AbsentKey at 3" ∷ codes "limit" ∷ codes "refused 71 TooCostly visits 10" ∷ codes "refused 70 BadShow at 1" ∷ codes "write 65536" ∷ []
-unfolding engine_fault_text of_load.record_fault_text of_text.text_fault_text of_trial.trial_fault_text query_fault_text plan_fault_text refusal_text kind_text table_name digits
+texts : map engine_fault_text
+    (OutOfMemory ∷ Query (Unexpected 20) ∷ Plan (JoinMissing 32) ∷ Program (BadLine 12)
+    ∷ Load (DuplicateKey Lineorder 5) ∷ Trial (Trap 3 AbsentKey) ∷ Trial Limit
+    ∷ Refused (TooCostly 10) ∷ Refused (BadShow 1) ∷ Write 65536 ∷ [])
+    ≡ codes "memory" ∷ codes "query 24 Unexpected at 20" ∷ codes "query 34 JoinMissing at 32"
+    ∷ codes "program 51 BadLine line 12" ∷ codes "load 8 DuplicateKey table lineorder record 5"
+    ∷ codes "trap AbsentKey at 3" ∷ codes "limit" ∷ codes "refused 71 TooCostly visits 10"
+    ∷ codes "refused 70 BadShow at 1" ∷ codes "write 65536" ∷ []
+unfolding engine_fault_text of_load.record_fault_text of_text.text_fault_text
+    of_trial.trial_fault_text query_fault_text plan_fault_text refusal_text kind_text table_name
+    digits
 texts = refl

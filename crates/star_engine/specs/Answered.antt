@@ -37,6 +37,12 @@ pub record HasGainedPart {S : Type 0} (sink : Change S) (text : List ℕ) (sent 
   pub gained : Appends (sink.contents sink.old) (sink.contents sink.new) (take sent text)
   pub failed : sink.is_failed sink.new ≡ true
 
+-- a whole text was written, or its first bytes
+abbrev pub IsWritten : {S : Type 0} → Change S → List ℕ → Result (Unit {0}) EngineFault → Type 0
+IsWritten sink text (Ok answer) = HasGained sink text
+IsWritten sink text (Err (Write sent)) = HasGainedPart sink text sent
+IsWritten sink text (Err fault) = ⊥
+
 -- what a call answers that writes a text to a sink. Ok: the sink has gained the whole of a text that
 -- is due. Want of memory may be told at any time before anything is written. A failed write is told
 -- with how many bytes of such a text were sent. Any other fault is one that is due, and the sink is as

@@ -23,8 +23,9 @@ use crate::quotes::program_of;
 use crate::reports::{read_program, report_of};
 use crate::writing::write_text;
 use star_catalogue::{Catalogue, ReadTables, Texts};
+use star_common::Sink;
 use star_program::Program;
-use star_schema::{Limits, Sink};
+use star_schema::Limits;
 use std::alloc::Global;
 
 // Writes the listing of loaded tables.
@@ -40,7 +41,8 @@ pub(crate) fn list<S: Sink>(
     write_text(out, text.as_bytes())
 }
 
-// Runs a program over loaded tables with at most so many turns of scans, and writes its report.
+// Runs a program over loaded tables for at most as many turns of scans as `visits` says, and writes
+// its report.
 fn try_read<S: Sink>(
     alloc: Global,
     catalogue: &Catalogue,

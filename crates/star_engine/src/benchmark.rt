@@ -9,7 +9,7 @@ ghost use Rattle.star_engine.specs.Answered.{IsAnswered, change};
 ghost use Rattle.star_engine.specs.Bench as spec;
 ghost use Rattle.star_engine.specs.Bench.{AllFit, IsBench, IsBenchOver};
 ghost use Rattle.star_engine.specs.Executions.{quote_over};
-ghost use Rattle.star_engine.specs.Private.BenchSteps.{AreSectionsOver, ArePrepared, IsFound, IsSectionOver, IsVerdict};
+ghost use Rattle.star_engine.specs.Private.BenchSteps.{AreSectionsOver, ArePrepared, IsRunFound, IsSectionOver, IsVerdict};
 ghost use Rattle.star_engine.specs.Loads.{IsUnloaded};
 ghost use Rattle.star_engine.specs.Private.QuerySteps.{IsProgramOfQuery};
 ghost use Rattle.star_engine.specs.Private.Steps.{IsMemory};
@@ -27,10 +27,10 @@ use crate::query_laws::{
 use crate::thirteen::{BenchmarkQuery, THIRTEEN};
 use crate::writing::write_text;
 use star_catalogue::{Catalogue, ReadTables, Texts};
-use star_common::Items;
+use star_common::{Items, Sink};
 use star_program::Program;
 use star_report::report_text;
-use star_schema::{Limits, Sink};
+use star_schema::Limits;
 use std::alloc::{AllocError, Global};
 
 // A query of the benchmark with its program.
@@ -78,7 +78,7 @@ fn find(
     limits: Limits,
 ) -> Result<Finding, AllocError>
     ensures { IfOk result
-        (λ finding. IsFound catalogue.now limits.visits program finding.fits finding.text.items) }
+        (λ finding. IsRunFound catalogue.now limits.visits program finding.fits finding.text.items) }
 {
     match outcome_of(alloc, catalogue, program, limits) {
         Ok(outcome) => {

@@ -16,7 +16,8 @@ ghost use Rattle.star_engine.specs.Trials.{IsNoTrial, IsTrialReport};
 use crate::fault::EngineFault;
 use crate::{answers, benchmark, queries};
 use star_catalogue::Texts;
-use star_schema::{Limits, Sink};
+use star_common::Sink;
+use star_schema::Limits;
 use std::alloc::Global;
 
 /// Writes how many rows each table has, and the bounds of its columns of numbers.
@@ -41,7 +42,7 @@ pub fn check<S: Sink>(
 /// Answers the query that a text means over the tables of five texts: writes its report on `out`.
 ///
 /// A note of the quote, which is lineorder's row count, goes to `notes` before the query is judged,
-/// and one of what the run of its program did behind the report. A query that doesn't fit is
+/// and one of what the run of its program did after the report. A query that doesn't fit is
 /// refused. The query is read first, and then the tables.
 pub fn answer_query<S: Sink, N: Sink>(
     alloc: Global,
@@ -75,7 +76,7 @@ pub fn answer_query<S: Sink, N: Sink>(
 
 /// Checks the program whose text a file holds over the tables, runs it, and writes its report on
 /// `out`. A note of how many visits are quoted goes to `notes` before the check, and one of what
-/// the run did behind the report. A program is refused where it is not admissible over the tables,
+/// the run did after the report. A program is refused where it is not admissible over the tables,
 /// or more visits are quoted than the limits allow. The file is read first, and then the tables.
 pub fn answer_program<S: Sink, N: Sink>(
     alloc: Global,

@@ -24,7 +24,8 @@ use crate::loading::load_read;
 use crate::queries::answer_query_over;
 use crate::tellings::{Told, judge_over, tell_over};
 use star_catalogue::{Catalogue, ReadTables, Texts};
-use star_schema::{Limits, Sink};
+use star_common::Sink;
+use star_schema::Limits;
 use std::alloc::Global;
 use std::marker::Model;
 
@@ -110,7 +111,7 @@ impl Engine {
     /// Answers the query that a text means over the loaded tables: writes its report on `out`.
     ///
     /// A note of the quote, which is lineorder's row count, goes to `notes` before the query is
-    /// judged, and one of what the run of its program did behind the report. A query that doesn't
+    /// judged, and one of what the run of its program did after the report. A query that doesn't
     /// fit is refused.
     pub fn answer_query<S: Sink, N: Sink>(
         &self,
@@ -143,7 +144,7 @@ impl Engine {
 
     /// Checks the program whose text a file holds over the loaded tables, runs it, and writes its
     /// report on `out`. A note of how many visits are quoted goes to `notes` before the check, and
-    /// one of what the run did behind the report. A program is refused where it is not admissible
+    /// one of what the run did after the report. A program is refused where it is not admissible
     /// over the tables, or more visits are quoted than the limits allow.
     pub fn answer_program<S: Sink, N: Sink>(
         &self,

@@ -7,18 +7,19 @@ ghost use Rattle.star_engine.specs.Executions.{IsAcceptedWithin, IsQuote, IsProg
 ghost use Rattle.star_engine.specs.Faults.{fault_of_refusal};
 ghost use Rattle.star_engine.specs.Noted.{IsNoted};
 ghost use Rattle.star_engine.specs.Notes.{counts_line};
-ghost use Rattle.star_engine.specs.Private.Steps.{IsDelivered, IsNotVerified, IsPart, IsRun};
+ghost use Rattle.star_engine.specs.Private.Steps.{AreBothWritten, IsNotVerified, IsPart, IsRun};
 ghost use Rattle.star_engine.specs.declared.fault.EngineFault.TheVariants.{Write};
 
 use crate::fault::EngineFault;
 use crate::notes::{counts_note, quote_note};
 use crate::writing::write_text;
 use star_catalogue::Catalogue;
+use star_common::{Sink, write_whole};
 use star_machine::run;
 use star_program::{Outcome, Program};
-use star_report::{report_text, write_whole};
+use star_report::report_text;
 use star_safety::law::admissible_programs_within_the_limit_are_not_refused;
-use star_schema::{Limits, Sink};
+use star_schema::Limits;
 use star_verify::{Refused, Verified, verify};
 use std::alloc::Global;
 
@@ -61,7 +62,7 @@ pub(crate) fn outcome_of(
     Ok(run(alloc, &verified)?)
 }
 
-// Writes a note, when so many bytes of the report have been sent.
+// Writes a note, when `sent` bytes of the report have been sent.
 fn write_note<N: Sink>(notes: &mut N, note: &[u8], sent: u64) -> Result<(), EngineFault>
     requires { 0 < length note.now }
     ensures { MatchResult result
@@ -83,7 +84,7 @@ fn tell<S: Sink, N: Sink>(
     out: &mut S,
     notes: &mut N,
 ) -> Result<(), EngineFault>
-    ensures { IsDelivered (change S.contents S.is_failed out.old out.new)
+    ensures { AreBothWritten (change S.contents S.is_failed out.old out.new)
         (change N.contents N.is_failed notes.old notes.new)
         (report_text outcome.now.names outcome.now.rows)
         (counts_line outcome.now.visits outcome.now.lookups outcome.now.updates) result }

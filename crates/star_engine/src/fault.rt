@@ -7,11 +7,11 @@ ghost use Rattle.star_engine.specs.Faults.{fault_of_load, fault_of_plan, fault_o
 ghost use Rattle.star_engine.specs.declared.fault.EngineFault.TheVariants.{OutOfMemory, Write};
 
 use star_catalogue::LoadFault;
+use star_common::WriteFault;
 use star_machine::TrialFault;
 use star_plan::PlanFault;
 use star_program::TextFault;
 use star_query::QueryFault;
-use star_report::WriteFault;
 use star_verify::Refusal;
 use std::alloc::AllocError;
 use std::fmt;
@@ -37,7 +37,7 @@ pub enum EngineFault {
     Refused(Refusal),
     /// The program did not come to its end.
     Trial(TrialFault),
-    /// A write did not go through, after so many bytes of the answer.
+    /// A write did not go through, after `sent` bytes of the answer.
     Write { sent: u64 },
 }
 

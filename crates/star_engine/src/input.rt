@@ -19,7 +19,7 @@ pub struct Input<R> {
 }
 
 impl<R: Read> Input<R> {
-    /// A reader of which nothing was read yet.
+    /// Begins to read from a reader.
     pub fn new(reader: R) -> Input<R>
         ensures reader { reader_of result ≡ reader }
         ensures fresh { IsFresh result }

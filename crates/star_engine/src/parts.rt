@@ -10,10 +10,10 @@ use star_reader::TableReader;
 use std::alloc::Global;
 use std::io::Read;
 
-// The room for a piece is cleared for each file, of which there may be a thousand small ones, and
-// stays in the processor's cache. It is smaller than the 128 KiB from which on the C library maps a
-// block by itself: once such a block was let go, it would keep the growing lists of the columns
-// among small blocks too, with holes between them.
+// The room for a piece is cleared for each file, and there may be a thousand small ones; it stays
+// in the processor's cache. It is smaller than the 128 KiB from which on the C library maps a block
+// by itself: once such a block was let go, it would keep the growing lists of the columns among
+// small blocks too, with holes between them.
 /// The most bytes of one read, and so of one piece of a table.
 const MOST_OF_A_PIECE: usize = 122_880;
 

@@ -15,11 +15,12 @@ use crate::loading::load_read;
 use crate::query_laws::{programs_of_queries_report_them, queries_that_fit_are_answered};
 use crate::writing::write_text;
 use star_catalogue::{Catalogue, ReadTables, Texts};
+use star_common::Sink;
 use star_compile::compile;
 use star_plan::plan;
 use star_program::Program;
 use star_query::Query;
-use star_schema::{Limits, Sink};
+use star_schema::Limits;
 use std::alloc::Global;
 
 // The program of the query that a text means.

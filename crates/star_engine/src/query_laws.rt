@@ -1,6 +1,6 @@
 //! Laws of what queries are answered: functions with no body, whose clauses are the laws.
 
-ghost use Rattle.std.specs.Prelude.{◌≡◌, ◌≢◌, ◌≤◌, ◌<◌, ◌^◌, ◌↔◌, ℕ, List, Some, None};
+ghost use Rattle.std.specs.Prelude.{◌≡◌, ◌≤◌, ◌<◌, ◌^◌, ◌↔◌, ℕ, List, Some};
 ghost use Rattle.std.specs.Option.{option_map};
 ghost use Rattle.star_schema.specs.Database.{Database, TableTexts, rows_in};
 ghost use Rattle.star_query.specs.Derives.{Means};

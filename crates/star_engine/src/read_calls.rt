@@ -21,7 +21,8 @@ ghost use Rattle.star_engine.specs.Trials.{IsNoTrial, IsTrialReport};
 use crate::fault::EngineFault;
 use crate::{answers, benchmark, queries};
 use star_catalogue::ReadTables;
-use star_schema::{Limits, Sink};
+use star_common::Sink;
+use star_schema::Limits;
 use std::alloc::Global;
 
 /// Writes how many rows each table has, and the bounds of its columns of numbers. It is refused by the
@@ -51,8 +52,8 @@ pub fn check_read<S: Sink>(
 /// Answers the query that a text means over the tables: writes its report on `out`.
 ///
 /// A note of the quote, which is lineorder's row count, goes to `notes` before the query is judged,
-/// and one of what the run of its program did behind the report. The call is refused by the first
-/// fault of the query's text or of its names, then by the first of the tables, and then, behind the
+/// and one of what the run of its program did after the report. The call is refused by the first
+/// fault of the query's text or of its names, then by the first of the tables, and then, after the
 /// note of the quote, where the query doesn't fit.
 pub fn answer_query_read<S: Sink, N: Sink>(
     alloc: Global,
@@ -91,10 +92,10 @@ pub fn answer_query_read<S: Sink, N: Sink>(
 }
 
 /// Checks the program whose text a file holds over the tables, runs it, and writes its report on
-/// `out`. A note of how many visits are quoted goes to `notes` before the check, and one of what the
-/// run did behind the report. The call is refused by the first fault of the file, then by the first of
-/// the tables, and then, behind the note of the quote, where the program is not admissible over the
-/// tables or more visits are quoted than the limits allow.
+/// `out`. A note of how many visits are quoted goes to `notes` before the check, and one of what
+/// the run did after the report. The call is refused by the first fault of the file, then by the
+/// first of the tables, and then, after the note of the quote, where the program is not admissible
+/// over the tables or more visits are quoted than the limits allow.
 pub fn answer_program_read<S: Sink, N: Sink>(
     alloc: Global,
     read: ReadTables,

@@ -1,6 +1,6 @@
 // Reading a file, a pipe or a device whole, under a bound on its bytes.
 
-ghost use Rattle.std.specs.Prelude.{◌≡◌, ◌≤◌, ◌<◌, ◌+◌, ◌++◌, ◌⊎◌, ℕ, List, [], true, Err, IfOk, IfSome, OnErr, OnOk, length, vec_len};
+ghost use Rattle.std.specs.Prelude.{◌≡◌, ◌≤◌, ◌<◌, ◌+◌, ◌++◌, ◌⊎◌, ℕ, List, [], true, Err, IfOk, IfSome, OnOk, length, vec_len};
 ghost use Rattle.std.specs.Io.KnownBytes.{Consumes, IsAtEnd};
 ghost use Rattle.star_common.specs.Memory.{TellsMemory};
 ghost use Rattle.star_engine.specs.declared.reading.FileFault.TheVariants.{Memory};
@@ -64,7 +64,7 @@ fn read_more<R: Read>(
     Ok(count)
 }
 
-/// Room for so many bytes.
+/// Makes room for `count` bytes.
 pub(crate) fn room_of(alloc: Global, count: usize) -> Result<Vec<u8>, AllocError>
     ensures { IfOk result (λ room. vec_len room ≡ count) }
 {

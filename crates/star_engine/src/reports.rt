@@ -19,7 +19,7 @@ pub(crate) fn read_program(alloc: Global, file: &[u8]) -> Result<Program, Engine
     Ok(Program::parse(alloc, file)?)
 }
 
-// The report of a program over loaded tables, run with so many visits at most.
+// The report of a program over loaded tables, run for at most as many visits as the limits allow.
 pub(crate) fn report_of(
     alloc: Global,
     catalogue: &Catalogue,

@@ -1,12 +1,10 @@
 // Writing a whole text.
 
 ghost use Rattle.std.specs.Prelude.{◌<◌, length};
-ghost use Rattle.star_engine.specs.Answered.{change};
-ghost use Rattle.star_engine.specs.Private.Steps.{IsWritten};
+ghost use Rattle.star_engine.specs.Answered.{IsWritten, change};
 
 use crate::fault::EngineFault;
-use star_report::write_whole;
-use star_schema::Sink;
+use star_common::{Sink, write_whole};
 
 // Writes a text that has a byte.
 pub(crate) fn write_text<S: Sink>(out: &mut S, text: &[u8]) -> Result<(), EngineFault>

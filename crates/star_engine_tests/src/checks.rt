@@ -1,7 +1,8 @@
 // The worked listing, the fault lines of changed samples, and output that fails.
 
+use star_common::Out;
 use star_engine::{EngineFault, Texts, check, sample, trial_program};
-use star_schema::{Limits, MOST_VISITS, Out};
+use star_schema::{Limits, MOST_VISITS};
 use star_test_support::programs::{
     ABOVE_AVERAGE, ABSENT_KEY, MISPLACED, NESTED, NO_TEXTS, READ_INSIDE, UNSET, counting,
 };
@@ -283,8 +284,8 @@ fn tells_faults_of_customer(rt: HostRuntime) -> Result<(), Fail> {
     Ok(())
 }
 
-// Whether a writer that fails after so many bytes got just the first of a text, and the answer
-// tells so; and that there is no fault where it got the whole.
+// Whether a writer that fails after some bytes got just the first of a text, and the answer tells
+// so; and that there is no fault where it got the whole.
 fn is_sent(
     answer: Result<(), EngineFault>,
     taken: &[u8],

@@ -1,8 +1,9 @@
 // One load that is asked again and again: what it answers does not hang on what it was asked before.
 
 use crate::printed::{AMPLE, AT_ONCE, Printed, benched, quoted, told};
+use star_common::Out;
 use star_engine::{Engine, EngineFault, LoadFault, Texts, sample};
-use star_schema::{Limits, Out};
+use star_schema::Limits;
 use star_test_support::programs::ABOVE_AVERAGE;
 use star_test_support::samples::{orders_of, replaced};
 use star_test_support::streams::Short;
@@ -86,7 +87,7 @@ const CASES: &[Case] = &[
         "quote 5\nvisits 5 lookups 0 updates 5\n",
         "",
     ),
-    // A fault changes nothing of what comes behind it.
+    // A fault changes nothing of what comes after it.
     (
         Asked::Query("select d_year, count(*) from lineorder, lineorder"),
         "",

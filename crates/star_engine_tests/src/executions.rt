@@ -1,8 +1,9 @@
 // Programs that are checked and then run: worked reports with their notes, each kind of refusal with
 // its place, and limits at and one below what is quoted.
 
+use star_common::Out;
 use star_engine::{EngineFault, Texts, answer_program, quote_text, sample};
-use star_schema::{Limits, MOST_ROWS, MOST_VISITS, Out};
+use star_schema::{Limits, MOST_ROWS, MOST_VISITS};
 use star_test_support::programs::{
     ABOVE_AVERAGE, ABSENT_KEY, DISCOUNTED_REVENUE, MISPLACED, NESTED, NO_TEXTS, READ_INSIDE,
     REVENUES, SIX_NUMBERS, UNSET, counting,
@@ -17,7 +18,7 @@ const ROOM: usize = 4096;
 // fault, if it has one.
 pub(crate) type Case = (&'static str, u64, &'static str, &'static str);
 
-// The report of a program; and its notes, with its fault line behind them.
+// The report of a program; and its notes, with its fault line after them.
 #[derive(Drop)]
 pub(crate) struct Printed {
     report: Vec<u8>,
@@ -25,7 +26,7 @@ pub(crate) struct Printed {
 }
 
 impl Printed {
-    // What was printed, with the line of a fault behind the notes. Want of memory is an error of the
+    // What was printed, with the line of a fault after the notes. Want of memory is an error of the
     // test.
     fn of(
         alloc: Global,
@@ -59,12 +60,12 @@ impl Printed {
     }
 }
 
-// The widest limits, but for so many visits.
+// The widest limits, but for `visits` visits.
 fn limits_of(visits: u64) -> Limits {
     Limits::new(MOST_ROWS, visits).unwrap_or(Limits::widest())
 }
 
-// What a program prints over some texts, where so many visits are allowed.
+// What a program prints over some texts, where `visits` visits are allowed.
 pub(crate) fn executed(
     alloc: Global,
     texts: &Texts<'_>,

@@ -9,7 +9,7 @@ use std::fmt::Write;
 use std::test::Fail;
 
 // Sums the numbers of the lines that a keep of either of two columns lets through, with a look-up
-// behind it.
+// after it.
 const EITHER: &str = concat!(
     "star program 1\nregisters 11\ngroup 0 plain : sum count\nscan lineorder r0\n",
     "r1 = load lo_quantity r0\nr2 = const 25\nr3 = lt r1 r2\n",
@@ -18,7 +18,7 @@ const EITHER: &str = concat!(
     "report 0\nshow s aggregate 0\nshow n aggregate 1\n",
 );
 
-// The same, but that a second keep ends each turn behind the look-up, and before another one.
+// The same, but that a second keep ends each turn after the look-up, and before another one.
 const NEITHER: &str = concat!(
     "star program 1\nregisters 16\ngroup 0 plain : sum count\nscan lineorder r0\n",
     "r1 = load lo_quantity r0\nr2 = const 25\nr3 = lt r1 r2\n",
@@ -36,7 +36,7 @@ fn is_kept(number: u64) -> bool {
     number % 50 < 25 || 5 <= number % 11
 }
 
-// So many lines of one order of 1993, whose quantities and discounts go by their numbers.
+// `count` lines of one order of 1993, whose quantities and discounts go by their numbers.
 fn numbered_lines(alloc: Global, count: u64) -> Result<String, AllocError> {
     let mut lines = String::new(alloc);
     for place in 0..count {
@@ -63,7 +63,7 @@ fn kept_of(count: u64) -> (u64, u64) {
     kept
 }
 
-// Both programs over so many lines.
+// Checks that both programs agree over `count` lines.
 fn agree_over(alloc: Global, count: u64) -> Result<(), Fail> {
     let lines = numbered_lines(alloc, count)?;
     let orders = [lines.as_bytes()];

@@ -16,8 +16,8 @@ enum Outcome {
     Unread,
 }
 
-// Reads some parts of suppliers, each at most so many bytes at once. A read of the last one fails
-// where so many of its bytes were given.
+// Reads some parts of suppliers, at most `at_once` bytes at once. A read of the last one fails once
+// some of its bytes were given.
 fn read_all(
     alloc: Global,
     parts: &[&[u8]],
@@ -73,8 +73,8 @@ fn few_bytes_at_once_are_the_same_parts(rt: HostRuntime) -> Result<(), Fail> {
     Ok(())
 }
 
-// A read that fails is told wherever it comes, also behind bytes and parts that are faulty. Each last
-// part has 34 bytes at least.
+// A read that fails is told wherever it comes, also after bytes and parts that are faulty. Each
+// last part has 34 bytes at least.
 #[test]
 fn a_failed_read_comes_before_faults(rt: HostRuntime) -> Result<(), Fail> {
     let cases: [&[&[u8]]; 4] = [&[ONE], &[ONE, TWO], &[WRONG], &[WRONG, TWO]];

@@ -1,9 +1,10 @@
 // What the calls of the engine print, over writers with so much room.
 
+use star_common::Out;
 use star_engine::{
     EngineFault, Texts, answer_program, answer_query, bench, explain_query, quote_text,
 };
-use star_schema::{Limits, MOST_ROWS, MOST_VISITS, Out};
+use star_schema::{Limits, MOST_ROWS, MOST_VISITS};
 use star_test_support::streams::Short;
 use std::alloc::{AllocError, Global};
 use std::test::Fail;
@@ -82,7 +83,7 @@ pub(crate) fn told(
     })
 }
 
-// The widest limits, but for so many visits.
+// The widest limits, but for `visits` visits.
 pub(crate) fn limits_of(visits: u64) -> Limits {
     Limits::new(MOST_ROWS, visits.min(MOST_VISITS)).unwrap_or(Limits::widest())
 }

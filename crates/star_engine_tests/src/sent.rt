@@ -1,8 +1,9 @@
 // Programs and quotes whose sinks fail after each number of bytes: what they hold then, and how many
 // bytes are told as sent.
 
+use star_common::Out;
 use star_engine::{EngineFault, answer_program, quote_text, sample};
-use star_schema::{Limits, Out};
+use star_schema::Limits;
 use star_test_support::programs::ABOVE_AVERAGE;
 use star_test_support::streams::Short;
 use std::alloc::{AllocError, Global};
@@ -22,8 +23,8 @@ const REPORT: &str = "n\n2\n";
 
 const NOTES: &str = "quote 10\nvisits 10 lookups 0 updates 7\n";
 
-// Whether a program whose report and notes are taken up to so many bytes leaves just these bytes, and
-// tells so many as sent.
+// Whether a program leaves just these bytes, and tells them as sent, where `room` bytes of its
+// report and `noted` of its notes are taken.
 fn leaves(
     alloc: Global,
     room: usize,

@@ -85,7 +85,7 @@ fn reports_of_groups_are_told(rt: HostRuntime) -> Result<(), Fail> {
     Ok(())
 }
 
-// The line of a fault after so many bytes: none, where these are all.
+// The line of a fault after `count` bytes: none, where these are all.
 fn write_fault(alloc: Global, count: usize, whole: &str) -> Result<String, AllocError> {
     if count < whole.len() {
         format!(in alloc; "write {count}")

@@ -14,7 +14,7 @@ pub(crate) fn with_orders<'a>(lineorder: &'a [&'a [u8]]) -> Texts<'a> {
     }
 }
 
-// So many lines of one order, all dear.
+// `count` lines of one order, all dear.
 pub(crate) fn dear_lines(alloc: Global, count: u64) -> Result<String, AllocError> {
     let mut lines = String::new(alloc);
     for place in 0..count {

@@ -55,7 +55,7 @@ const CASES: &[Case] = &[
         "quote 5\nd_year|n\n1993|2\n1994|1\n1997|2\nALL|5\nvisits 5 lookups 5 updates 5\n",
         "quote 5 rows 6\n",
     ),
-    // Two regions of suppliers, of which no line need have any.
+    // Two regions of suppliers; no line need have either.
     (
         concat!(
             "select s_region, count(*) as n from lineorder, supplier where lo_suppkey = s_suppkey ",
@@ -127,7 +127,7 @@ const FAULTS: &[(&str, &str)] = &[
     ("", "query 24 Unexpected at 0"),
 ];
 
-// What a check tells, and behind it the two calls over tables of what is no query and no program.
+// What a check tells, and after it the two calls over tables of what is no query and no program.
 fn checked_of(alloc: Global, file: &str) -> Result<String, Fail> {
     match check_text(alloc, file.as_bytes()) {
         Ok(()) => Ok(String::new(alloc)),

@@ -8,9 +8,11 @@ use Rattle.star_engine.specs.Answered.{Change}
 use Rattle.star_cli.specs.Failures.{IsFailureTold, IsToldOn, failure_of_kind, failure_text, status_of, words_status}
 use Rattle.star_cli.specs.Lines.{IsTextTold}
 
--- ---- what the parser of words lets not pass: its own text, its status by its kind, and want of memory as any other
+-- ---- what the parser of words lets not pass: its own text, its status by its kind, and want of
+-- memory as any other
 
-statuses_of_words : map words_status (DisplayHelp ∷ DisplayVersion ∷ UnknownArgument ∷ []) ≡ 0 ∷ 0 ∷ 2 ∷ []
+statuses_of_words : map words_status (DisplayHelp ∷ DisplayVersion ∷ UnknownArgument ∷ [])
+    ≡ 0 ∷ 0 ∷ 2 ∷ []
 statuses_of_words = refl
 
 module _ (error : Error) where
@@ -18,10 +20,12 @@ module _ (error : Error) where
   unfolding failure_text
   the_text_of_the_parser = refl
 
-  the_status_of_the_parser : status_of (failure_of_kind error UnknownArgument) ≡ words_status (kind_of error)
+  the_status_of_the_parser :
+      status_of (failure_of_kind error UnknownArgument) ≡ words_status (kind_of error)
   the_status_of_the_parser = refl
 
-  the_text_of_want_of_memory : failure_text (failure_of_kind error OutOfMemory) ≡ Some (codes "memory\n")
+  the_text_of_want_of_memory :
+      failure_text (failure_of_kind error OutOfMemory) ≡ Some (codes "memory\n")
   unfolding failure_text
   the_text_of_want_of_memory = refl
 
@@ -50,17 +54,23 @@ module _ {S E : Type 0} (out : Change S) (err : Change E) (text : List ℕ) wher
   then_nothing_on_standard_output on = on.0
 
 module _ {S E : Type 0} (out : Change S) (err : Change E) (error : Error) where
-  no_fault_is_told_on_standard_output : IsFailureTold (failure_of_kind error DisplayHelp) out err 0 → err.new ≡ err.old
+  no_fault_is_told_on_standard_output : IsFailureTold (failure_of_kind error DisplayHelp) out err 0
+      → err.new ≡ err.old
   no_fault_is_told_on_standard_output (told, which, (text, is, on), same) = on.1
 
-  a_fault_is_told_on_standard_error : IsFailureTold (failure_of_kind error UnknownArgument) out err 2 → out.new ≡ out.old
+  a_fault_is_told_on_standard_error :
+      IsFailureTold (failure_of_kind error UnknownArgument) out err 2 → out.new ≡ out.old
   a_fault_is_told_on_standard_error (told, which, (text, is, on), same) = on.0
 
-  want_of_memory_is_told : out.new ≡ out.old → IsTextTold err (codes "memory\n") → IsFailureTold (failure_of_kind error OutOfMemory) out err 7
+  want_of_memory_is_told : out.new ≡ out.old → IsTextTold err (codes "memory\n")
+      → IsFailureTold (failure_of_kind error OutOfMemory) out err 7
   unfolding failure_text
-  want_of_memory_is_told same told = (failure_of_kind error OutOfMemory, inl refl, (codes "memory\n", refl, (same, told)), refl)
+  want_of_memory_is_told same told =
+      (failure_of_kind error OutOfMemory, inl refl, (codes "memory\n", refl, (same, told)), refl)
 
   -- where there is no memory for a text, that is told in its place
-  want_of_memory_is_told_for_another : out.new ≡ out.old → IsTextTold err (codes "memory\n") → IsFailureTold (failure_of_kind error UnknownArgument) out err 7
+  want_of_memory_is_told_for_another : out.new ≡ out.old → IsTextTold err (codes "memory\n")
+      → IsFailureTold (failure_of_kind error UnknownArgument) out err 7
   unfolding failure_text
-  want_of_memory_is_told_for_another same told = (failure_of_kind error OutOfMemory, inr refl, (codes "memory\n", refl, (same, told)), refl)
+  want_of_memory_is_told_for_another same told =
+      (failure_of_kind error OutOfMemory, inr refl, (codes "memory\n", refl, (same, told)), refl)

@@ -1,4 +1,5 @@
--- How often a program of a plan loads a column and finds a row, to which group it puts, and which range it is refused by.
+-- How often a program of a plan loads a column and finds a row, to which group it puts, and which
+-- range it is refused by.
 use Rattle.std.proofs.Common.{◌≡◌, ℕ, Bool, [], ◌∷◌, Some, refl}
 use Rattle.std.specs.Prelude.{codes, map, pos, reverse}
 use Rattle.star_schema.specs.declared.column.ColumnId.TheVariants.{CCity, CNation, CRegion, LoCustkey, LoTax}
@@ -18,10 +19,11 @@ use Rattle.star_safety.specs.declared.reason.Reason.TheVariants.{Overflow}
 use Rattle.star_compile_laws.specs.Answers.{PutsTheRows, update_of_row}
 use Rattle.star_compile_laws.specs.Compiled.{body_code, compiled}
 use Rattle.star_compile_laws.specs.Judged.{IsOverflow}
-use Rattle.star_compile_laws.specs.Looks.{finds, loads, times}
+use Rattle.star_compile_laws.specs.Looks.{finds, loads, times_made}
 use Rattle.star_examples.proofs.Sample.{number, text, of_customer}
 
--- select c_nation, max(lo_tax) from lineorder, customer where lo_custkey = c_custkey and c_region = 'ASIA' and lo_tax > 1 group by c_nation
+-- select c_nation, max(lo_tax) from lineorder, customer where lo_custkey = c_custkey and c_region =
+-- 'ASIA' and lo_tax > 1 group by c_nation
 abbrev asked : Plan
 asked = record {
   joins = of_customer ∷ [];
@@ -36,17 +38,20 @@ asked = record {
 
 -- ---- how often a column is loaded, and a row found
 
-columns_loaded : map (λ c. times (loads c) (body_code asked)) (LoTax ∷ CNation ∷ CRegion ∷ LoCustkey ∷ CCity ∷ []) ≡ 1 ∷ 1 ∷ 1 ∷ 1 ∷ 0 ∷ []
+columns_loaded : map (λ c. times_made (loads c) (body_code asked))
+    (LoTax ∷ CNation ∷ CRegion ∷ LoCustkey ∷ CCity ∷ []) ≡ 1 ∷ 1 ∷ 1 ∷ 1 ∷ 0 ∷ []
 unfolding column_of
 columns_loaded = refl
 
-rows_found : map (λ t. times (finds t) (body_code asked)) (Customer ∷ Supplier ∷ []) ≡ 1 ∷ 0 ∷ []
+rows_found : map (λ t. times_made (finds t) (body_code asked)) (Customer ∷ Supplier ∷ [])
+    ≡ 1 ∷ 0 ∷ []
 unfolding column_of
 rows_found = refl
 
 -- ---- what a run puts, it puts to the group that is reported
 
-puts_to_the_first_group : (ts : Tables) (w : World) (p : Plan) → PutsTheRows ts w p → (may : ℕ → Bool) (s : State) → run_while w may (compiled p) ≡ Ended s
+puts_to_the_first_group : (ts : Tables) (w : World) (p : Plan) → PutsTheRows ts w p
+    → (may : ℕ → Bool) (s : State) → run_while w may (compiled p) ≡ Ended s
     → s.updates_of (compiled p).report ≡ reverse (map (update_of_row w p) (plan_rows ts p))
 puts_to_the_first_group ts w p puts may s ended = puts may s ended
 

@@ -1,4 +1,5 @@
--- The program of a plan, as its text: what is loaded and found once, and how registers are numbered.
+-- The program of a plan, as its text: what is loaded and found once, and how registers are
+-- numbered.
 use Rattle.std.proofs.Common.{◌≡◌, ◌++◌, ℕ, List, [], ◌∷◌, refl}
 use Rattle.std.specs.Prelude.{codes}
 use Rattle.std.specs.Fmt.{digits}
@@ -19,9 +20,12 @@ use Rattle.star_program.specs.Text.Written.{program_text, written_line, op_text,
 use Rattle.star_compile_laws.specs.Compiled.{compiled}
 use Rattle.star_examples.proofs.Sample.{number, text, by_order, of_customer}
 
--- select d_year, c_nation, sum(lo_revenue - lo_tax), max(lo_revenue * lo_tax + lo_discount), count(*)
--- from lineorder, date, customer where lo_orderdate = d_datekey and lo_custkey = c_custkey and lo_custkey > 1
--- and c_nation between 'CHINA' and 'PERU' and not (d_year <> 1993 or lo_tax >= 2 and c_region = 'ASIA')
+-- select d_year, c_nation, sum(lo_revenue - lo_tax), max(lo_revenue * lo_tax + lo_discount),
+-- count(*)
+-- from lineorder, date, customer where lo_orderdate = d_datekey and lo_custkey = c_custkey and
+-- lo_custkey > 1
+-- and c_nation between 'CHINA' and 'PERU' and not (d_year <> 1993 or lo_tax >= 2 and c_region =
+-- 'ASIA')
 -- and lo_discount between 1 and 3 group by d_year, c_nation order by d_year desc
 abbrev asked : Plan
 asked = record {
@@ -29,11 +33,13 @@ asked = record {
   conjuncts =
       compare LoCustkey Greater (number 1)
       ∷ between CNation (text (codes "CHINA")) (text (codes "PERU"))
-      ∷ not (or (compare DYear Unequal (number 1993)) (and (compare LoTax AtLeast (number 2)) (compare CRegion Equal (text (codes "ASIA")))))
+      ∷ not (or (compare DYear Unequal (number 1993))
+      (and (compare LoTax AtLeast (number 2)) (compare CRegion Equal (text (codes "ASIA")))))
       ∷ between LoDiscount (number 1) (number 3) ∷ [];
   shape = Plain;
   keys = DYear ∷ CNation ∷ [];
-  measures = summed (sub (column LoRevenue) (column LoTax)) ∷ greatest (add (mul (column LoRevenue) (column LoTax)) (column LoDiscount)) ∷ count ∷ [];
+  measures = summed (sub (column LoRevenue) (column LoTax))
+      ∷ greatest (add (mul (column LoRevenue) (column LoTax)) (column LoDiscount)) ∷ count ∷ [];
   names = codes "sum1" ∷ codes "max2" ∷ codes "count3" ∷ [];
   items = Key 0 ∷ Key 1 ∷ Aggregate 0 ∷ Aggregate 1 ∷ Aggregate 2 ∷ [];
   sorts = record { column = Key 0; direction = Descending } ∷ [];
@@ -93,5 +99,7 @@ explained : program_text (compiled asked)
     ∷ codes "show max2 aggregate 1"
     ∷ codes "show count3 aggregate 2"
     ∷ codes "sort key 0 descending" ∷ [])
-unfolding column_of table_name program_text written_line lines_of_code register_text target_text assigned_text op_text key_text group_text written_column show_text sort_text digits quoted shape_name aggregate_name mnemonic_name direction_name
+unfolding column_of table_name program_text written_line lines_of_code register_text target_text
+    assigned_text op_text key_text group_text written_column show_text sort_text digits quoted
+    shape_name aggregate_name mnemonic_name direction_name
 explained = refl

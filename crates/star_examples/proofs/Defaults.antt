@@ -9,7 +9,8 @@ use Rattle.star_plan.specs.Meaning.{value_number, value_in}
 use Rattle.star_plan.specs.Names.{is_of}
 
 -- a name that is no column's has no wrong kind: that it is no column's is told before
-no_column_of_a_wrong_kind : map (λ k. is_of k None) (kind.Number ∷ kind.Text ∷ []) ≡ true ∷ true ∷ []
+no_column_of_a_wrong_kind :
+    map (λ k. is_of k None) (kind.Number ∷ kind.Text ∷ []) ≡ true ∷ true ∷ []
 no_column_of_a_wrong_kind = refl
 
 -- a value that a row hasn't, and the number of a text, are 0

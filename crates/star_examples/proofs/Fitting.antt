@@ -26,24 +26,31 @@ bounds _ = only (pos 0)
 abbrev minus : ℕ → Expression ColumnId
 minus n = constant (neg_ℤ (pos n))
 
-range_of_operands : map (expression_range bounds) (revenue ∷ minus 7 ∷ []) ≡ record { low = pos 495; high = pos 3000 } ∷ record { low = neg_ℤ (pos 7); high = neg_ℤ (pos 7) } ∷ []
+range_of_operands : map (expression_range bounds) (revenue ∷ minus 7 ∷ [])
+    ≡ record { low = pos 495; high = pos 3000 }
+    ∷ record { low = neg_ℤ (pos 7); high = neg_ℤ (pos 7) } ∷ []
 range_of_operands = refl
 
-range_of_a_sum : expression_range bounds (add revenue tax) ≡ record { low = pos 492; high = pos 3004 }
+range_of_a_sum : expression_range bounds (add revenue tax)
+    ≡ record { low = pos 492; high = pos 3004 }
 range_of_a_sum = refl
 
-range_of_a_difference : expression_range bounds (sub revenue cost) ≡ record { low = neg_ℤ (pos 705); high = pos 2900 }
+range_of_a_difference : expression_range bounds (sub revenue cost)
+    ≡ record { low = neg_ℤ (pos 705); high = pos 2900 }
 range_of_a_difference = refl
 
 -- the ends are products of unlike ends
-range_of_a_product : expression_range bounds (mul tax discount) ≡ record { low = neg_ℤ (pos 15); high = pos 20 }
+range_of_a_product : expression_range bounds (mul tax discount)
+    ≡ record { low = neg_ℤ (pos 15); high = pos 20 }
 range_of_a_product = refl
 
 -- a column is read twice, so a square may be below 0
-range_of_a_square : expression_range bounds (mul tax tax) ≡ record { low = neg_ℤ (pos 12); high = pos 16 }
+range_of_a_square : expression_range bounds (mul tax tax)
+    ≡ record { low = neg_ℤ (pos 12); high = pos 16 }
 range_of_a_square = refl
 
-range_of_a_tree : expression_range bounds (sub (mul tax discount) (add cost (minus 100))) ≡ record { low = neg_ℤ (pos 1115); high = pos 20 }
+range_of_a_tree : expression_range bounds (sub (mul tax discount) (add cost (minus 100)))
+    ≡ record { low = neg_ℤ (pos 1115); high = pos 20 }
 range_of_a_tree = refl
 
 -- ---- the nodes of an expression
@@ -59,11 +66,13 @@ abbrev half : ℤ
 half = pos (2 ^ 62)
 
 -- each operator at the greatest number, and one more; and at the least, and one less
-sums_fit : fit (add (constant half) (constant (pos 4611686018427387903)) ∷ add (constant half) (constant half) ∷ []) ≡ true ∷ false ∷ []
+sums_fit : fit (add (constant half) (constant (pos 4611686018427387903))
+    ∷ add (constant half) (constant half) ∷ []) ≡ true ∷ false ∷ []
 unfolding is_i64
 sums_fit = refl
 
-differences_fit : fit (sub (constant (neg_ℤ half)) (constant half) ∷ sub (constant (neg_ℤ half)) (constant (pos 4611686018427387905)) ∷ []) ≡ true ∷ false ∷ []
+differences_fit : fit (sub (constant (neg_ℤ half)) (constant half)
+    ∷ sub (constant (neg_ℤ half)) (constant (pos 4611686018427387905)) ∷ []) ≡ true ∷ false ∷ []
 unfolding is_i64
 differences_fit = refl
 
@@ -71,26 +80,38 @@ products_fit : fit (mul (column LoQuantity) (minus 4294967296) ∷ product ∷ [
 unfolding is_i64
 products_fit = refl
 
-columns_fit : map (λ z. nodes_fit (λ c. only z) tax) (pos 9223372036854775807 ∷ pos 9223372036854775808 ∷ []) ≡ true ∷ false ∷ []
+columns_fit : map (λ z. nodes_fit (λ c. only z) tax)
+    (pos 9223372036854775807 ∷ pos 9223372036854775808 ∷ []) ≡ true ∷ false ∷ []
 unfolding is_i64
 columns_fit = refl
 
-constants_fit : fit (constant (neg_ℤ (pos 9223372036854775808)) ∷ constant (neg_ℤ (pos 9223372036854775809)) ∷ []) ≡ true ∷ false ∷ []
+constants_fit : fit (constant (neg_ℤ (pos 9223372036854775808))
+    ∷ constant (neg_ℤ (pos 9223372036854775809)) ∷ []) ≡ true ∷ false ∷ []
 unfolding is_i64
 constants_fit = refl
 
 -- the whole fits, and the product inside it doesn't
-an_inner_product : map (expression_range bounds) (add product (minus 1) ∷ add (minus 1) product ∷ sub product (constant (pos 1)) ∷ sub (constant (pos 0)) product ∷ mul product (constant (pos 0)) ∷ mul (constant (pos 0)) product ∷ [])
-    ≡ only (pos 9223372036854775807) ∷ only (pos 9223372036854775807) ∷ only (pos 9223372036854775807) ∷ only (neg_ℤ (pos 9223372036854775808)) ∷ only (pos 0) ∷ only (pos 0) ∷ []
+an_inner_product : map (expression_range bounds)
+    (add product (minus 1) ∷ add (minus 1) product ∷ sub product (constant (pos 1))
+    ∷ sub (constant (pos 0)) product ∷ mul product (constant (pos 0))
+    ∷ mul (constant (pos 0)) product ∷ [])
+    ≡ only (pos 9223372036854775807) ∷ only (pos 9223372036854775807)
+    ∷ only (pos 9223372036854775807) ∷ only (neg_ℤ (pos 9223372036854775808)) ∷ only (pos 0)
+    ∷ only (pos 0) ∷ []
 an_inner_product = refl
 
-an_inner_product_unfit : fit (add product (minus 1) ∷ add (minus 1) product ∷ sub product (constant (pos 1)) ∷ sub (constant (pos 0)) product ∷ mul product (constant (pos 0)) ∷ mul (constant (pos 0)) product ∷ [])
+an_inner_product_unfit :
+    fit (add product (minus 1) ∷ add (minus 1) product ∷ sub product (constant (pos 1))
+    ∷ sub (constant (pos 0)) product ∷ mul product (constant (pos 0))
+    ∷ mul (constant (pos 0)) product ∷ [])
     ≡ false ∷ false ∷ false ∷ false ∷ false ∷ false ∷ []
 unfolding is_i64
 an_inner_product_unfit = refl
 
 -- each aggregate but the count has its expression checked
-aggregates_fit : map (measure_fits bounds) (count ∷ summed product ∷ least product ∷ greatest product ∷ summed revenue ∷ least revenue ∷ greatest revenue ∷ [])
+aggregates_fit : map (measure_fits bounds)
+    (count ∷ summed product ∷ least product ∷ greatest product ∷ summed revenue ∷ least revenue
+    ∷ greatest revenue ∷ [])
     ≡ true ∷ false ∷ false ∷ false ∷ true ∷ true ∷ true ∷ []
 unfolding is_i64
 aggregates_fit = refl
@@ -98,7 +119,17 @@ aggregates_fit = refl
 -- ---- whole queries
 
 abbrev asking : List (Measure ColumnId) → Plan
-asking measures = record { joins = []; conjuncts = []; shape = Plain; keys = []; measures = measures; names = codes "n" ∷ codes "m" ∷ []; items = Aggregate 0 ∷ []; sorts = [] }
+asking measures = record {
+  joins = [];
+  conjuncts = [];
+  shape = Plain;
+  keys = [];
+  measures =
+      measures;
+  names = codes "n" ∷ codes "m" ∷ [];
+  items = Aggregate 0 ∷ [];
+  sorts = [];
+}
 
 five_fit : Fits 5 5 bounds (asking (summed (sub revenue cost) ∷ count ∷ []))
 unfolding is_i64
@@ -112,7 +143,8 @@ a_total_fits : Fits 3 3 (λ c. only (pos 9223372036854775807)) (asking (least ta
 unfolding is_i64
 a_total_fits = record { visits = omega arith; nodes = refl }
 
-a_total_below_zero_fits : Fits 3 3 (λ c. only (neg_ℤ (pos 9223372036854775808))) (asking (summed tax ∷ []))
+a_total_below_zero_fits :
+    Fits 3 3 (λ c. only (neg_ℤ (pos 9223372036854775808))) (asking (summed tax ∷ []))
 unfolding is_i64
 a_total_below_zero_fits = record { visits = omega arith; nodes = refl }
 

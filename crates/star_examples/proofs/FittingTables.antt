@@ -20,18 +20,30 @@ use Rattle.star_query_meaning.specs.Fitting.{FitsTables, PlanFitsTables, range_n
 use Rattle.star_examples.proofs.Sample.{sample}
 
 abbrev asking : List (Measure ColumnId) → Plan
-asking measures = record { joins = []; conjuncts = []; shape = Plain; keys = []; measures = measures; names = codes "n" ∷ codes "m" ∷ []; items = Aggregate 0 ∷ []; sorts = [] }
+asking measures = record {
+  joins = [];
+  conjuncts = [];
+  shape = Plain;
+  keys = [];
+  measures =
+      measures;
+  names = codes "n" ∷ codes "m" ∷ [];
+  items = Aggregate 0 ∷ [];
+  sorts = [];
+}
 
 abbrev profit : Expression ColumnId
 profit = sub (column LoRevenue) (column LoSupplycost)
 
 bounds_of_columns : map (bounds_in sample) (LoExtendedprice ∷ LoDiscount ∷ DYear ∷ PSize ∷ [])
-    ≡ record { low = pos 500; high = pos 3000 } ∷ record { low = pos 0; high = pos 10 } ∷ record { low = pos 1993; high = pos 1997 } ∷ record { low = pos 1; high = pos 21 } ∷ []
+    ≡ record { low = pos 500; high = pos 3000 } ∷ record { low = pos 0; high = pos 10 }
+    ∷ record { low = pos 1993; high = pos 1997 } ∷ record { low = pos 1; high = pos 21 } ∷ []
 unfolding column_of columns_of place_of pieces greatest least numbers_at
 bounds_of_columns = refl
 
 -- no line has this profit or that: each end is of two lines
-range_of_profits : expression_range (bounds_in sample) profit ≡ record { low = neg_ℤ (pos 705); high = pos 2900 }
+range_of_profits : expression_range (bounds_in sample) profit
+    ≡ record { low = neg_ℤ (pos 705); high = pos 2900 }
 unfolding column_of columns_of place_of pieces greatest least numbers_at
 range_of_profits = refl
 
@@ -65,15 +77,19 @@ asked measures = record {
   keys = [];
 }
 
-abbrev of_columns : (Expression Name → Expression Name → Expression Name) → (first second : List ℕ) → Expression Name
+abbrev of_columns : (Expression Name → Expression Name → Expression Name) → (first second : List ℕ)
+    → Expression Name
 of_columns join first second = join (column (called first)) (column (called second))
 
-bounds_by_name : map (λ word. range_named sample (called word)) (codes "lo_discount" ∷ codes "d_year" ∷ codes "discount" ∷ [])
-    ≡ record { low = pos 0; high = pos 10 } ∷ record { low = pos 1993; high = pos 1997 } ∷ record { low = pos 0; high = pos 0 } ∷ []
+bounds_by_name : map (λ word. range_named sample (called word))
+    (codes "lo_discount" ∷ codes "d_year" ∷ codes "discount" ∷ [])
+    ≡ record { low = pos 0; high = pos 10 } ∷ record { low = pos 1993; high = pos 1997 }
+    ∷ record { low = pos 0; high = pos 0 } ∷ []
 unfolding column_of columns_of place_of pieces greatest least numbers_at column_called
 bounds_by_name = refl
 
-profits_fit_by_name : FitsTables 5 sample (asked (fold Sum (of_columns sub (codes "lo_revenue") (codes "lo_supplycost")) ∷ count ∷ []))
+profits_fit_by_name : FitsTables 5 sample
+    (asked (fold Sum (of_columns sub (codes "lo_revenue") (codes "lo_supplycost")) ∷ count ∷ []))
 unfolding column_of columns_of place_of pieces greatest least numbers_at is_i64 column_called
 profits_fit_by_name = record { visits = omega arith; nodes = refl }
 
@@ -81,6 +97,8 @@ counts_cost_too_much : FitsTables 4 sample (asked (count ∷ [])) → ⊥
 counts_cost_too_much fits = let few : 5 ≤ 4 = fits.visits in omega (arith, few)
 
 -- each aggregate is asked, the last one too
-steep_unfit_by_name : FitsTables 5 sample (asked (count ∷ fold Max (mul (column (called (codes "lo_extendedprice"))) (constant (pos 3074457345618259))) ∷ [])) → ⊥
+steep_unfit_by_name : FitsTables 5 sample
+    (asked (count ∷ fold Max
+    (mul (column (called (codes "lo_extendedprice"))) (constant (pos 3074457345618259))) ∷ [])) → ⊥
 unfolding column_of columns_of place_of pieces greatest least numbers_at is_i64 column_called
 steep_unfit_by_name fits = let nodes : false ≡ true = fits.nodes in cc

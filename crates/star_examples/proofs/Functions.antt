@@ -1,4 +1,5 @@
--- What queries with each operator and each function answer over the sample, and with no WHERE; and what plans answer.
+-- What queries with each operator and each function answer over the sample, and with no WHERE; and
+-- what plans answer.
 use Rattle.std.proofs.Common.{ℕ, List, [], ◌∷◌, Option, Some, None, refl, lit≤}
 use Rattle.std.specs.Prelude.{ℤ, pos, neg_ℤ, codes}
 use Rattle.std.specs.Fmt.{digits}
@@ -42,17 +43,29 @@ integer z = cell.Number z
 -- ---- operators and functions
 
 abbrev profits_text : List ℕ
-profits_text = codes "select sum(lo_revenue - lo_supplycost) as profit, min(lo_revenue - lo_supplycost - 1), max(lo_revenue + 2 * lo_supplycost), count(*) from lineorder"
+profits_text =
+    codes
+    "select sum(lo_revenue - lo_supplycost) as profit, min(lo_revenue - lo_supplycost - 1), max(lo_revenue + 2 * lo_supplycost), count(*) from lineorder"
 
 profits : Answers profits_text (codes "profit" ∷ codes "min2" ∷ codes "max3" ∷ codes "count4" ∷ [])
-    ((integer (pos 3445) ∷ integer (neg_ℤ (pos 206)) ∷ integer (pos 5000) ∷ integer (pos 5) ∷ []) ∷ [])
-unfolding cut_from reserved reserved_words spelling column_of columns_of place_of pieces table_name column_called table_called are_groups each_mask in_order is_group is_masked is_right is_there is_there_where same_each same_value function_word digits
+    ((integer (pos 3445) ∷ integer (neg_ℤ (pos 206)) ∷ integer (pos 5000) ∷ integer (pos 5) ∷ [])
+    ∷ [])
+unfolding cut_from reserved reserved_words spelling column_of columns_of place_of pieces table_name
+    column_called table_called are_groups each_mask in_order is_group is_masked is_right is_there
+    is_there_where same_each same_value function_word digits
 profits = record {
   tree = _;
-  means = record { short = lit≤ tt; tokens = tokens_of profits_text; cut = refl; derives = derives _ _ refl };
+  means = record {
+    short = lit≤ tt;
+    tokens = tokens_of profits_text;
+    cut = refl;
+    derives =
+        derives _ _ refl;
+  };
   answer = record {
     headed = refl;
-    groups = group [] (Some (pos 3445) ∷ Some (neg_ℤ (pos 206)) ∷ Some (pos 5000) ∷ Some (pos 5) ∷ []) ∷ [];
+    groups = group [] (Some (pos 3445) ∷ Some (neg_ℤ (pos 206)) ∷ Some (pos 5000) ∷ Some (pos 5)
+        ∷ []) ∷ [];
     each_group = checked_groups _ _ _ _ _ refl;
     in_order = checked_order _ _ refl;
     cells = refl;
@@ -61,18 +74,31 @@ profits = record {
 
 -- a text is told by BETWEEN with both its ends, a number by NOT, and sorted by a default name
 abbrev brands_text : List ℕ
-brands_text = codes "select count(*), p_brand1 from lineorder, part where lo_partkey = p_partkey and p_brand1 between 'MFGR#121' and 'MFGR#2221' and (not lo_quantity < 10 or lo_tax <> 1) group by p_brand1 order by count1, p_brand1 desc"
+brands_text =
+    codes
+    "select count(*), p_brand1 from lineorder, part where lo_partkey = p_partkey and p_brand1 between 'MFGR#121' and 'MFGR#2221' and (not lo_quantity < 10 or lo_tax <> 1) group by p_brand1 order by count1, p_brand1 desc"
 
 brands : Answers brands_text (codes "count1" ∷ codes "p_brand1" ∷ [])
-    ((integer (pos 1) ∷ cell.Text (codes "MFGR#2221") ∷ []) ∷ (integer (pos 1) ∷ cell.Text (codes "MFGR#1440") ∷ []) ∷ (integer (pos 2) ∷ cell.Text (codes "MFGR#121") ∷ []) ∷ [])
-unfolding cut_from reserved reserved_words spelling column_of columns_of place_of pieces table_name column_called table_called are_groups each_mask in_order is_group is_masked is_right is_there is_there_where same_each same_value function_word digits
+    ((integer (pos 1) ∷ cell.Text (codes "MFGR#2221") ∷ [])
+    ∷ (integer (pos 1) ∷ cell.Text (codes "MFGR#1440") ∷ [])
+    ∷ (integer (pos 2) ∷ cell.Text (codes "MFGR#121") ∷ []) ∷ [])
+unfolding cut_from reserved reserved_words spelling column_of columns_of place_of pieces table_name
+    column_called table_called are_groups each_mask in_order is_group is_masked is_right is_there
+    is_there_where same_each same_value function_word digits
 brands = record {
   tree = _;
-  means = record { short = lit≤ tt; tokens = tokens_of brands_text; cut = refl; derives = derives _ _ refl };
+  means = record {
+    short = lit≤ tt;
+    tokens = tokens_of brands_text;
+    cut = refl;
+    derives =
+        derives _ _ refl;
+  };
   answer = record {
     headed = refl;
     groups =
-        group (Some (text (codes "MFGR#2221")) ∷ []) (Some (pos 1) ∷ []) ∷ group (Some (text (codes "MFGR#1440")) ∷ []) (Some (pos 1) ∷ [])
+        group (Some (text (codes "MFGR#2221")) ∷ []) (Some (pos 1) ∷ [])
+        ∷ group (Some (text (codes "MFGR#1440")) ∷ []) (Some (pos 1) ∷ [])
         ∷ group (Some (text (codes "MFGR#121")) ∷ []) (Some (pos 2) ∷ []) ∷ [];
     each_group = checked_groups _ _ _ _ _ refl;
     in_order = checked_order _ _ refl;
@@ -89,7 +115,8 @@ brands = record {
 abbrev of_brands : Plan
 of_brands = record {
   joins = by_order ∷ of_part ∷ of_supplier ∷ [];
-  conjuncts = compare PCategory Equal (text (codes "MFGR#12")) ∷ compare SRegion Equal (text (codes "AMERICA")) ∷ [];
+  conjuncts = compare PCategory Equal (text (codes "MFGR#12"))
+      ∷ compare SRegion Equal (text (codes "AMERICA")) ∷ [];
   shape = Plain;
   keys = DYear ∷ PBrand1 ∷ [];
   measures = summed revenue ∷ [];
@@ -98,9 +125,12 @@ of_brands = record {
   sorts = record { column = Key 0; direction = Descending } ∷ [];
 }
 
-answer_of_brands : IsPlanAnswer sample of_brands (codes "sum1" ∷ codes "d_year" ∷ codes "p_brand1" ∷ [])
-    ((integer (pos 495) ∷ integer (pos 1994) ∷ cell.Text (codes "MFGR#121") ∷ []) ∷ (integer (pos 980) ∷ integer (pos 1993) ∷ cell.Text (codes "MFGR#121") ∷ []) ∷ [])
-unfolding column_of columns_of place_of pieces are_groups each_mask in_order is_group is_masked is_right is_there is_there_where same_each same_value
+answer_of_brands : IsPlanAnswer sample of_brands
+    (codes "sum1" ∷ codes "d_year" ∷ codes "p_brand1" ∷ [])
+    ((integer (pos 495) ∷ integer (pos 1994) ∷ cell.Text (codes "MFGR#121") ∷ [])
+    ∷ (integer (pos 980) ∷ integer (pos 1993) ∷ cell.Text (codes "MFGR#121") ∷ []) ∷ [])
+unfolding column_of columns_of place_of pieces are_groups each_mask in_order is_group is_masked
+    is_right is_there is_there_where same_each same_value
 answer_of_brands = record {
   headed = refl;
   groups =
@@ -111,7 +141,8 @@ answer_of_brands = record {
   cells = refl;
 }
 
--- select min(lo_supplycost), s_region, max(lo_supplycost) as most, count(*) from lineorder, supplier
+-- select min(lo_supplycost), s_region, max(lo_supplycost) as most, count(*) from lineorder,
+-- supplier
 --     where lo_suppkey = s_suppkey group by cube(s_region)
 abbrev of_regions : Plan
 of_regions = record {
@@ -125,16 +156,20 @@ of_regions = record {
   sorts = [];
 }
 
-answer_of_regions : IsPlanAnswer sample of_regions (codes "min1" ∷ codes "s_region" ∷ codes "most" ∷ codes "count3" ∷ [])
+answer_of_regions : IsPlanAnswer sample of_regions
+    (codes "min1" ∷ codes "s_region" ∷ codes "most" ∷ codes "count3" ∷ [])
     ((integer (pos 600) ∷ cell.Text (codes "AMERICA") ∷ integer (pos 1000) ∷ integer (pos 3) ∷ [])
     ∷ (integer (pos 100) ∷ cell.Text (codes "EUROPE") ∷ integer (pos 1200) ∷ integer (pos 2) ∷ [])
     ∷ (integer (pos 100) ∷ cell.All ∷ integer (pos 1200) ∷ integer (pos 5) ∷ []) ∷ [])
-unfolding column_of columns_of place_of pieces are_groups each_mask in_order is_group is_masked is_right is_there is_there_where same_each same_value
+unfolding column_of columns_of place_of pieces are_groups each_mask in_order is_group is_masked
+    is_right is_there is_there_where same_each same_value
 answer_of_regions = record {
   headed = refl;
   groups =
-      group (Some (text (codes "AMERICA")) ∷ []) (Some (pos 600) ∷ Some (pos 1000) ∷ Some (pos 3) ∷ [])
-      ∷ group (Some (text (codes "EUROPE")) ∷ []) (Some (pos 100) ∷ Some (pos 1200) ∷ Some (pos 2) ∷ [])
+      group (Some (text (codes "AMERICA")) ∷ [])
+      (Some (pos 600) ∷ Some (pos 1000) ∷ Some (pos 3) ∷ [])
+      ∷ group (Some (text (codes "EUROPE")) ∷ [])
+      (Some (pos 100) ∷ Some (pos 1200) ∷ Some (pos 2) ∷ [])
       ∷ group (None ∷ []) (Some (pos 100) ∷ Some (pos 1200) ∷ Some (pos 5) ∷ []) ∷ [];
   each_group = checked_groups _ _ _ _ _ refl;
   in_order = checked_order _ _ refl;

@@ -14,10 +14,15 @@ half_a_key = refl
 no_join : joins Date None ≡ false
 no_join = refl
 
-one_join : (at : _) → is_joined (record { join = None; at = at } ∷ record { join = Some (record { foreign = LoOrderdate; key = DDatekey }); at = at } ∷ []) Date ≡ true
+one_join : (at : _) → is_joined
+    (record { join = None; at = at }
+    ∷ record { join = Some (record { foreign = LoOrderdate; key = DDatekey }); at = at } ∷ []) Date
+    ≡ true
 unfolding column_of
 one_join at = refl
 
-of_no_other_table : (at : _) → is_joined (record { join = Some (record { foreign = LoOrderdate; key = DDatekey }); at = at } ∷ []) Customer ≡ false
+of_no_other_table : (at : _)
+    → is_joined (record { join = Some (record { foreign = LoOrderdate; key = DDatekey }); at = at }
+    ∷ []) Customer ≡ false
 unfolding column_of
 of_no_other_table at = refl

@@ -9,7 +9,9 @@ use Rattle.star_catalogue.specs.FaultTexts.{cell_fault_text, load_fault_text, re
 use Rattle.star_catalogue.specs.declared.fault.LoadFault.TheVariants.{OutOfMemory, ByteOrderMark, TooManyRows, FieldCount, CellTooLong, BadByte, BadNumber, DuplicateKey, AbsentKey}
 
 lines_of_faults : map load_fault_text
-    (OutOfMemory ∷ ByteOrderMark Date ∷ TooManyRows Lineorder ∷ FieldCount Part 3 ∷ CellTooLong Customer 1 2 ∷ BadByte Supplier 12 7 ∷ BadNumber Part 3 8 ∷ DuplicateKey Lineorder 5 ∷ AbsentKey 1 LoCommitdate ∷ [])
+    (OutOfMemory ∷ ByteOrderMark Date ∷ TooManyRows Lineorder ∷ FieldCount Part 3
+    ∷ CellTooLong Customer 1 2 ∷ BadByte Supplier 12 7 ∷ BadNumber Part 3 8
+    ∷ DuplicateKey Lineorder 5 ∷ AbsentKey 1 LoCommitdate ∷ [])
     ≡ codes "1 OutOfMemory"
     ∷ codes "2 ByteOrderMark table date"
     ∷ codes "3 TooManyRows table lineorder"

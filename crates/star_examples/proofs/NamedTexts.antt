@@ -26,11 +26,20 @@ abbrev or_none : Option (Option PlanFault) → Option PlanFault
 or_none None = None
 or_none (Some fault) = fault
 
-named : (xs : List Symbol) (fault : Option PlanFault) (v : Verdict) → verdict_of xs ≡ v → name_fault v ≡ Some fault → (tree : Tree) × Derives xs tree × (plan_fault tree ≡ fault)
+named : (xs : List Symbol) (fault : Option PlanFault) (v : Verdict) → verdict_of xs ≡ v
+    → name_fault v ≡ Some fault → (tree : Tree) × Derives xs tree × (plan_fault tree ≡ fault)
 named xs fault (Whole q) is e = (query_tree q, derives xs q is, ap or_none e)
 named xs fault (Bad f left) is e = absurd (cc)
 
-pub faulty : (bytes : List ℕ) (fault : Option PlanFault) → length bytes ≤ most_bytes → IsCut bytes → name_fault (verdict_of (symbols (tokens_of bytes))) ≡ Some fault → HasNames bytes fault
+pub faulty : (bytes : List ℕ) (fault : Option PlanFault) → length bytes ≤ most_bytes → IsCut bytes
+    → name_fault (verdict_of (symbols (tokens_of bytes))) ≡ Some fault → HasNames bytes fault
 faulty bytes fault short cut e =
-    let found = named (symbols (tokens_of bytes)) fault (verdict_of (symbols (tokens_of bytes))) refl e in
-    record { tree = found.0; means = record { short = short; tokens = tokens_of bytes; cut = cut; derives = found.1 }; first = found.2 }
+    let found = named (symbols (tokens_of bytes)) fault (verdict_of (symbols (tokens_of bytes)))
+    refl e in
+    record {
+      tree = found.0;
+      means =
+          record { short = short; tokens = tokens_of bytes; cut = cut; derives = found.1 };
+      first =
+          found.2;
+    }

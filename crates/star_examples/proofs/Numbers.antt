@@ -19,25 +19,33 @@ use Rattle.star_examples.proofs.Sample.{number, sample, by_order, revenue, cost,
 
 -- a line with the revenue 980, the cost 600 and the discount 2
 abbrev line : Joined
-line = only_row Lineorder (row_of Lineorder (codes "1|1|1|1|2|19930210|2-HIGH|0|10|1000|3000|2|980|600|2|19940105|MAIL|"))
+line = only_row Lineorder
+    (row_of Lineorder (codes "1|1|1|1|2|19930210|2-HIGH|0|10|1000|3000|2|980|600|2|19940105|MAIL|"))
 
-operands : map (λ e. expression_number e line) (revenue ∷ constant (neg_ℤ (pos 3)) ∷ []) ≡ pos 980 ∷ neg_ℤ (pos 3) ∷ []
+operands : map (λ e. expression_number e line) (revenue ∷ constant (neg_ℤ (pos 3)) ∷ [])
+    ≡ pos 980 ∷ neg_ℤ (pos 3) ∷ []
 unfolding column_of columns_of place_of pieces
 operands = refl
 
-operators : map (λ e. expression_number e line) (add revenue cost ∷ sub revenue cost ∷ sub cost revenue ∷ mul revenue cost ∷ mul (constant (neg_ℤ (pos 3))) discount ∷ [])
+operators : map (λ e. expression_number e line)
+    (add revenue cost ∷ sub revenue cost ∷ sub cost revenue ∷ mul revenue cost
+    ∷ mul (constant (neg_ℤ (pos 3))) discount ∷ [])
     ≡ pos 1580 ∷ pos 380 ∷ neg_ℤ (pos 380) ∷ pos 588000 ∷ neg_ℤ (pos 6) ∷ []
 unfolding column_of columns_of place_of pieces
 operators = refl
 
-nested : map (λ e. expression_number e line) (sub (sub revenue cost) discount ∷ sub revenue (sub cost discount) ∷ mul (add revenue cost) discount ∷ [])
+nested : map (λ e. expression_number e line)
+    (sub (sub revenue cost) discount ∷ sub revenue (sub cost discount)
+    ∷ mul (add revenue cost) discount ∷ [])
     ≡ pos 378 ∷ pos 382 ∷ pos 3160 ∷ []
 unfolding column_of columns_of place_of pieces
 nested = refl
 
 -- ---- aggregates
 
-measures_of_a_line : map (measured (λ c. joined_value c line)) (count ∷ summed revenue ∷ least cost ∷ greatest (sub revenue cost) ∷ []) ≡ pos 1 ∷ pos 980 ∷ pos 600 ∷ pos 380 ∷ []
+measures_of_a_line : map (measured (λ c. joined_value c line))
+    (count ∷ summed revenue ∷ least cost ∷ greatest (sub revenue cost) ∷ [])
+    ≡ pos 1 ∷ pos 980 ∷ pos 600 ∷ pos 380 ∷ []
 unfolding column_of columns_of place_of pieces
 measures_of_a_line = refl
 
@@ -59,14 +67,17 @@ abbrev entries : List (Entry Value)
 entries = map (entry_of by_year) (plan_rows sample by_year)
 
 abbrev totals_in : Option Value → List (Option ℤ)
-totals_in year = totals_of (map aggregate_of by_year.measures) (members value_cmp (year ∷ []) entries)
+totals_in year = totals_of (map aggregate_of by_year.measures)
+    (members value_cmp (year ∷ []) entries)
 
 -- two lines of 1993, with 980 and 1940
-totals_of_1993 : totals_in (Some (number 1993)) ≡ Some (pos 2920) ∷ Some (pos 980) ∷ Some (pos 1940) ∷ Some (pos 2) ∷ []
+totals_of_1993 : totals_in (Some (number 1993))
+    ≡ Some (pos 2920) ∷ Some (pos 980) ∷ Some (pos 1940) ∷ Some (pos 2) ∷ []
 unfolding column_of columns_of place_of pieces
 totals_of_1993 = refl
 
-totals_of_all : totals_in None ≡ Some (pos 7045) ∷ Some (pos 495) ∷ Some (pos 3000) ∷ Some (pos 5) ∷ []
+totals_of_all : totals_in None
+    ≡ Some (pos 7045) ∷ Some (pos 495) ∷ Some (pos 3000) ∷ Some (pos 5) ∷ []
 unfolding column_of columns_of place_of pieces
 totals_of_all = refl
 

@@ -35,19 +35,22 @@ abbrev unjoined : RowCondition
 unjoined = compare PBrand1 Equal (text (codes "MFGR#12"))
 
 comparisons_sound : map (condition_is_sound dated)
-    (good ∷ unjoined ∷ compare DYear Equal (text (codes "1993")) ∷ compare LoShipmode Equal (number 1) ∷ compare LoShipmode Equal (text (codes "AIR")) ∷ [])
+    (good ∷ unjoined ∷ compare DYear Equal (text (codes "1993"))
+    ∷ compare LoShipmode Equal (number 1) ∷ compare LoShipmode Equal (text (codes "AIR")) ∷ [])
     ≡ true ∷ false ∷ false ∷ false ∷ true ∷ []
 unfolding column_of
 comparisons_sound = refl
 
 betweens_sound : map (condition_is_sound dated)
-    (between DYear (number 1) (number 2) ∷ between DYear (text []) (number 2) ∷ between DYear (number 1) (text []) ∷ between PSize (number 1) (number 2) ∷ [])
+    (between DYear (number 1) (number 2) ∷ between DYear (text []) (number 2)
+    ∷ between DYear (number 1) (text []) ∷ between PSize (number 1) (number 2) ∷ [])
     ≡ true ∷ false ∷ false ∷ false ∷ []
 unfolding column_of
 betweens_sound = refl
 
 conditions_sound : map (condition_is_sound dated)
-    (or good good ∷ or unjoined good ∷ or good unjoined ∷ and good good ∷ and unjoined good ∷ and good unjoined ∷ not good ∷ not unjoined ∷ [])
+    (or good good ∷ or unjoined good ∷ or good unjoined ∷ and good good ∷ and unjoined good
+    ∷ and good unjoined ∷ not good ∷ not unjoined ∷ [])
     ≡ true ∷ false ∷ false ∷ true ∷ false ∷ false ∷ true ∷ false ∷ []
 unfolding column_of
 conditions_sound = refl
@@ -57,25 +60,33 @@ abbrev mode : Expression ColumnId
 mode = column LoShipmode
 
 expressions_sound : map (expression_is_sound dated)
-    (tax ∷ column DYear ∷ mode ∷ column PSize ∷ constant (pos 1) ∷ add tax tax ∷ add mode tax ∷ add tax mode ∷ sub mode tax ∷ sub tax mode ∷ mul mode tax ∷ mul tax mode ∷ [])
+    (tax ∷ column DYear ∷ mode ∷ column PSize ∷ constant (pos 1) ∷ add tax tax ∷ add mode tax
+    ∷ add tax mode ∷ sub mode tax ∷ sub tax mode ∷ mul mode tax ∷ mul tax mode ∷ [])
     ≡ true ∷ true ∷ false ∷ false ∷ true ∷ true ∷ false ∷ false ∷ false ∷ false ∷ false ∷ false ∷ []
 unfolding column_of
 expressions_sound = refl
 
-measures_sound : map (measure_is_sound dated) (count ∷ summed tax ∷ summed mode ∷ least mode ∷ greatest mode ∷ []) ≡ true ∷ true ∷ false ∷ false ∷ false ∷ []
+measures_sound : map (measure_is_sound dated)
+    (count ∷ summed tax ∷ summed mode ∷ least mode ∷ greatest mode ∷ [])
+    ≡ true ∷ true ∷ false ∷ false ∷ false ∷ []
 unfolding column_of
 measures_sound = refl
 
-joins_distinct : map are_distinct (dated ∷ (by_order ∷ of_part ∷ []) ∷ (by_order ∷ by_commit ∷ []) ∷ (by_order ∷ of_part ∷ by_commit ∷ []) ∷ []) ≡ true ∷ true ∷ false ∷ false ∷ []
+joins_distinct : map are_distinct
+    (dated ∷ (by_order ∷ of_part ∷ []) ∷ (by_order ∷ by_commit ∷ [])
+    ∷ (by_order ∷ of_part ∷ by_commit ∷ []) ∷ []) ≡ true ∷ true ∷ false ∷ false ∷ []
 unfolding column_of
 joins_distinct = refl
 
-foreign_keys : is_foreign LoOrderdate DDatekey ∷ is_foreign LoOrderdate CCustkey ∷ is_foreign LoOrderdate DYear ∷ is_foreign LoTax DDatekey ∷ is_foreign DDatekey LoOrderdate ∷ []
+foreign_keys : is_foreign LoOrderdate DDatekey ∷ is_foreign LoOrderdate CCustkey
+    ∷ is_foreign LoOrderdate DYear ∷ is_foreign LoTax DDatekey ∷ is_foreign DDatekey LoOrderdate
+    ∷ []
     ≡ true ∷ false ∷ false ∷ false ∷ false ∷ []
 unfolding column_of
 foreign_keys = refl
 
-columns_of_a_group : map (is_group_column 2 3) (Key 1 ∷ Key 2 ∷ Aggregate 2 ∷ Aggregate 3 ∷ []) ≡ true ∷ false ∷ true ∷ false ∷ []
+columns_of_a_group : map (is_group_column 2 3) (Key 1 ∷ Key 2 ∷ Aggregate 2 ∷ Aggregate 3 ∷ [])
+    ≡ true ∷ false ∷ true ∷ false ∷ []
 columns_of_a_group = refl
 
 -- select d_year, sum(lo_tax) from lineorder, date
@@ -94,9 +105,21 @@ taxes = record {
 
 taxes_sound : IsSoundPlan taxes
 unfolding column_of
-taxes_sound = record { joins = refl; distinct = refl; conjuncts = refl; keys = refl; measures = refl; names = refl; items = refl; shown = omega arith; sorts = refl }
+taxes_sound = record {
+  joins = refl;
+  distinct = refl;
+  conjuncts = refl;
+  keys = refl;
+  measures =
+      refl;
+  names = refl;
+  items = refl;
+  shown = omega arith;
+  sorts = refl;
+}
 
-no_foreign_key : IsSoundPlan (record taxes { joins = record { foreign = LoTax; key = DDatekey } ∷ [] }) → ⊥
+no_foreign_key : IsSoundPlan
+    (record taxes { joins = record { foreign = LoTax; key = DDatekey } ∷ [] }) → ⊥
 unfolding column_of
 no_foreign_key sound = let broken : false ≡ true = sound.joins in cc
 
@@ -125,18 +148,24 @@ item_past_the_group sound = let broken : false ≡ true = sound.items in cc
 nothing_shown : IsSoundPlan (record taxes { items = [] }) → ⊥
 nothing_shown sound = let none : 1 ≤ 0 = sound.shown in omega (arith, none)
 
-sort_past_the_group : IsSoundPlan (record taxes { sorts = record { column = Aggregate 1; direction = Ascending } ∷ [] }) → ⊥
+sort_past_the_group : IsSoundPlan
+    (record taxes { sorts = record { column = Aggregate 1; direction = Ascending } ∷ [] }) → ⊥
 sort_past_the_group sound = let broken : false ≡ true = sound.sorts in cc
 
 -- ---- within limits, at each limit and one past it
 
-comparisons_counted : map comparisons_of (good ∷ between DYear (number 1) (number 2) ∷ not good ∷ or good (not good) ∷ and (not good) (and good good) ∷ []) ≡ 1 ∷ 1 ∷ 2 ∷ 3 ∷ 4 ∷ []
+comparisons_counted : map comparisons_of
+    (good ∷ between DYear (number 1) (number 2) ∷ not good ∷ or good (not good)
+    ∷ and (not good) (and good good) ∷ []) ≡ 1 ∷ 1 ∷ 2 ∷ 3 ∷ 4 ∷ []
 comparisons_counted = refl
 
-operands_counted : map operands_of (tax ∷ constant (pos 1) ∷ add tax tax ∷ sub tax (add tax tax) ∷ mul (sub tax tax) (mul tax tax) ∷ []) ≡ 1 ∷ 1 ∷ 2 ∷ 3 ∷ 4 ∷ []
+operands_counted : map operands_of
+    (tax ∷ constant (pos 1) ∷ add tax tax ∷ sub tax (add tax tax) ∷ mul (sub tax tax) (mul tax tax)
+    ∷ []) ≡ 1 ∷ 1 ∷ 2 ∷ 3 ∷ 4 ∷ []
 operands_counted = refl
 
-measures_counted : map measure_operands (count ∷ summed (add tax tax) ∷ least tax ∷ greatest tax ∷ []) ≡ 0 ∷ 2 ∷ 1 ∷ 1 ∷ []
+measures_counted : map measure_operands
+    (count ∷ summed (add tax tax) ∷ least tax ∷ greatest tax ∷ []) ≡ 0 ∷ 2 ∷ 1 ∷ 1 ∷ []
 measures_counted = refl
 
 abbrev largest : Plan
@@ -152,12 +181,23 @@ largest = record {
 }
 
 largest_within : IsPlanWithinLimits largest
-largest_within = record { joins = omega arith; comparisons = omega arith; keys = omega arith; measures = omega arith; operands = omega arith; items = omega arith; sorts = omega arith }
+largest_within = record {
+  joins = omega arith;
+  comparisons = omega arith;
+  keys =
+      omega arith;
+  measures = omega arith;
+  operands = omega arith;
+  items = omega arith;
+  sorts =
+      omega arith;
+}
 
 five_joins : IsPlanWithinLimits (record largest { joins = replicate 5 by_order }) → ⊥
 five_joins within = let many : 5 ≤ 4 = within.joins in omega (arith, many)
 
-comparison_too_many : IsPlanWithinLimits (record largest { conjuncts = not good ∷ replicate 255 good }) → ⊥
+comparison_too_many : IsPlanWithinLimits
+    (record largest { conjuncts = not good ∷ replicate 255 good }) → ⊥
 comparison_too_many within = let many : 257 ≤ 256 = within.comparisons in omega (arith, many)
 
 seven_keys : IsPlanWithinLimits (record largest { keys = replicate 7 DYear }) → ⊥
@@ -171,11 +211,13 @@ abbrev chain : ℕ → Expression ColumnId
 chain zero = tax
 chain (suc n) = add (chain n) tax
 
-operand_too_many : IsPlanWithinLimits (record largest { measures = summed (chain 511) ∷ least tax ∷ [] }) → ⊥
+operand_too_many : IsPlanWithinLimits
+    (record largest { measures = summed (chain 511) ∷ least tax ∷ [] }) → ⊥
 operand_too_many within = let many : 513 ≤ 512 = within.operands in omega (arith, many)
 
 item_too_many : IsPlanWithinLimits (record largest { items = replicate 17 (Key 0) }) → ⊥
 item_too_many within = let many : 17 ≤ 16 = within.items in omega (arith, many)
 
-sort_key_too_many : IsPlanWithinLimits (record largest { sorts = replicate 17 (record { column = Key 0; direction = Ascending }) }) → ⊥
+sort_key_too_many : IsPlanWithinLimits
+    (record largest { sorts = replicate 17 (record { column = Key 0; direction = Ascending }) }) → ⊥
 sort_key_too_many within = let many : 17 ≤ 16 = within.sorts in omega (arith, many)

@@ -1,4 +1,5 @@
--- The thirteen texts of the benchmark have the plans whose programs stand as texts in star_compile_laws.
+-- The thirteen texts of the benchmark have the plans whose programs stand as texts in
+-- star_compile_laws.
 use Rattle.std.proofs.Common.{refl}
 use Rattle.std.specs.Fmt.{digits}
 use Rattle.star_schema.specs.Schema.{column_of, table_name}
@@ -32,20 +33,151 @@ plan_of Q42 = q42
 plan_of Q43 = q43
 
 resolved : (q : BenchmarkQuery) → IsResolved (meaning (query_text q)) (plan_of q)
-unfolding digits query_text cut_from reserved reserved_words spelling column_of column_called table_called has_name table_name function_word has_text
-resolved Q11 = record { joins = refl; conjuncts = refl; shape = refl; keys = refl; measures = refl; names = refl; items = refl; sorts = refl }
-resolved Q12 = record { joins = refl; conjuncts = refl; shape = refl; keys = refl; measures = refl; names = refl; items = refl; sorts = refl }
-resolved Q13 = record { joins = refl; conjuncts = refl; shape = refl; keys = refl; measures = refl; names = refl; items = refl; sorts = refl }
-resolved Q21 = record { joins = refl; conjuncts = refl; shape = refl; keys = refl; measures = refl; names = refl; items = refl; sorts = refl }
-resolved Q22 = record { joins = refl; conjuncts = refl; shape = refl; keys = refl; measures = refl; names = refl; items = refl; sorts = refl }
-resolved Q23 = record { joins = refl; conjuncts = refl; shape = refl; keys = refl; measures = refl; names = refl; items = refl; sorts = refl }
-resolved Q31 = record { joins = refl; conjuncts = refl; shape = refl; keys = refl; measures = refl; names = refl; items = refl; sorts = refl }
-resolved Q32 = record { joins = refl; conjuncts = refl; shape = refl; keys = refl; measures = refl; names = refl; items = refl; sorts = refl }
-resolved Q33 = record { joins = refl; conjuncts = refl; shape = refl; keys = refl; measures = refl; names = refl; items = refl; sorts = refl }
-resolved Q34 = record { joins = refl; conjuncts = refl; shape = refl; keys = refl; measures = refl; names = refl; items = refl; sorts = refl }
-resolved Q41 = record { joins = refl; conjuncts = refl; shape = refl; keys = refl; measures = refl; names = refl; items = refl; sorts = refl }
-resolved Q42 = record { joins = refl; conjuncts = refl; shape = refl; keys = refl; measures = refl; names = refl; items = refl; sorts = refl }
-resolved Q43 = record { joins = refl; conjuncts = refl; shape = refl; keys = refl; measures = refl; names = refl; items = refl; sorts = refl }
+unfolding digits query_text cut_from reserved reserved_words spelling column_of column_called
+    table_called has_name table_name function_word has_text
+resolved Q11 = record {
+  joins = refl;
+  conjuncts = refl;
+  shape = refl;
+  keys = refl;
+  measures =
+      refl;
+  names = refl;
+  items = refl;
+  sorts = refl;
+}
+resolved Q12 = record {
+  joins = refl;
+  conjuncts = refl;
+  shape = refl;
+  keys = refl;
+  measures =
+      refl;
+  names = refl;
+  items = refl;
+  sorts = refl;
+}
+resolved Q13 = record {
+  joins = refl;
+  conjuncts = refl;
+  shape = refl;
+  keys = refl;
+  measures =
+      refl;
+  names = refl;
+  items = refl;
+  sorts = refl;
+}
+resolved Q21 = record {
+  joins = refl;
+  conjuncts = refl;
+  shape = refl;
+  keys = refl;
+  measures =
+      refl;
+  names = refl;
+  items = refl;
+  sorts = refl;
+}
+resolved Q22 = record {
+  joins = refl;
+  conjuncts = refl;
+  shape = refl;
+  keys = refl;
+  measures =
+      refl;
+  names = refl;
+  items = refl;
+  sorts = refl;
+}
+resolved Q23 = record {
+  joins = refl;
+  conjuncts = refl;
+  shape = refl;
+  keys = refl;
+  measures =
+      refl;
+  names = refl;
+  items = refl;
+  sorts = refl;
+}
+resolved Q31 = record {
+  joins = refl;
+  conjuncts = refl;
+  shape = refl;
+  keys = refl;
+  measures =
+      refl;
+  names = refl;
+  items = refl;
+  sorts = refl;
+}
+resolved Q32 = record {
+  joins = refl;
+  conjuncts = refl;
+  shape = refl;
+  keys = refl;
+  measures =
+      refl;
+  names = refl;
+  items = refl;
+  sorts = refl;
+}
+resolved Q33 = record {
+  joins = refl;
+  conjuncts = refl;
+  shape = refl;
+  keys = refl;
+  measures =
+      refl;
+  names = refl;
+  items = refl;
+  sorts = refl;
+}
+resolved Q34 = record {
+  joins = refl;
+  conjuncts = refl;
+  shape = refl;
+  keys = refl;
+  measures =
+      refl;
+  names = refl;
+  items = refl;
+  sorts = refl;
+}
+resolved Q41 = record {
+  joins = refl;
+  conjuncts = refl;
+  shape = refl;
+  keys = refl;
+  measures =
+      refl;
+  names = refl;
+  items = refl;
+  sorts = refl;
+}
+resolved Q42 = record {
+  joins = refl;
+  conjuncts = refl;
+  shape = refl;
+  keys = refl;
+  measures =
+      refl;
+  names = refl;
+  items = refl;
+  sorts = refl;
+}
+resolved Q43 = record {
+  joins = refl;
+  conjuncts = refl;
+  shape = refl;
+  keys = refl;
+  measures =
+      refl;
+  names = refl;
+  items = refl;
+  sorts = refl;
+}
 
 their_plans : (q : BenchmarkQuery) → IsPlanOf (query_text q) (plan_of q)
 their_plans q =

@@ -29,25 +29,36 @@ seen columns rows = map (λ row. map (λ c. joined_value c row) columns) rows
 -- every row of the first table with every row of the second, whose rows change first
 suppliers_and_dates : seen (SSuppkey ∷ DYear ∷ []) (product sample (Supplier ∷ Date ∷ []))
     ≡ (number 1 ∷ number 1993 ∷ []) ∷ (number 1 ∷ number 1994 ∷ []) ∷ (number 1 ∷ number 1997 ∷ [])
-    ∷ (number 2 ∷ number 1993 ∷ []) ∷ (number 2 ∷ number 1994 ∷ []) ∷ (number 2 ∷ number 1997 ∷ []) ∷ []
+    ∷ (number 2 ∷ number 1993 ∷ []) ∷ (number 2 ∷ number 1994 ∷ []) ∷ (number 2 ∷ number 1997 ∷ [])
+    ∷ []
 unfolding column_of columns_of place_of pieces
 suppliers_and_dates = refl
 
 dates_and_suppliers : seen (SSuppkey ∷ DYear ∷ []) (product sample (Date ∷ Supplier ∷ []))
     ≡ (number 1 ∷ number 1993 ∷ []) ∷ (number 2 ∷ number 1993 ∷ []) ∷ (number 1 ∷ number 1994 ∷ [])
-    ∷ (number 2 ∷ number 1994 ∷ []) ∷ (number 1 ∷ number 1997 ∷ []) ∷ (number 2 ∷ number 1997 ∷ []) ∷ []
+    ∷ (number 2 ∷ number 1994 ∷ []) ∷ (number 1 ∷ number 1997 ∷ []) ∷ (number 2 ∷ number 1997 ∷ [])
+    ∷ []
 unfolding column_of columns_of place_of pieces
 dates_and_suppliers = refl
 
 -- FROM's tables in FROM's order
-tables_of_names : tables_of (called (codes "supplier") ∷ called (codes "date") ∷ []) ≡ Supplier ∷ Date ∷ []
+tables_of_names : tables_of (called (codes "supplier") ∷ called (codes "date") ∷ [])
+    ≡ Supplier ∷ Date ∷ []
 unfolding table_called table_name
 tables_of_names = refl
 
 -- ---- the product, filtered
 
 abbrev asking : List Name → Condition Test → Tree
-asking tables condition = record { items = []; tables = tables; condition = Some condition; grouping = record { shape = Plain; columns = [] }; keys = [] }
+asking tables condition =
+    record {
+      items = [];
+      tables = tables;
+      condition = Some condition;
+      grouping =
+          record { shape = Plain; columns = [] };
+      keys = [];
+    }
 
 abbrev lines_and_suppliers : List Name
 lines_and_suppliers = called (codes "lineorder") ∷ called (codes "supplier") ∷ []
@@ -60,7 +71,8 @@ abbrev many : Condition Test
 many = compare (called (codes "lo_quantity")) Greater (tree.number (pos 20))
 
 abbrev quantities : Condition Test → List (List Value)
-quantities condition = seen (LoQuantity ∷ SSuppkey ∷ []) (selected sample (asking lines_and_suppliers condition))
+quantities condition = seen (LoQuantity ∷ SSuppkey ∷ [])
+    (selected sample (asking lines_and_suppliers condition))
 
 -- with no comparison of two columns, each line stands beside each supplier
 not_joined : quantities many
@@ -75,7 +87,9 @@ joined : quantities (and supplied many)
 unfolding column_of columns_of place_of pieces column_called table_called table_name
 joined = refl
 
-joined_in_either_order : quantities (and many (pair (called (codes "s_suppkey")) (called (codes "lo_suppkey")))) ≡ quantities (and supplied many)
+joined_in_either_order :
+    quantities (and many (pair (called (codes "s_suppkey")) (called (codes "lo_suppkey"))))
+    ≡ quantities (and supplied many)
 unfolding column_of columns_of place_of pieces column_called table_called table_name
 joined_in_either_order = refl
 
@@ -86,6 +100,7 @@ not_the_supplier = refl
 
 joined_or_few : quantities (or supplied (not many))
     ≡ (number 10 ∷ number 1 ∷ []) ∷ (number 10 ∷ number 2 ∷ []) ∷ (number 30 ∷ number 1 ∷ [])
-    ∷ (number 24 ∷ number 2 ∷ []) ∷ (number 50 ∷ number 2 ∷ []) ∷ (number 1 ∷ number 1 ∷ []) ∷ (number 1 ∷ number 2 ∷ []) ∷ []
+    ∷ (number 24 ∷ number 2 ∷ []) ∷ (number 50 ∷ number 2 ∷ []) ∷ (number 1 ∷ number 1 ∷ [])
+    ∷ (number 1 ∷ number 2 ∷ []) ∷ []
 unfolding column_of columns_of place_of pieces column_called table_called table_name
 joined_or_few = refl

@@ -14,7 +14,8 @@ use Rattle.star_examples.proofs.QueryTests.{between}
 
 -- a line with the discount 2 and the mode MAIL
 abbrev line : Joined
-line = only_row Lineorder (row_of Lineorder (codes "1|1|1|1|2|19930210|2-HIGH|0|10|1000|3000|2|980|600|2|19940105|MAIL|"))
+line = only_row Lineorder
+    (row_of Lineorder (codes "1|1|1|1|2|19930210|2-HIGH|0|10|1000|3000|2|980|600|2|19940105|MAIL|"))
 
 abbrev called : List ℕ → Name
 called word = record { text = word; place = 0 }
@@ -26,12 +27,16 @@ abbrev mode : (from upto : List ℕ) → Condition Test
 mode from upto = between (called (codes "lo_shipmode")) (text from) (text upto)
 
 -- both ends, below and above them, and an end that is above the other
-ends_of_numbers : map (λ c. is_true c line) (discount 2 2 ∷ discount 1 2 ∷ discount 2 3 ∷ discount 3 4 ∷ discount 0 1 ∷ discount 3 1 ∷ [])
+ends_of_numbers : map (λ c. is_true c line)
+    (discount 2 2 ∷ discount 1 2 ∷ discount 2 3 ∷ discount 3 4 ∷ discount 0 1 ∷ discount 3 1 ∷ [])
     ≡ true ∷ true ∷ true ∷ false ∷ false ∷ false ∷ []
 unfolding column_of columns_of place_of pieces column_called
 ends_of_numbers = refl
 
-ends_of_texts : map (λ c. is_true c line) (mode (codes "MAIL") (codes "MAIL") ∷ mode (codes "A") (codes "MAIL") ∷ mode (codes "MAIL") (codes "Z") ∷ mode (codes "MAILS") (codes "Z") ∷ mode (codes "A") (codes "MAI") ∷ [])
+ends_of_texts : map (λ c. is_true c line)
+    (mode (codes "MAIL") (codes "MAIL") ∷ mode (codes "A") (codes "MAIL")
+    ∷ mode (codes "MAIL") (codes "Z") ∷ mode (codes "MAILS") (codes "Z")
+    ∷ mode (codes "A") (codes "MAI") ∷ [])
     ≡ true ∷ true ∷ true ∷ false ∷ false ∷ []
 unfolding column_of columns_of place_of pieces column_called
 ends_of_texts = refl

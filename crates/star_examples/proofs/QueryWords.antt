@@ -18,16 +18,23 @@ at place x = record { symbol = x; place = place }
 -- ---- tokens
 
 -- a sign ends where it ends
-signs : cut_of (codes "<7>=8") ≡ Ok (at 0 (relation Less) ∷ at 1 (number 7) ∷ at 2 (relation AtLeast) ∷ at 4 (number 8) ∷ [])
+signs : cut_of (codes "<7>=8")
+    ≡ Ok (at 0 (relation Less) ∷ at 1 (number 7) ∷ at 2 (relation AtLeast) ∷ at 4 (number 8) ∷ [])
 unfolding cut_from
 signs = refl
 
 -- ---- phrases
 
-directions : (n : tree.Name) → map key_tree (unmarked n ∷ ascending n ∷ descending n ∷ []) ≡ record { name = n; direction = Ascending } ∷ record { name = n; direction = Ascending } ∷ record { name = n; direction = Descending } ∷ []
+directions : (n : tree.Name)
+    → map key_tree (unmarked n ∷ ascending n ∷ descending n ∷ [])
+    ≡ record { name = n; direction = Ascending } ∷ record { name = n; direction = Ascending }
+    ∷ record { name = n; direction = Descending } ∷ []
 directions n = refl
 
-groupings : (n : tree.Name) → map groups_tree (ungrouped ∷ grouped (one n) ∷ hiding cube (one n) ∷ hiding rollup (one n) ∷ []) ≡ record { shape = Plain; columns = [] } ∷ record { shape = Plain; columns = n ∷ [] } ∷ record { shape = Cube; columns = n ∷ [] } ∷ record { shape = Rollup; columns = n ∷ [] } ∷ []
+groupings : (n : tree.Name)
+    → map groups_tree (ungrouped ∷ grouped (one n) ∷ hiding cube (one n) ∷ hiding rollup (one n)
+    ∷ []) ≡ record { shape = Plain; columns = [] } ∷ record { shape = Plain; columns = n ∷ [] }
+    ∷ record { shape = Cube; columns = n ∷ [] } ∷ record { shape = Rollup; columns = n ∷ [] } ∷ []
 groupings n = refl
 
 -- ---- the first fault of a text
@@ -43,23 +50,30 @@ module _ (bytes : List ℕ) where
   as_long_as_may_be long over = omega (arith, long, over)
 
   -- of no text that is too long, and where the rest begins
-  unexpected_within : (place : ℕ) → IsFirstQueryFault bytes (faults.Unexpected place) → length bytes ≤ most_bytes
+  unexpected_within : (place : ℕ) → IsFirstQueryFault bytes (faults.Unexpected place)
+      → length bytes ≤ most_bytes
   unexpected_within place first = first.1.short
 
-  unexpected_there : (place : ℕ) (first : IsFirstQueryFault bytes (faults.Unexpected place)) → place ≡ first_place first.0 (length bytes)
+  unexpected_there : (place : ℕ) (first : IsFirstQueryFault bytes (faults.Unexpected place))
+      → place ≡ first_place first.0 (length bytes)
   unexpected_there place first = first.2
 
-  too_deep : (first : IsFirstQueryFault bytes faults.TooDeep) → Breaks IsTooDeep first.1.first.front (symbols first.0)
+  too_deep : (first : IsFirstQueryFault bytes faults.TooDeep)
+      → Breaks IsTooDeep first.1.first.front (symbols first.0)
   too_deep first = first.1.first.fails
 
-  too_many : (first : IsFirstQueryFault bytes faults.TooMany) → Breaks IsTooMany first.1.first.front (symbols first.0)
+  too_many : (first : IsFirstQueryFault bytes faults.TooMany)
+      → Breaks IsTooMany first.1.first.front (symbols first.0)
   too_many first = first.1.first.fails
 
-  a_bad_byte : length bytes ≡ most_bytes → cut_of bytes ≡ Err (faults.BadCharacter 3) → IsFirstQueryFault bytes (faults.BadCharacter 3)
+  a_bad_byte : length bytes ≡ most_bytes → cut_of bytes ≡ Err (faults.BadCharacter 3)
+      → IsFirstQueryFault bytes (faults.BadCharacter 3)
   a_bad_byte long cut = (omega (arith, long), cut)
 
-  a_bad_byte_of_a_longer_text : most_bytes < length bytes → IsFirstQueryFault bytes (faults.BadCharacter 3) → ⊥
+  a_bad_byte_of_a_longer_text : most_bytes < length bytes
+      → IsFirstQueryFault bytes (faults.BadCharacter 3) → ⊥
   a_bad_byte_of_a_longer_text long first = omega (arith, long, first.0)
 
-  no_bad_byte : (cut_of bytes ≡ Err (faults.BadCharacter 3) → ⊥) → IsFirstQueryFault bytes (faults.BadCharacter 3) → ⊥
+  no_bad_byte : (cut_of bytes ≡ Err (faults.BadCharacter 3) → ⊥)
+      → IsFirstQueryFault bytes (faults.BadCharacter 3) → ⊥
   no_bad_byte other first = other first.1

@@ -17,7 +17,8 @@ two = Numbers (pos 7 ∷ pos 8 ∷ []) ∷ Texts (codes "a" ∷ codes "b" ∷ []
 kinds_of_two : map raw_kind two ≡ kind.Number ∷ kind.Text ∷ []
 kinds_of_two = refl
 
-values_of_two : map values two ≡ (Number (pos 7) ∷ Number (pos 8) ∷ []) ∷ (Text (codes "a") ∷ Text (codes "b") ∷ []) ∷ []
+values_of_two : map values two
+    ≡ (Number (pos 7) ∷ Number (pos 8) ∷ []) ∷ (Text (codes "a") ∷ Text (codes "b") ∷ []) ∷ []
 values_of_two = refl
 
 -- the first row before the second, each from the left
@@ -34,6 +35,7 @@ past_the_end : row_of_columns (map values two) 2 ≡ Number (pos 0) ∷ Number (
 past_the_end = refl
 
 texts_of_tables : (texts : five.Texts) → map (texts_view texts) TABLES
-    ≡ (texts.date.now ∷ []) ∷ (texts.customer.now ∷ []) ∷ (texts.supplier.now ∷ []) ∷ (texts.part.now ∷ [])
+    ≡ (texts.date.now ∷ []) ∷ (texts.customer.now ∷ []) ∷ (texts.supplier.now ∷ [])
+    ∷ (texts.part.now ∷ [])
     ∷ map (λ part. part.now) texts.lineorder.now ∷ []
 texts_of_tables texts = refl

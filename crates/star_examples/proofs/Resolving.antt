@@ -33,21 +33,27 @@ record HasPlan (bytes : List ℕ) (plan : Plan) : Type 0 where
 -- a join is one by either order, two aggregates are named by their functions and numbers, and a
 -- group column that is not selected has its place among the others
 abbrev profits_text : List ℕ
-profits_text = codes "select d_year, sum(lo_revenue - lo_supplycost) as profit, min(lo_tax*2+lo_tax), max(lo_tax), count(*) from lineorder, date, part where lo_orderdate = d_datekey and (d_year = 1993 or not lo_shipmode between 'A' and 'B') and p_partkey = lo_partkey and (lo_tax < 3 or lo_tax > 4 and lo_tax <> 5) group by d_year, p_brand1 order by profit desc, p_brand1, count4"
+profits_text =
+    codes
+    "select d_year, sum(lo_revenue - lo_supplycost) as profit, min(lo_tax*2+lo_tax), max(lo_tax), count(*) from lineorder, date, part where lo_orderdate = d_datekey and (d_year = 1993 or not lo_shipmode between 'A' and 'B') and p_partkey = lo_partkey and (lo_tax < 3 or lo_tax > 4 and lo_tax <> 5) group by d_year, p_brand1 order by profit desc, p_brand1, count4"
 
 abbrev profits : Plan
 profits = record {
   joins = by_order ∷ of_part ∷ [];
   conjuncts =
-      or (compare DYear Equal (number 1993)) (not (between LoShipmode (text (codes "A")) (text (codes "B"))))
-      ∷ or (compare LoTax Less (number 3)) (and (compare LoTax Greater (number 4)) (compare LoTax Unequal (number 5))) ∷ [];
+      or (compare DYear Equal (number 1993))
+      (not (between LoShipmode (text (codes "A")) (text (codes "B"))))
+      ∷ or (compare LoTax Less (number 3))
+      (and (compare LoTax Greater (number 4)) (compare LoTax Unequal (number 5))) ∷ [];
   shape = Plain;
   keys = DYear ∷ PBrand1 ∷ [];
-  measures = summed (sub revenue cost) ∷ least (add (mul tax (constant (pos 2))) tax) ∷ greatest tax ∷ count ∷ [];
+  measures = summed (sub revenue cost) ∷ least (add (mul tax (constant (pos 2))) tax) ∷ greatest tax
+      ∷ count ∷ [];
   names = codes "profit" ∷ codes "min2" ∷ codes "max3" ∷ codes "count4" ∷ [];
   items = Key 0 ∷ Aggregate 0 ∷ Aggregate 1 ∷ Aggregate 2 ∷ Aggregate 3 ∷ [];
   sorts =
-      record { column = Aggregate 0; direction = Descending } ∷ record { column = Key 1; direction = Ascending }
+      record { column = Aggregate 0; direction = Descending }
+      ∷ record { column = Key 1; direction = Ascending }
       ∷ record { column = Aggregate 3; direction = Ascending } ∷ [];
 }
 
@@ -55,8 +61,24 @@ profits_planned : HasPlan profits_text profits
 unfolding cut_from reserved reserved_words spelling column_of column_called function_word digits
 profits_planned = record {
   tree = _;
-  means = record { short = lit≤ tt; tokens = tokens_of profits_text; cut = refl; derives = derives _ _ refl };
-  resolved = record { joins = refl; conjuncts = refl; shape = refl; keys = refl; measures = refl; names = refl; items = refl; sorts = refl };
+  means = record {
+    short = lit≤ tt;
+    tokens = tokens_of profits_text;
+    cut = refl;
+    derives =
+        derives _ _ refl;
+  };
+  resolved = record {
+    joins = refl;
+    conjuncts = refl;
+    shape = refl;
+    keys = refl;
+    measures =
+        refl;
+    names = refl;
+    items = refl;
+    sorts = refl;
+  };
 }
 
 -- and with no WHERE there is no join and no conjunct
@@ -79,13 +101,30 @@ taxes_planned : HasPlan taxes_text taxes
 unfolding cut_from reserved reserved_words spelling column_of column_called function_word digits
 taxes_planned = record {
   tree = _;
-  means = record { short = lit≤ tt; tokens = tokens_of taxes_text; cut = refl; derives = derives _ _ refl };
-  resolved = record { joins = refl; conjuncts = refl; shape = refl; keys = refl; measures = refl; names = refl; items = refl; sorts = refl };
+  means = record {
+    short = lit≤ tt;
+    tokens = tokens_of taxes_text;
+    cut = refl;
+    derives =
+        derives _ _ refl;
+  };
+  resolved = record {
+    joins = refl;
+    conjuncts = refl;
+    shape = refl;
+    keys = refl;
+    measures =
+        refl;
+    names = refl;
+    items = refl;
+    sorts = refl;
+  };
 }
 
 -- such a plan is one that there is
 taxes_is_planned : IsPlanned taxes
-unfolding cut_from reserved reserved_words spelling column_of table_name column_called table_called first_answer has_name has_text function_word digits taxes_planned
+unfolding cut_from reserved reserved_words spelling column_of table_name column_called table_called
+    first_answer has_name has_text function_word digits taxes_planned
 taxes_is_planned = record {
   tree = taxes_planned.tree;
   meant = ∣ (taxes_text, taxes_planned.means) ∣₁;

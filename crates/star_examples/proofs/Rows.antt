@@ -23,37 +23,52 @@ seen ts js columns = map (λ row. map (λ c. joined_value c row) columns) (joine
 -- ---- joined rows
 
 no_join : seen sample [] (LoOrderkey ∷ LoLinenumber ∷ [])
-    ≡ (number 1 ∷ number 1 ∷ []) ∷ (number 1 ∷ number 2 ∷ []) ∷ (number 2 ∷ number 1 ∷ []) ∷ (number 3 ∷ number 1 ∷ []) ∷ (number 3 ∷ number 2 ∷ []) ∷ []
+    ≡ (number 1 ∷ number 1 ∷ []) ∷ (number 1 ∷ number 2 ∷ []) ∷ (number 2 ∷ number 1 ∷ [])
+    ∷ (number 3 ∷ number 1 ∷ []) ∷ (number 3 ∷ number 2 ∷ []) ∷ []
 unfolding column_of columns_of place_of pieces
 no_join = refl
 
 by_the_order : seen sample (by_order ∷ []) (LoQuantity ∷ DYear ∷ [])
-    ≡ (number 10 ∷ number 1993 ∷ []) ∷ (number 30 ∷ number 1993 ∷ []) ∷ (number 24 ∷ number 1994 ∷ []) ∷ (number 50 ∷ number 1997 ∷ []) ∷ (number 1 ∷ number 1997 ∷ []) ∷ []
+    ≡ (number 10 ∷ number 1993 ∷ []) ∷ (number 30 ∷ number 1993 ∷ [])
+    ∷ (number 24 ∷ number 1994 ∷ []) ∷ (number 50 ∷ number 1997 ∷ [])
+    ∷ (number 1 ∷ number 1997 ∷ []) ∷ []
 unfolding column_of columns_of place_of pieces
 by_the_order = refl
 
 by_the_commit : seen sample (by_commit ∷ []) (LoQuantity ∷ DYear ∷ [])
-    ≡ (number 10 ∷ number 1994 ∷ []) ∷ (number 30 ∷ number 1994 ∷ []) ∷ (number 24 ∷ number 1994 ∷ []) ∷ (number 50 ∷ number 1997 ∷ []) ∷ (number 1 ∷ number 1997 ∷ []) ∷ []
+    ≡ (number 10 ∷ number 1994 ∷ []) ∷ (number 30 ∷ number 1994 ∷ [])
+    ∷ (number 24 ∷ number 1994 ∷ []) ∷ (number 50 ∷ number 1997 ∷ [])
+    ∷ (number 1 ∷ number 1997 ∷ []) ∷ []
 unfolding column_of columns_of place_of pieces
 by_the_commit = refl
 
 -- the rows of both dimensions are kept, whichever is joined first
 date_and_part : seen sample (by_order ∷ of_part ∷ []) (LoQuantity ∷ DYear ∷ PBrand1 ∷ [])
-    ≡ (number 10 ∷ number 1993 ∷ text (codes "MFGR#121") ∷ []) ∷ (number 30 ∷ number 1993 ∷ text (codes "MFGR#2221") ∷ []) ∷ (number 24 ∷ number 1994 ∷ text (codes "MFGR#121") ∷ [])
-    ∷ (number 50 ∷ number 1997 ∷ text (codes "MFGR#1440") ∷ []) ∷ (number 1 ∷ number 1997 ∷ text (codes "MFGR#2221") ∷ []) ∷ []
+    ≡ (number 10 ∷ number 1993 ∷ text (codes "MFGR#121") ∷ [])
+    ∷ (number 30 ∷ number 1993 ∷ text (codes "MFGR#2221") ∷ [])
+    ∷ (number 24 ∷ number 1994 ∷ text (codes "MFGR#121") ∷ [])
+    ∷ (number 50 ∷ number 1997 ∷ text (codes "MFGR#1440") ∷ [])
+    ∷ (number 1 ∷ number 1997 ∷ text (codes "MFGR#2221") ∷ []) ∷ []
 unfolding column_of columns_of place_of pieces
 date_and_part = refl
 
-part_and_date : seen sample (of_part ∷ by_order ∷ []) (LoQuantity ∷ DYear ∷ PBrand1 ∷ []) ≡ seen sample (by_order ∷ of_part ∷ []) (LoQuantity ∷ DYear ∷ PBrand1 ∷ [])
+part_and_date : seen sample (of_part ∷ by_order ∷ []) (LoQuantity ∷ DYear ∷ PBrand1 ∷ [])
+    ≡ seen sample (by_order ∷ of_part ∷ []) (LoQuantity ∷ DYear ∷ PBrand1 ∷ [])
 unfolding column_of columns_of place_of pieces
 part_and_date = refl
 
-all_dimensions : seen sample (by_order ∷ of_customer ∷ of_supplier ∷ of_part ∷ []) (DYear ∷ CNation ∷ SNation ∷ PCategory ∷ [])
-    ≡ (number 1993 ∷ text (codes "UNITED KINGDOM") ∷ text (codes "UNITED STATES") ∷ text (codes "MFGR#12") ∷ [])
-    ∷ (number 1993 ∷ text (codes "UNITED KINGDOM") ∷ text (codes "UNITED KINGDOM") ∷ text (codes "MFGR#22") ∷ [])
-    ∷ (number 1994 ∷ text (codes "CHINA") ∷ text (codes "UNITED STATES") ∷ text (codes "MFGR#12") ∷ [])
-    ∷ (number 1997 ∷ text (codes "UNITED STATES") ∷ text (codes "UNITED STATES") ∷ text (codes "MFGR#14") ∷ [])
-    ∷ (number 1997 ∷ text (codes "UNITED KINGDOM") ∷ text (codes "UNITED KINGDOM") ∷ text (codes "MFGR#22") ∷ []) ∷ []
+all_dimensions : seen sample (by_order ∷ of_customer ∷ of_supplier ∷ of_part ∷ [])
+    (DYear ∷ CNation ∷ SNation ∷ PCategory ∷ [])
+    ≡ (number 1993 ∷ text (codes "UNITED KINGDOM") ∷ text (codes "UNITED STATES")
+    ∷ text (codes "MFGR#12") ∷ [])
+    ∷ (number 1993 ∷ text (codes "UNITED KINGDOM") ∷ text (codes "UNITED KINGDOM")
+    ∷ text (codes "MFGR#22") ∷ [])
+    ∷ (number 1994 ∷ text (codes "CHINA") ∷ text (codes "UNITED STATES") ∷ text (codes "MFGR#12")
+    ∷ [])
+    ∷ (number 1997 ∷ text (codes "UNITED STATES") ∷ text (codes "UNITED STATES")
+    ∷ text (codes "MFGR#14") ∷ [])
+    ∷ (number 1997 ∷ text (codes "UNITED KINGDOM") ∷ text (codes "UNITED KINGDOM")
+    ∷ text (codes "MFGR#22") ∷ []) ∷ []
 unfolding column_of columns_of place_of pieces
 all_dimensions = refl
 
@@ -61,13 +76,20 @@ all_dimensions = refl
 abbrev two_days : Tables
 two_days Lineorder = lines
 two_days Date =
-    row_of Date (codes "19930210|February 10, 1993|Wednesday|February|1993|199302|Feb1993|4|10|41|2|6|Winter|0|0|0|1|")
-    ∷ row_of Date (codes "19971215|December 15, 1997|Monday|December|1997|199712|Dec1997|2|15|349|12|50|Christmas|0|0|0|1|")
-    ∷ row_of Date (codes "19930210|February 10, 1993|Wednesday|February|1994|199302|Feb1993|4|10|41|2|6|Winter|0|0|0|1|") ∷ []
+    row_of Date
+    (codes
+    "19930210|February 10, 1993|Wednesday|February|1993|199302|Feb1993|4|10|41|2|6|Winter|0|0|0|1|")
+    ∷ row_of Date
+    (codes
+    "19971215|December 15, 1997|Monday|December|1997|199712|Dec1997|2|15|349|12|50|Christmas|0|0|0|1|")
+    ∷ row_of Date
+    (codes
+    "19930210|February 10, 1993|Wednesday|February|1994|199302|Feb1993|4|10|41|2|6|Winter|0|0|0|1|") ∷ []
 two_days t = []
 
 none_or_two : seen two_days (by_order ∷ []) (LoQuantity ∷ DYear ∷ [])
-    ≡ (number 10 ∷ number 1993 ∷ []) ∷ (number 10 ∷ number 1994 ∷ []) ∷ (number 30 ∷ number 1993 ∷ []) ∷ (number 30 ∷ number 1994 ∷ [])
+    ≡ (number 10 ∷ number 1993 ∷ []) ∷ (number 10 ∷ number 1994 ∷ [])
+    ∷ (number 30 ∷ number 1993 ∷ []) ∷ (number 30 ∷ number 1994 ∷ [])
     ∷ (number 50 ∷ number 1997 ∷ []) ∷ (number 1 ∷ number 1997 ∷ []) ∷ []
 unfolding column_of columns_of place_of pieces
 none_or_two = refl
@@ -79,22 +101,36 @@ no_partner = refl
 -- ---- selected rows, and what they add to their groups
 
 abbrev asking : List Join → List RowCondition → List ColumnId → List (Measure ColumnId) → Plan
-asking js cs keys measures = record { joins = js; conjuncts = cs; shape = Plain; keys = keys; measures = measures; names = codes "revenue" ∷ []; items = Aggregate 0 ∷ []; sorts = [] }
+asking js cs keys measures =
+    record {
+      joins = js;
+      conjuncts = cs;
+      shape = Plain;
+      keys = keys;
+      measures = measures;
+      names =
+          codes "revenue" ∷ [];
+      items = Aggregate 0 ∷ [];
+      sorts = [];
+    }
 
 -- select sum(lo_extendedprice*lo_discount) as revenue from lineorder, date
 --     where lo_orderdate = d_datekey and d_year = 1993 and lo_discount between 1 and 3
 --     and lo_quantity < 25
 abbrev first_query : Plan
 first_query =
-    asking (by_order ∷ []) (compare DYear Equal (number 1993) ∷ between LoDiscount (number 1) (number 3) ∷ compare LoQuantity Less (number 25) ∷ [])
+    asking (by_order ∷ []) (compare DYear Equal (number 1993)
+    ∷ between LoDiscount (number 1) (number 3) ∷ compare LoQuantity Less (number 25) ∷ [])
     [] (summed (mul (column LoExtendedprice) (column LoDiscount)) ∷ [])
 
 -- the second line is of 1993 and its discount is 3, but its quantity isn't below 25
-one_conjunct_fails : map (λ row. joined_value LoQuantity row) (plan_rows sample first_query) ≡ number 10 ∷ []
+one_conjunct_fails : map (λ row. joined_value LoQuantity row) (plan_rows sample first_query)
+    ≡ number 10 ∷ []
 unfolding column_of columns_of place_of pieces
 one_conjunct_fails = refl
 
-first_entries : map (entry_of first_query) (plan_rows sample first_query) ≡ record { keys = []; values = pos 2000 ∷ [] } ∷ []
+first_entries : map (entry_of first_query) (plan_rows sample first_query)
+    ≡ record { keys = []; values = pos 2000 ∷ [] } ∷ []
 unfolding column_of columns_of place_of pieces
 first_entries = refl
 
@@ -104,11 +140,17 @@ first_entries = refl
 --     and p_category = 'MFGR#12' and s_region = 'AMERICA' group by d_year, p_brand1
 abbrev profits : Plan
 profits =
-    asking (by_order ∷ of_part ∷ of_supplier ∷ []) (compare PCategory Equal (text (codes "MFGR#12")) ∷ compare SRegion Equal (text (codes "AMERICA")) ∷ [])
+    asking (by_order ∷ of_part ∷ of_supplier ∷ [])
+    (compare PCategory Equal (text (codes "MFGR#12"))
+    ∷ compare SRegion Equal (text (codes "AMERICA")) ∷ [])
     (DYear ∷ PBrand1 ∷ []) (summed (sub revenue cost) ∷ count ∷ [])
 
 profit_entries : map (entry_of profits) (plan_rows sample profits)
     ≡ record { keys = number 1993 ∷ text (codes "MFGR#121") ∷ []; values = pos 380 ∷ pos 1 ∷ [] }
-    ∷ record { keys = number 1994 ∷ text (codes "MFGR#121") ∷ []; values = neg_ℤ (pos 205) ∷ pos 1 ∷ [] } ∷ []
+    ∷ record {
+      keys = number 1994 ∷ text (codes "MFGR#121") ∷ [];
+      values =
+          neg_ℤ (pos 205) ∷ pos 1 ∷ [];
+    } ∷ []
 unfolding column_of columns_of place_of pieces
 profit_entries = refl

@@ -21,9 +21,12 @@ text bytes = Text bytes
 
 abbrev pub dates : List Row
 dates = map (row_of Date)
-    (codes "19930210|February 10, 1993|Wednesday|February|1993|199302|Feb1993|4|10|41|2|6|Winter|0|0|0|1|"
-    ∷ codes "19940105|January 5, 1994|Wednesday|January|1994|199401|Jan1994|4|5|5|1|1|Winter|0|0|0|1|"
-    ∷ codes "19971215|December 15, 1997|Monday|December|1997|199712|Dec1997|2|15|349|12|50|Christmas|0|0|0|1|"
+    (codes
+    "19930210|February 10, 1993|Wednesday|February|1993|199302|Feb1993|4|10|41|2|6|Winter|0|0|0|1|"
+    ∷ codes
+    "19940105|January 5, 1994|Wednesday|January|1994|199401|Jan1994|4|5|5|1|1|Winter|0|0|0|1|"
+    ∷ codes
+    "19971215|December 15, 1997|Monday|December|1997|199712|Dec1997|2|15|349|12|50|Christmas|0|0|0|1|"
     ∷ [])
 
 abbrev pub customers : List Row

@@ -23,13 +23,16 @@ not_below n h = omega (arith, h)
 
 -- ---- rows and codes
 
-row_there : (database : Database) (t : TableId) (n : ℕ) → n < length (rows_in database t) → IsSoundValue database (Row t n)
+row_there : (database : Database) (t : TableId) (n : ℕ) → n < length (rows_in database t)
+    → IsSoundValue database (Row t n)
 row_there database t n within = within
 
-row_past_the_last : (database : Database) (t : TableId) → IsSoundValue database (Row t (length (rows_in database t))) → ⊥
+row_past_the_last : (database : Database) (t : TableId)
+    → IsSoundValue database (Row t (length (rows_in database t))) → ⊥
 row_past_the_last database t is = not_below _ is
 
-code_past_the_last : (database : Database) (c : ColumnId) → IsSoundValue database (Text c (length (column_dictionary database c))) → ⊥
+code_past_the_last : (database : Database) (c : ColumnId)
+    → IsSoundValue database (Text c (length (column_dictionary database c))) → ⊥
 code_past_the_last database c is = not_below _ is.1
 
 code_of_numbers : (database : Database) (n : ℕ) → IsSoundValue database (Text LoTax n) → ⊥
@@ -38,20 +41,27 @@ code_of_numbers database n is = let no : kind.Number ≡ kind.Text = is.0 in abs
 
 -- ---- keys
 
-key_past_the_last : (database : Database) (c : ColumnId) → IsSoundKey database (declared.Text c) (key.Code (length (column_dictionary database c))) → ⊥
+key_past_the_last : (database : Database) (c : ColumnId)
+    → IsSoundKey database (declared.Text c) (key.Code (length (column_dictionary database c))) → ⊥
 key_past_the_last database c is = not_below _ is.1
 
-key_of_numbers : (database : Database) (n : ℕ) → IsSoundKey database (declared.Text LoTax) (key.Code n) → ⊥
+key_of_numbers : (database : Database) (n : ℕ)
+    → IsSoundKey database (declared.Text LoTax) (key.Code n) → ⊥
 unfolding column_of
 key_of_numbers database n is = let no : kind.Number ≡ kind.Text = is.0 in absurd (cc no)
 
-one_key : (database : Database) → AreSoundKeys database (declared.Number ∷ []) (key.Number (pos 7) ∷ [])
+one_key : (database : Database)
+    → AreSoundKeys database (declared.Number ∷ []) (key.Number (pos 7) ∷ [])
 one_key database = (tt, tt)
 
-first_of_two : (database : Database) → AreSoundKeys database (declared.Number ∷ declared.Number ∷ []) (key.Code 0 ∷ key.Number (pos 7) ∷ []) → ⊥
+first_of_two : (database : Database)
+    → AreSoundKeys database (declared.Number ∷ declared.Number ∷ [])
+    (key.Code 0 ∷ key.Number (pos 7) ∷ []) → ⊥
 first_of_two database are = are.0
 
-second_of_two : (database : Database) → AreSoundKeys database (declared.Number ∷ declared.Number ∷ []) (key.Number (pos 7) ∷ key.Code 0 ∷ []) → ⊥
+second_of_two : (database : Database)
+    → AreSoundKeys database (declared.Number ∷ declared.Number ∷ [])
+    (key.Number (pos 7) ∷ key.Code 0 ∷ []) → ⊥
 second_of_two database are = are.1.0
 
 -- ---- how a trial ends

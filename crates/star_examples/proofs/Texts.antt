@@ -31,18 +31,34 @@ abbrev pub is_whole : Verdict → Bool
 is_whole (Whole q) = true
 is_whole (Bad fault left) = false
 
-derived : (xs : List Symbol) (v : Verdict) → verdict_of xs ≡ v → is_whole v ≡ true → (tree : Tree) × Derives xs tree
+derived : (xs : List Symbol) (v : Verdict) → verdict_of xs ≡ v → is_whole v ≡ true
+    → (tree : Tree) × Derives xs tree
 derived xs (Whole q) is e = (query_tree q, derives xs q is)
 derived xs (Bad fault left) is e = absurd (cc)
 
-pub query : (bytes : List ℕ) → length bytes ≤ most_bytes → IsCut bytes → is_whole (verdict_of (symbols (tokens_of bytes))) ≡ true → IsQuery bytes
+pub query : (bytes : List ℕ) → length bytes ≤ most_bytes → IsCut bytes
+    → is_whole (verdict_of (symbols (tokens_of bytes))) ≡ true → IsQuery bytes
 query bytes short cut whole =
-    let found = derived (symbols (tokens_of bytes)) (verdict_of (symbols (tokens_of bytes))) refl whole in
-    record { tree = found.0; means = record { short = short; tokens = tokens_of bytes; cut = cut; derives = found.1 } }
+    let found = derived (symbols (tokens_of bytes)) (verdict_of (symbols (tokens_of bytes))) refl
+    whole in
+    record {
+      tree = found.0;
+      means =
+          record { short = short; tokens = tokens_of bytes; cut = cut; derives = found.1 };
+    }
 
 -- ---- a text with a fault before these tokens
 
-pub stops : (bytes : List ℕ) (fault : _) (before : ℕ) → length bytes ≤ most_bytes → cut_of bytes ≡ Ok (take before (tokens_of bytes) ++ drop before (tokens_of bytes))
-    → verdict_of (symbols (take before (tokens_of bytes) ++ drop before (tokens_of bytes))) ≡ Bad fault (symbols (drop before (tokens_of bytes)))
+pub stops : (bytes : List ℕ) (fault : _) (before : ℕ) → length bytes ≤ most_bytes
+    → cut_of bytes ≡ Ok (take before (tokens_of bytes) ++ drop before (tokens_of bytes))
+    → verdict_of (symbols (take before (tokens_of bytes) ++ drop before (tokens_of bytes)))
+    ≡ Bad fault (symbols (drop before (tokens_of bytes)))
     → StopsAt bytes fault (drop before (tokens_of bytes))
-stops bytes fault before short cut e = record { short = short; front = take before (tokens_of bytes); cut = cut; first = first_fault _ fault _ e }
+stops bytes fault before short cut e =
+    record {
+      short = short;
+      front = take before (tokens_of bytes);
+      cut = cut;
+      first =
+          first_fault _ fault _ e;
+    }

@@ -1,4 +1,5 @@
--- What is verified: as many visits as any run may make, and not one more; and the ranges of a report.
+-- What is verified: as many visits as any run may make, and not one more; and the ranges of a
+-- report.
 use Rattle.std.proofs.Common.{◌≡◌, ◌≤◌, ◌^◌, [], ◌∷◌, Some, arith, lit≤, refl, subst, sym}
 use Rattle.std.specs.Prelude.{pos}
 use Rattle.star_schema.specs.declared.group.Aggregate.TheVariants.{Sum}
@@ -17,10 +18,13 @@ use Rattle.star_world.specs.WorldOf.{world_of}
 
 as_many : (c : Checked) → IsAdmissible (world_of c.database) c.program
     → quote (world_of c.database).size c.program ≡ 1000000000000000 → IsVerified c
-as_many c admissible e = record { admissible = admissible; cheap = subst (λ n. n ≤ 10 ^ 15) (sym e) (lit≤ tt) }
+as_many c admissible e =
+    record { admissible = admissible; cheap = subst (λ n. n ≤ 10 ^ 15) (sym e) (lit≤ tt) }
 
-not_one_more : (c : Checked) → quote (world_of c.database).size c.program ≡ 1000000000000001 → IsVerified c → ⊥
-not_one_more c e is = let over : 1000000000000001 ≤ 10 ^ 15 = subst (λ n. n ≤ 10 ^ 15) e is.cheap in absurd (omega (arith, over))
+not_one_more : (c : Checked) → quote (world_of c.database).size c.program ≡ 1000000000000001
+    → IsVerified c → ⊥
+not_one_more c e is = let over : 1000000000000001 ≤ 10 ^ 15 = subst (λ n. n ≤ 10 ^ 15) e is.cheap in
+    absurd (omega (arith, over))
 
 -- ---- the ranges of a report
 
@@ -32,7 +36,8 @@ abbrev two_sums : Parts
 two_sums = record {
   registers = 2;
   groups = sums ∷ sums ∷ [];
-  body = Then (op.Assign 0 (operation.Const (pos 2))) (Then (op.Assign 1 (operation.Const (pos 3))) (Then (op.Put 1 [] (0 ∷ 1 ∷ [])) Stop));
+  body = Then (op.Assign 0 (operation.Const (pos 2)))
+      (Then (op.Assign 1 (operation.Const (pos 3))) (Then (op.Put 1 [] (0 ∷ 1 ∷ [])) Stop));
   report = 1;
   shows = [];
   sorts = [];

@@ -1,12 +1,12 @@
--- The trees of the code as the trees of the definitions: each kind of phrase as its own, its parts in order.
-use Rattle.std.proofs.Common.{◌≡◌, ℕ, [], ◌∷◌, Some, None, Ok, Err, refl}
+-- The trees of the code as the trees of the definitions: each kind of phrase as its own, its parts
+-- in order.
+use Rattle.std.proofs.Common.{◌≡◌, ℕ, [], ◌∷◌, Some, None, refl}
 use Rattle.std.specs.Prelude.{pos, map}
 use Rattle.star_schema.specs.declared.column.ColumnId.{ColumnId}
 use Rattle.star_schema.specs.declared.column.ColumnId.TheVariants.{LoTax}
 use Rattle.star_schema.specs.Tables as of_table
 use Rattle.star_schema.specs.Tables.{Value}
 use Rattle.star_query.specs.declared.fault.QueryFault.TheVariants as faults
-use Rattle.star_query.specs.declared.query.Query.{Query}
 use Rattle.star_query.specs.declared.token.Fold.TheVariants.{Sum, Min, Max}
 use Rattle.star_query.specs.declared.token.Relation.TheVariants.{Less}
 use Rattle.star_query.specs.declared.tree.Name.{Name}
@@ -40,39 +40,77 @@ literals_viewed = refl
 texts_viewed : (t : _) → literal_view (literal.Text t) ≡ tree.text t.items
 texts_viewed t = refl
 
-operands_viewed : (n : Name) → map expression_view (Column n ∷ Number (pos 1) ∷ []) ≡ tree.column (record { text = n.text.items; place = n.place }) ∷ tree.constant (pos 1) ∷ []
+operands_viewed : (n : Name)
+    → map expression_view (Column n ∷ Number (pos 1) ∷ [])
+    ≡ tree.column (record { text = n.text.items; place = n.place }) ∷ tree.constant (pos 1) ∷ []
 operands_viewed n = refl
 
-operators_viewed : (p q : _) → map expression_view (Add' p (Number (pos 1)) q (Number (pos 2)) ∷ Sub' p (Number (pos 1)) q (Number (pos 2)) ∷ Mul' p (Number (pos 1)) q (Number (pos 2)) ∷ [])
-    ≡ tree.add (tree.constant (pos 1)) (tree.constant (pos 2)) ∷ tree.sub (tree.constant (pos 1)) (tree.constant (pos 2)) ∷ tree.mul (tree.constant (pos 1)) (tree.constant (pos 2)) ∷ []
+operators_viewed : (p q : _)
+    → map expression_view (Add' p (Number (pos 1)) q (Number (pos 2))
+    ∷ Sub' p (Number (pos 1)) q (Number (pos 2)) ∷ Mul' p (Number (pos 1)) q (Number (pos 2)) ∷ [])
+    ≡ tree.add (tree.constant (pos 1)) (tree.constant (pos 2))
+    ∷ tree.sub (tree.constant (pos 1)) (tree.constant (pos 2))
+    ∷ tree.mul (tree.constant (pos 1)) (tree.constant (pos 2)) ∷ []
 operators_viewed p q = refl
 
-comparisons_viewed : (m n : Name) → map test_view (test.Pair m n ∷ test.Comparison (Compare m Less (literal.Number (pos 1))) ∷ test.Comparison (Between m (literal.Number (pos 1)) (literal.Number (pos 2))) ∷ [])
-    ≡ tree.pair (name_view m) (name_view n) ∷ tree.comparison (tree.compare (name_view m) Less (tree.number (pos 1))) ∷ tree.comparison (tree.between (name_view m) (tree.number (pos 1)) (tree.number (pos 2))) ∷ []
+comparisons_viewed : (m n : Name)
+    → map test_view (test.Pair m n ∷ test.Comparison (Compare m Less (literal.Number (pos 1)))
+    ∷ test.Comparison (Between m (literal.Number (pos 1)) (literal.Number (pos 2))) ∷ [])
+    ≡ tree.pair (name_view m) (name_view n)
+    ∷ tree.comparison (tree.compare (name_view m) Less (tree.number (pos 1)))
+    ∷ tree.comparison (tree.between (name_view m) (tree.number (pos 1)) (tree.number (pos 2)))
+    ∷ []
 comparisons_viewed m n = refl
 
-conditions_viewed : (m n : Name) (p q : _) → map condition_view (Or' p (Test (test.Pair m n)) q (Test (test.Pair n m)) ∷ And' p (Test (test.Pair m n)) q (Test (test.Pair n m)) ∷ Not' p (Test (test.Pair m n)) ∷ Test (test.Pair m n) ∷ [])
-    ≡ tree.or (tree.test (tree.pair (name_view m) (name_view n))) (tree.test (tree.pair (name_view n) (name_view m))) ∷ tree.and (tree.test (tree.pair (name_view m) (name_view n))) (tree.test (tree.pair (name_view n) (name_view m))) ∷ tree.not (tree.test (tree.pair (name_view m) (name_view n))) ∷ tree.test (tree.pair (name_view m) (name_view n)) ∷ []
+conditions_viewed : (m n : Name) (p q : _)
+    → map condition_view (Or' p (Test (test.Pair m n)) q (Test (test.Pair n m))
+    ∷ And' p (Test (test.Pair m n)) q (Test (test.Pair n m)) ∷ Not' p (Test (test.Pair m n))
+    ∷ Test (test.Pair m n) ∷ [])
+    ≡ tree.or (tree.test (tree.pair (name_view m) (name_view n)))
+    (tree.test (tree.pair (name_view n) (name_view m)))
+    ∷ tree.and (tree.test (tree.pair (name_view m) (name_view n)))
+    (tree.test (tree.pair (name_view n) (name_view m)))
+    ∷ tree.not (tree.test (tree.pair (name_view m) (name_view n)))
+    ∷ tree.test (tree.pair (name_view m) (name_view n)) ∷ []
 conditions_viewed m n p q = refl
 
-measures_viewed : map measure_view (measure.Fold Sum (Number (pos 1)) ∷ measure.Count ∷ []) ≡ tree.fold Sum (tree.constant (pos 1)) ∷ tree.count ∷ []
+measures_viewed : map measure_view (measure.Fold Sum (Number (pos 1)) ∷ measure.Count ∷ [])
+    ≡ tree.fold Sum (tree.constant (pos 1)) ∷ tree.count ∷ []
 measures_viewed = refl
 
-items_viewed : (n : Name) → map item_view (item.Column n ∷ item.Aggregate (record { measure = measure.Count; place = 7; name = None }) ∷ item.Aggregate (record { measure = measure.Count; place = 8; name = Some n }) ∷ [])
-    ≡ tree.plain (name_view n) ∷ tree.aggregate (record { measure = tree.count; place = 7; name = None }) ∷ tree.aggregate (record { measure = tree.count; place = 8; name = Some (name_view n) }) ∷ []
+items_viewed : (n : Name)
+    → map item_view (item.Column n
+    ∷ item.Aggregate (record { measure = measure.Count; place = 7; name = None })
+    ∷ item.Aggregate (record { measure = measure.Count; place = 8; name = Some n }) ∷ [])
+    ≡ tree.plain (name_view n)
+    ∷ tree.aggregate (record { measure = tree.count; place = 7; name = None })
+    ∷ tree.aggregate (record { measure = tree.count; place = 8; name = Some (name_view n) })
+    ∷ []
 items_viewed n = refl
 
 -- ---- the trees of plans
 
-plan_conditions_shown : (p q : _) → map row_condition_view (Or' p one_tax q some_taxes ∷ And' p one_tax q some_taxes ∷ Not' p one_tax ∷ one_tax ∷ some_taxes ∷ [])
-    ≡ or (compare LoTax Less (value 1)) (between LoTax (value 1) (value 2)) ∷ and (compare LoTax Less (value 1)) (between LoTax (value 1) (value 2))
-    ∷ not (compare LoTax Less (value 1)) ∷ compare LoTax Less (value 1) ∷ between LoTax (value 1) (value 2) ∷ []
+plan_conditions_shown : (p q : _)
+    → map row_condition_view
+    (Or' p one_tax q some_taxes ∷ And' p one_tax q some_taxes ∷ Not' p one_tax ∷ one_tax
+    ∷ some_taxes ∷ [])
+    ≡ or (compare LoTax Less (value 1)) (between LoTax (value 1) (value 2))
+    ∷ and (compare LoTax Less (value 1)) (between LoTax (value 1) (value 2))
+    ∷ not (compare LoTax Less (value 1)) ∷ compare LoTax Less (value 1)
+    ∷ between LoTax (value 1) (value 2) ∷ []
 plan_conditions_shown p q = refl
 
-plan_expressions_shown : (p q : _) → map column_expression_view (Column LoTax ∷ Number (pos 1) ∷ Add' p (Column LoTax) q (Number (pos 1)) ∷ Sub' p (Column LoTax) q (Number (pos 1)) ∷ Mul' p (Column LoTax) q (Number (pos 1)) ∷ [])
-    ≡ column LoTax ∷ constant (pos 1) ∷ add (column LoTax) (constant (pos 1)) ∷ sub (column LoTax) (constant (pos 1)) ∷ mul (column LoTax) (constant (pos 1)) ∷ []
+plan_expressions_shown : (p q : _)
+    → map column_expression_view
+    (Column LoTax ∷ Number (pos 1) ∷ Add' p (Column LoTax) q (Number (pos 1))
+    ∷ Sub' p (Column LoTax) q (Number (pos 1)) ∷ Mul' p (Column LoTax) q (Number (pos 1)) ∷ [])
+    ≡ column LoTax ∷ constant (pos 1) ∷ add (column LoTax) (constant (pos 1))
+    ∷ sub (column LoTax) (constant (pos 1)) ∷ mul (column LoTax) (constant (pos 1)) ∷ []
 plan_expressions_shown p q = refl
 
-plan_measures_shown : map column_measure_view (measure.Count ∷ measure.Fold Sum (Number (pos 1)) ∷ measure.Fold Min (Number (pos 2)) ∷ measure.Fold Max (Number (pos 3)) ∷ [])
-    ≡ count ∷ summed (constant (pos 1)) ∷ least (constant (pos 2)) ∷ greatest (constant (pos 3)) ∷ []
+plan_measures_shown : map column_measure_view
+    (measure.Count ∷ measure.Fold Sum (Number (pos 1)) ∷ measure.Fold Min (Number (pos 2))
+    ∷ measure.Fold Max (Number (pos 3)) ∷ [])
+    ≡ count ∷ summed (constant (pos 1)) ∷ least (constant (pos 2)) ∷ greatest (constant (pos 3))
+    ∷ []
 plan_measures_shown = refl

@@ -1,5 +1,5 @@
 -- The codes of texts that were put in order.
-use Rattle.std.proofs.Common.{◌≡◌, ◌↔◌, ℕ, ◌+◌, ◌-◌, ◌<◌, ◌≤◌, false, List, [], ◌∷◌, ◌++◌, Option, Some, length, get_or, map, set, take, refl, sym, ap, ◌∙◌, inl, inr, ⊎_elim, arith, subst, true≢false}
+use Rattle.std.proofs.Common.{◌≡◌, ℕ, ◌+◌, ◌-◌, ◌<◌, ◌≤◌, false, List, [], ◌∷◌, ◌++◌, Option, Some, length, get_or, set, take, refl, sym, ap, ◌∙◌, inl, inr, ⊎_elim, arith, subst, true≢false}
 use Rattle.std.specs.Cmp.Lexicographic.{bytes_decides}
 use Rattle.std.specs.List.{Contains, slice_get}
 use Rattle.std.specs.List.Sorted.{IsStrictlySortedBy}
@@ -15,14 +15,13 @@ use Rattle.std.proofs.lemmas.List.Kept.{Contains-from_dedup, IsStrictlySortedBy-
 use Rattle.std.proofs.lemmas.Map.Keys.{Less-from_sorted}
 use Rattle.std.proofs.lemmas.Map.Lookups.{exact_bytes}
 use Rattle.std.proofs.lemmas.Option.{get_or_from_slice_get, slice_get-get_or, slice_get-map, slice_get_within}
-use Rattle.star_flat.specs.Repeated.{AreRepeated, texts_at}
+use Rattle.star_flat.specs.Repeated.{AreRepeated, texts_at_places}
 use Rattle.star_flat.specs.declared.ordered.Numbered.{Numbered}
 use Rattle.star_flat.specs.Private.Codes.{LeadTo, different, same_text}
-use Rattle.star_flat.specs.Private.Order.{AreInOrder, IsKeyed, key_of, text_at, text_cmp, texts_of}
+use Rattle.star_flat.specs.Private.Order.{AreInTextOrder, numbered_texts, text_at, text_cmp}
 use Rattle.star_flat.proofs.Different.{different_again, different_new, stands_last}
 use Rattle.star_flat.proofs.Enumerated.{nothing}
 use Rattle.star_flat.proofs.InOrder.{number_of}
-use Rattle.star_flat.proofs.Keys.{same_key}
 
 some_same : {X : Type 0} {x y : X} → Some x ≡ Some y → x ≡ y
 some_same {X} {x} {y} e = ap (λ (o : Option X). unwrap_or o x) e
@@ -35,7 +34,8 @@ ties a b = go (text_cmp a b) refl
     unlike other = elim (cases_Bool (same_text a b)) [
       | inl equal ↦
           absurd (true≢false (sym (ap (λ t. is_eq (text_cmp a t))
-          (sym ((bytes_decides a b).0 equal)) ∙ ap is_eq (tied_itself nat_list_cmp_total a)) ∙ other))
+          (sym ((bytes_decides a b).0 equal)) ∙ ap is_eq (tied_itself nat_list_cmp_total a))
+          ∙ other))
       | inr differ ↦ differ
     ]
 
@@ -44,10 +44,11 @@ ties a b = go (text_cmp a b) refl
     go Equal e = (bytes_decides a b).1 (exact_bytes a b e) ∙ sym (ap is_eq e)
     go Greater e = unlike (ap is_eq e) ∙ sym (ap is_eq e)
 
-pub sorted_different : (texts : List (List ℕ)) (ordered : List Numbered) → AreInOrder texts ordered
-    → IsStrictlySortedBy text_cmp (different (texts_of texts ordered))
+pub sorted_different : (texts : List (List ℕ)) (ordered : List Numbered)
+    → AreInTextOrder texts ordered
+    → IsStrictlySortedBy text_cmp (different (numbered_texts texts ordered))
 sorted_different texts ordered order =
-    IsStrictlySortedBy-dedup nat_list_cmp_total ties (texts_of texts ordered) order.sorted
+    IsStrictlySortedBy-dedup nat_list_cmp_total ties (numbered_texts texts ordered) order.sorted
 
 -- a text stands at one place of texts that are strictly in order
 not_before : (ts : List (List ℕ)) → IsStrictlySortedBy text_cmp ts → (m n : ℕ) (t : List ℕ)
@@ -70,9 +71,11 @@ one_place ts sorted m n t at_m at_n =
     (cases_lt n m))
     (cases_lt m n)
 
-module _ (texts : List (List ℕ)) (ordered : List Numbered) (order : AreInOrder texts ordered) where
+module _ (texts : List (List ℕ)) (ordered : List Numbered)
+    (order : AreInTextOrder texts ordered) where
   -- ---- the codes are the places of the texts there
-  module _ (put : List (List ℕ)) (codes : List ℕ) (made : put ≡ different (texts_of texts ordered))
+  module _ (put : List (List ℕ)) (codes : List ℕ)
+      (made : put ≡ different (numbered_texts texts ordered))
       (few : length put ≤ length texts) (len : length codes ≡ length texts)
       (lead : LeadTo put codes texts ordered) where
     coded_at : (n : ℕ) → n < length texts → slice_get put (get_or codes n 0) ≡ slice_get texts n
@@ -93,8 +96,8 @@ module _ (texts : List (List ℕ)) (ordered : List Numbered) (order : AreInOrder
         let within : n < length texts = omega (arith, h, len) in
         coded_at n within ∙ slice_get-get_or texts n [] within
 
-    pub texts_coded : texts_at put codes ≡ texts
-    texts_coded = ext_get_or [] (texts_at put codes) texts
+    pub texts_coded : texts_at_places put codes ≡ texts
+    texts_coded = ext_get_or [] (texts_at_places put codes) texts
         (length-map codes (λ place. get_or put place []) ∙ len)
         (λ i h. let within : i < length codes =
         omega (arith, h, length-map codes (λ place. get_or put place [])) in
@@ -102,10 +105,11 @@ module _ (texts : List (List ℕ)) (ordered : List Numbered) (order : AreInOrder
         ∙ get_or_from_slice_get put (get_or codes i 0) (get_or texts i []) [] (stands_at i within))
 
     -- each text that was put is that of a number
-    number_put : (p : ℕ) → p < length put → (n : ℕ) × (n < length texts) × (get_or texts n [] ≡ get_or put p [])
+    number_put : (p : ℕ) → p < length put
+        → (n : ℕ) × (n < length texts) × (get_or texts n [] ≡ get_or put p [])
     number_put p h =
         let text = get_or put p [] in
-        let there = Contains-from_dedup same_text (texts_of texts ordered) text
+        let there = Contains-from_dedup same_text (numbered_texts texts ordered) text
         (subst (λ ts. Contains ts text) made (Contains-get_or put p [] h)) in
         let within : there.0 < length ordered =
         omega (arith, there.1, length-map ordered (text_at texts)) in
@@ -122,14 +126,16 @@ module _ (texts : List (List ℕ)) (ordered : List Numbered) (order : AreInOrder
         let within : there.0 < length codes = omega (arith, there.1, len) in
         let code : get_or codes there.0 0 ≡ p =
         one_place put (rw made (sorted_different texts ordered order)) (get_or codes there.0 0) p
-        (get_or put p []) (stands_at there.0 within ∙ ap Some there.2) (slice_get-get_or put p [] h) in
+        (get_or put p []) (stands_at there.0 within ∙ ap Some there.2)
+        (slice_get-get_or put p [] h) in
         (there.0, within, get_or_default codes there.0 p 0 within ∙ code)
 
     pub codes_met : AreRepeated put codes
     codes_met = record {
       within = λ k d h.
           let code = get_or_default codes k d 0 h in
-          let inside = slice_get_within put (get_or codes k 0) (get_or texts k []) (stands_at k h) in
+          let inside = slice_get_within put (get_or codes k 0) (get_or texts k [])
+          (stands_at k h) in
           omega (arith, code, inside);
       met = met;
       few = omega (arith, few, len);
@@ -144,71 +150,46 @@ module _ (texts : List (List ℕ)) (ordered : List Numbered) (order : AreInOrder
     number_within = All-get_or (λ (x : Numbered). x.number < length texts) ordered place nothing
         within order.within
 
-    pub text_here : slice_get (texts_of texts ordered) place ≡ Some (text_at texts here)
+    pub text_here : slice_get (numbered_texts texts ordered) place ≡ Some (text_at texts here)
     text_here = slice_get-map (text_at texts) ordered place
         ∙ ap (option_map (text_at texts)) (slice_get-get_or ordered place nothing within)
 
     text_known : slice_get texts here.number ≡ Some (text_at texts here)
     text_known = slice_get-get_or texts here.number [] number_within
 
-    key_at : (k : ℕ) → k < length ordered
-        → slice_get (map key_of ordered) k ≡ Some (key_of (get_or ordered k nothing))
-    key_at k h = slice_get-map key_of ordered k
-        ∙ ap (option_map key_of) (slice_get-get_or ordered k nothing h)
-
-    text_at_place : (k : ℕ) → k < length ordered
-        → slice_get (texts_of texts ordered) k ≡ Some (text_at texts (get_or ordered k nothing))
-    text_at_place k h = slice_get-map (text_at texts) ordered k
-        ∙ ap (option_map (text_at texts)) (slice_get-get_or ordered k nothing h)
-
-    keyed_at : (k : ℕ) → k < length ordered → IsKeyed texts (get_or ordered k nothing)
-    keyed_at k h = All-get_or (IsKeyed texts) ordered k nothing h order.keyed
-
-    -- the key before is this one where the text before is this one
-    same_before : (slice_get (map key_of ordered) (place - 1) ≡ slice_get (map key_of ordered) place)
-        ↔ (slice_get (texts_of texts ordered) (place - 1) ≡ slice_get (texts_of texts ordered) place)
-    same_before =
-        let few : place - 1 < length ordered = omega (arith, within) in
-        let before = get_or ordered (place - 1) nothing in
-        let same = same_key texts before here (keyed_at (place - 1) few) (keyed_at place within) in (
-          λ e.
-              let both : Some (key_of before) ≡ Some (key_of here) =
-              sym (key_at (place - 1) few) ∙ e ∙ key_at place within in
-              text_at_place (place - 1) few ∙ ap Some (same.0 (some_same both))
-              ∙ sym (text_at_place place within),
-          λ e.
-              let both : Some (text_at texts before) ≡ Some (text_at texts here) =
-              sym (text_at_place (place - 1) few) ∙ e ∙ text_at_place place within in
-              key_at (place - 1) few ∙ ap Some (same.1 (some_same both))
-              ∙ sym (key_at place within),
-        )
-
-    pub put_again : (put : List (List ℕ)) → put ≡ different (take place (texts_of texts ordered))
+    pub put_again : (put : List (List ℕ))
+        → put ≡ different (take place (numbered_texts texts ordered))
         → 0 < place
-        → slice_get (map key_of ordered) (place - 1) ≡ slice_get (map key_of ordered) place
-        → put ≡ different (take (place + 1) (texts_of texts ordered))
+        → slice_get (numbered_texts texts ordered) (place - 1)
+        ≡ slice_get (numbered_texts texts ordered) place
+        → put ≡ different (take (place + 1) (numbered_texts texts ordered))
     put_again put is some same =
-        is ∙ sym (different_again (texts_of texts ordered) place (text_at texts here) text_here some
-        (same_before.0 same))
+        is ∙ sym (different_again (numbered_texts texts ordered) place (text_at texts here)
+        text_here some
+        same)
 
     pub put_new : (old new : List (List ℕ)) (text : List ℕ)
-        → old ≡ different (take place (texts_of texts ordered))
+        → old ≡ different (take place (numbered_texts texts ordered))
         → ((0 < place)
-        × (slice_get (map key_of ordered) (place - 1) ≡ slice_get (map key_of ordered) place) → ⊥)
+        × (slice_get (numbered_texts texts ordered) (place - 1)
+        ≡ slice_get (numbered_texts texts ordered) place)
+        → ⊥)
         → slice_get texts here.number ≡ Some text → new ≡ old ++ text ∷ []
-        → new ≡ different (take (place + 1) (texts_of texts ordered))
+        → new ≡ different (take (place + 1) (numbered_texts texts ordered))
     put_new old new text is other known pushed =
         let same : text_at texts here ≡ text = some_same (sym text_known ∙ known) in
         pushed ∙ (λ i. is i ++ sym same i ∷ [])
-        ∙ sym (different_new (texts_of texts ordered) place (text_at texts here) text_here
-        (λ h. other (h.0, same_before.1 h.1)))
+        ∙ sym (different_new (numbered_texts texts ordered) place (text_at texts here) text_here
+        other)
 
-    pub code_here : (put : List (List ℕ)) → put ≡ different (take (place + 1) (texts_of texts ordered))
-        → slice_get put (length put - 1) ≡ slice_get (texts_of texts ordered) place
+    pub code_here : (put : List (List ℕ))
+        → put ≡ different (take (place + 1) (numbered_texts texts ordered))
+        → slice_get put (length put - 1) ≡ slice_get (numbered_texts texts ordered) place
     code_here put is =
-        stands_last (texts_of texts ordered) place (text_at texts here) text_here put is
+        stands_last (numbered_texts texts ordered) place (text_at texts here) text_here put is
 
-    pub some_put : (put : List (List ℕ)) → put ≡ different (take (place + 1) (texts_of texts ordered))
+    pub some_put : (put : List (List ℕ))
+        → put ≡ different (take (place + 1) (numbered_texts texts ordered))
         → 0 < length put
     some_put put is =
         let last = slice_get_within put (length put - 1) (text_at texts here)
@@ -216,9 +197,10 @@ module _ (texts : List (List ℕ)) (ordered : List Numbered) (order : AreInOrder
         omega (arith, last)
 
     -- ---- one more code
-    module _ (old new : List (List ℕ)) (codes : List ℕ) (code : ℕ) (room : here.number < length codes)
+    module _ (old new : List (List ℕ)) (codes : List ℕ) (code : ℕ)
+        (room : here.number < length codes)
         (kept : (n : ℕ) (text : List ℕ) → slice_get old n ≡ Some text → slice_get new n ≡ Some text)
-        (put : slice_get new code ≡ slice_get (texts_of texts ordered) place) where
+        (put : slice_get new code ≡ slice_get (numbered_texts texts ordered) place) where
       stands : slice_get new code ≡ slice_get texts here.number
       stands = put ∙ text_here ∙ sym text_known
 
@@ -247,7 +229,8 @@ module _ (texts : List (List ℕ)) (ordered : List Numbered) (order : AreInOrder
               (λ same. ap (λ m. slice_get new (get_or (set codes here.number code) m 0)) same
               ∙ ap (slice_get new) (get_or-set_same codes here.number code 0 room) ∙ stands
               ∙ ap (slice_get texts) (sym same))
-              (λ other. ap (slice_get new) (get_or-set_other codes here.number e.number code 0 other)
+              (λ other. ap (slice_get new)
+              (get_or-set_other codes here.number e.number code 0 other)
               ∙ kept (get_or codes e.number 0) (text_at texts e) (lead k d h ∙ known)
               ∙ sym known)
               (cases_eq e.number here.number)

@@ -1,8 +1,9 @@
 -- Texts one after another.
 use Rattle.std.proofs.Common.{◌≡◌, ℕ, zero, suc, ◌+◌, ◌-◌, ◌<◌, ◌≤◌, List, [], ◌∷◌, ◌++◌, Some, take, drop, length, get_or, slice_get, slice_range, ap, ◌∙◌, refl, arith, length-drop}
 use Rattle.std.proofs.Math.Seq.{drop-append_seam, take-length}
-use Rattle.std.proofs.lemmas.List.{take-append-le, drop-append-le}
-use Rattle.star_flat.specs.Private.Cut.{texts_from, IsCut, start_of}
+use Rattle.std.specs.List.{All}
+use Rattle.std.proofs.lemmas.List.{get_or_default, take-append-le, drop-append-le}
+use Rattle.star_flat.specs.Private.Cut.{texts_from, IsCut, text_start}
 
 pub length-texts_from : (s : ℕ) (b es : List ℕ) → length (texts_from s b es) ≡ length es
 unfolding texts_from
@@ -10,8 +11,8 @@ length-texts_from s b [] = refl
 length-texts_from s b (e ∷ es) = ap suc (length-texts_from e b es)
 
 pub text_there : (s : ℕ) (b es : List ℕ) (p : ℕ) → p < length es
-    → slice_get (texts_from s b es) p ≡ Some (slice_range b (start_of s es p) (get_or es p 0))
-unfolding texts_from start_of
+    → slice_get (texts_from s b es) p ≡ Some (slice_range b (text_start s es p) (get_or es p 0))
+unfolding texts_from text_start
 text_there s b [] p h = absurd (omega arith)
 text_there s b (e ∷ es) zero h = refl
 text_there s b (e ∷ es) (suc p) h = text_there e b es p (omega arith)
@@ -23,8 +24,8 @@ cut_le s [] all c = omega arith
 cut_le s (e ∷ es) all c = let rest = cut_le e es all c.1 in omega arith
 
 pub begins_before : (s : ℕ) (es : List ℕ) (all p : ℕ) → IsCut s es all → p < length es
-    → start_of s es p ≤ get_or es p 0
-unfolding IsCut start_of
+    → text_start s es p ≤ get_or es p 0
+unfolding IsCut text_start
 begins_before s [] all p c h = absurd (omega arith)
 begins_before s (e ∷ es) all zero c h = c.0
 begins_before s (e ∷ es) all (suc p) c h = begins_before e es all p c.1 (omega arith)
@@ -37,11 +38,17 @@ ends_within s (e ∷ es) all zero c h = cut_le e es all c.1
 ends_within s (e ∷ es) all (suc p) c h = ends_within e es all p c.1 (omega arith)
 
 pub start_after : (s : ℕ) (es : List ℕ) (p : ℕ) → p < length es
-    → start_of s es (suc p) ≡ get_or es p 0
-unfolding start_of
+    → text_start s es (suc p) ≡ get_or es p 0
+unfolding text_start
 start_after s [] p h = absurd (omega arith)
 start_after s (e ∷ es) zero h = refl
 start_after s (e ∷ es) (suc p) h = start_after e es p (omega arith)
+
+pub upto_all : (es : List ℕ) (all end : ℕ) → IsCut 0 es all → all ≤ end → All (λ e. e ≤ end) es
+upto_all es all end c more k d h =
+    let there = ends_within 0 es all k c h in
+    let is = get_or_default es k d 0 h in
+    omega (arith, there, is, more)
 
 -- one more text
 same_range : (b t : List ℕ) (i j : ℕ) → i ≤ j → j ≤ length b

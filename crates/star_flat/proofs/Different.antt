@@ -73,7 +73,8 @@ last_put : (t : List ℕ) (ts : List (List ℕ)) (u : List ℕ) → last t (ts +
 last_put t [] u = refl
 last_put t (v ∷ vs) u = last_put v vs u
 
-get_last : (t : List ℕ) (ts : List (List ℕ)) (d : List ℕ) → get_or (t ∷ ts) (length ts) d ≡ last t ts
+get_last : (t : List ℕ) (ts : List (List ℕ)) (d : List ℕ)
+    → get_or (t ∷ ts) (length ts) d ≡ last t ts
 get_last t [] d = refl
 get_last t (v ∷ vs) d = get_last v vs d
 
@@ -99,7 +100,8 @@ put_new (t ∷ ts) u differ =
     (λ is. differ (length ts) (omega arith) (get_last t ts [] ∙ sym is))
 
 -- ---- the text at a place of a list, behind those before it
-module _ (texts : List (List ℕ)) (place : ℕ) (text : List ℕ) (at : slice_get texts place ≡ Some text) where
+module _ (texts : List (List ℕ)) (place : ℕ) (text : List ℕ)
+    (at : slice_get texts place ≡ Some text) where
   within : place < length texts
   within = slice_get_within texts place text at
 

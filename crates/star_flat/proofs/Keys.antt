@@ -1,17 +1,18 @@
 -- The order of texts by their keys.
-use Rattle.std.proofs.Common.{◌≡◌, ◌↔◌, ℕ, zero, suc, ◌+◌, ◌*◌, ◌<◌, false, List, [], ◌∷◌, drop, length, get_or, min, nat_cmp, refl, sym, ap, ◌∙◌, ⊎_elim, add-one, arith}
+use Rattle.std.proofs.Common.{◌≡◌, ℕ, zero, suc, ◌+◌, ◌*◌, ◌<◌, false, List, [], ◌∷◌, length, get_or, nat_cmp, refl, sym, ap, ◌∙◌, ⊎_elim, add-one, arith}
 use Rattle.std.specs.Cmp.{nat_cmp_is}
 use Rattle.std.specs.List.{All}
 use Rattle.std.specs.Ordering.{is_lt, ordering_then, ordering_reverse}
 use Rattle.std.specs.declared.cmp.Ordering.{Ordering}
 use Rattle.std.specs.declared.cmp.Ordering.TheVariants.{Less, Equal, Greater}
 use Rattle.std.proofs.lemmas.Bool.{cases_lt}
-use Rattle.std.proofs.lemmas.Cmp.{nat_cmp_total, nat_list_cmp_total, tied_itself}
+use Rattle.std.proofs.lemmas.Cmp.{nat_cmp_total, nat_list_cmp_total, on_total, then_total}
+use Rattle.std.specs.Cmp.{IsTotalOrder}
 use Rattle.std.proofs.lemmas.List.{get_or_past}
 use Rattle.std.proofs.lemmas.List.Elements.{All-get_or}
-use Rattle.std.proofs.lemmas.Map.Lookups.{exact_bytes}
 use Rattle.star_flat.specs.declared.ordered.Numbered.{Numbered}
-use Rattle.star_flat.specs.Private.Order.{IsKeyed, digits, front, key_of, text_at, text_cmp}
+use Rattle.star_flat.specs.declared.ordered.Whole.{Whole}
+use Rattle.star_flat.specs.Private.Order.{IsKeyed, IsWhole, by_key, digits, key_of, text_at, text_cmp}
 
 -- ---- numbers that compare
 less : (m n : ℕ) → m < n → nat_cmp m n ≡ Less
@@ -22,15 +23,6 @@ equal m n h = sym (nat_cmp_is m n Equal h)
 
 greater : (m n : ℕ) → n < m → nat_cmp m n ≡ Greater
 greater m n h = sym (nat_cmp_is m n Greater h)
-
-moved : (k m n : ℕ) → nat_cmp (k + m) (k + n) ≡ nat_cmp m n
-moved k m n = ⊎_elim {C = nat_cmp (k + m) (k + n) ≡ nat_cmp m n}
-    (λ below. less (k + m) (k + n) (omega (arith, below)) ∙ sym (less m n below))
-    (λ from. ⊎_elim {C = nat_cmp (k + m) (k + n) ≡ nat_cmp m n}
-    (λ above. greater (k + m) (k + n) (omega (arith, above)) ∙ sym (greater m n above))
-    (λ to. equal (k + m) (k + n) (omega (arith, from, to)) ∙ sym (equal m n (omega (arith, from, to))))
-    (cases_lt n m))
-    (cases_lt m n)
 
 -- ---- bytes as digits
 byte_below : (text : List ℕ) (n : ℕ) → All (λ byte. byte < 256) text → get_or text n 0 < 256
@@ -50,33 +42,6 @@ agree_then_less zero (x ∷ xs) (y ∷ ys) agree next =
 agree_then_less (suc n) (x ∷ xs) (y ∷ ys) agree next =
     ap (λ o. ordering_then o (text_cmp xs ys)) (equal x y (agree 0 (omega arith)))
     ∙ agree_then_less n xs ys (λ i h. agree (suc i) (omega (arith, h))) next
-
--- and where all of them agree, in the order of how many there are and of what comes behind them
-agree_then_rest : (n : ℕ) (a b : List ℕ) → ((i : ℕ) → i < n → get_or a i 0 ≡ get_or b i 0)
-    → text_cmp a b
-    ≡ ordering_then (nat_cmp (min (length a) (n + 1)) (min (length b) (n + 1)))
-    (text_cmp (drop n a) (drop n b))
-agree_then_rest n [] [] agree =
-    sym (ap (λ o. ordering_then o (text_cmp (drop n []) (drop n [])))
-    (tied_itself nat_cmp_total (min (length {A = ℕ} []) (n + 1)))
-    ∙ tied_itself nat_list_cmp_total (drop n []))
-agree_then_rest n [] (y ∷ ys) agree =
-    sym (ap (λ o. ordering_then o (text_cmp (drop n []) (drop n (y ∷ ys))))
-    (less (min (length {A = ℕ} []) (n + 1)) (min (length (y ∷ ys)) (n + 1)) (omega arith)))
-agree_then_rest n (x ∷ xs) [] agree =
-    sym (ap (λ o. ordering_then o (text_cmp (drop n (x ∷ xs)) (drop n [])))
-    (greater (min (length (x ∷ xs)) (n + 1)) (min (length {A = ℕ} []) (n + 1)) (omega arith)))
-agree_then_rest zero (x ∷ xs) (y ∷ ys) agree =
-    sym (ap (λ o. ordering_then o (text_cmp (x ∷ xs) (y ∷ ys)))
-    (equal (min (length (x ∷ xs)) (0 + 1)) (min (length (y ∷ ys)) (0 + 1)) (omega arith)))
-agree_then_rest (suc n) (x ∷ xs) (y ∷ ys) agree =
-    let first : min (length (x ∷ xs)) (suc n + 1) ≡ 1 + min (length xs) (n + 1) = omega arith in
-    let second : min (length (y ∷ ys)) (suc n + 1) ≡ 1 + min (length ys) (n + 1) = omega arith in
-    ap (λ o. ordering_then o (text_cmp xs ys)) (equal x y (agree 0 (omega arith)))
-    ∙ agree_then_rest n xs ys (λ i h. agree (suc i) (omega (arith, h)))
-    ∙ ap (λ o. ordering_then o (text_cmp (drop n xs) (drop n ys)))
-    (sym ((λ i. nat_cmp (first i) (second i))
-    ∙ moved 1 (min (length xs) (n + 1)) (min (length ys) (n + 1))))
 
 -- where the first bytes are one number, they agree
 digits_agree : (n : ℕ) (a b : List ℕ) → All (λ byte. byte < 256) a → All (λ byte. byte < 256) b
@@ -121,77 +86,108 @@ digits_none text = refl
 pub byte_fits : (text : List ℕ) (n : ℕ) → All (λ byte. byte < 256) text → get_or text n 0 < 256
 byte_fits = byte_below
 
--- ---- a text by its key
-module _ (a b : List ℕ) where
-  abbrev rest : Ordering
-  rest = text_cmp (drop 7 a) (drop 7 b)
+-- ---- texts by their keys
+module _ (texts : List (List ℕ)) where
+  -- keys are in some order, whatever their fronts are
+  pub key_total : IsTotalOrder (by_key texts)
+  key_total = then_total (on_total (λ (e : Numbered). e.first) nat_cmp_total)
+      (then_total (on_total (λ (e : Numbered). e.second) nat_cmp_total)
+      (on_total (text_at texts) nat_list_cmp_total))
 
-  abbrev SameByKeys : Type 0
-  SameByKeys = text_cmp a b ≡ ordering_then (nat_cmp (front a) (front b)) rest
+  module _ (a b : Numbered) (keyed_a : IsKeyed texts a) (keyed_b : IsKeyed texts b) where
+    abbrev by_text : Ordering
+    by_text = text_cmp (text_at texts a) (text_at texts b)
 
-  key_cmp : All (λ byte. byte < 256) a → All (λ byte. byte < 256) b → SameByKeys
-  unfolding front
-  key_cmp bytes_a bytes_b = ⊎_elim {C = SameByKeys}
-      (λ below. digits_less 7 a b bytes_a bytes_b below
-      ∙ sym (ap (λ o. ordering_then o rest) (less (front a) (front b) (omega (arith, below)))))
-      (λ from. ⊎_elim {C = SameByKeys}
-      (λ above. nat_list_cmp_total.antisymm a b
-      ∙ ap ordering_reverse (digits_less 7 b a bytes_b bytes_a above)
-      ∙ sym (ap (λ o. ordering_then o rest) (greater (front a) (front b) (omega (arith, above)))))
-      (λ to. let same : digits 7 a ≡ digits 7 b = omega (arith, from, to) in
-      agree_then_rest 7 a b (digits_agree 7 a b bytes_a bytes_b same)
-      ∙ ap (λ o. ordering_then o rest)
-      (sym (ap (λ n. nat_cmp (digits 7 a * 256 + min (length a) 8) (n * 256 + min (length b) 8))
-      (sym same)
-      ∙ moved (digits 7 a * 256) (min (length a) 8) (min (length b) 8))))
-      (cases_lt (digits 7 b) (digits 7 a)))
-      (cases_lt (digits 7 a) (digits 7 b))
+    abbrev by_second : Ordering
+    by_second = ordering_then (nat_cmp a.second b.second) by_text
 
-pub front_is : (text : List ℕ) → front text ≡ digits 7 text * 256 + min (length text) 8
-unfolding front
-front_is text = refl
+    is_less : (n : ℕ) → digits n (text_at texts a) < digits n (text_at texts b) → by_text ≡ Less
+    is_less n below = digits_less n (text_at texts a) (text_at texts b) keyed_a.bytes keyed_b.bytes
+        below
 
--- by front, then by what comes behind it, and then by number
-abbrev pub by_key : Numbered → Numbered → Ordering
-by_key a b =
-    ordering_then (nat_cmp a.front b.front)
-    (ordering_then (text_cmp a.rest.now b.rest.now) (nat_cmp a.number b.number))
+    is_greater : (n : ℕ) → digits n (text_at texts b) < digits n (text_at texts a)
+        → by_text ≡ Greater
+    is_greater n above =
+        nat_list_cmp_total.antisymm (text_at texts a) (text_at texts b)
+        ∙ ap ordering_reverse
+        (digits_less n (text_at texts b) (text_at texts a) keyed_b.bytes keyed_a.bytes above)
 
-never_less : (o p q : Ordering) → is_lt (ordering_then o (ordering_then p q)) ≡ false
-    → is_lt (ordering_then o p) ≡ false
-never_less Less p q h = h
-never_less Equal Less q h = h
-never_less Equal Equal q h = refl
-never_less Equal Greater q h = refl
-never_less Greater p q h = refl
+    seconds : a.first ≡ b.first → by_second ≡ by_text
+    seconds same =
+        ⊎_elim {C = by_second ≡ by_text}
+        (λ below. ap (λ o. ordering_then o by_text) (less a.second b.second below)
+        ∙ sym (is_less 12 (omega (
+          arith,
+          below,
+          same,
+          keyed_a.first_is,
+          keyed_b.first_is,
+          keyed_a.second_is,
+          keyed_b.second_is,
+        ))))
+        (λ from. ⊎_elim {C = by_second ≡ by_text}
+        (λ above. ap (λ o. ordering_then o by_text) (greater a.second b.second above)
+        ∙ sym (is_greater 12 (omega (
+          arith,
+          above,
+          same,
+          keyed_a.first_is,
+          keyed_b.first_is,
+          keyed_a.second_is,
+          keyed_b.second_is,
+        ))))
+        (λ upto. ap (λ o. ordering_then o by_text)
+        (equal a.second b.second (omega (arith, from, upto))))
+        (cases_lt b.second a.second))
+        (cases_lt a.second b.second)
 
-module _ (texts : List (List ℕ)) (a b : Numbered) (keyed_a : IsKeyed texts a)
-    (keyed_b : IsKeyed texts b) where
-  texts_cmp : text_cmp (text_at texts a) (text_at texts b)
-      ≡ ordering_then (nat_cmp a.front b.front) (text_cmp a.rest.now b.rest.now)
-  texts_cmp = key_cmp (text_at texts a) (text_at texts b) keyed_a.bytes keyed_b.bytes
-      ∙ sym (λ i. ordering_then (nat_cmp (keyed_a.front_is i) (keyed_b.front_is i))
-      (text_cmp (keyed_a.rest_is i) (keyed_b.rest_is i)))
+    -- keys compare as their texts
+    pub as_texts : by_key texts a b ≡ by_text
+    as_texts = ⊎_elim {C = by_key texts a b ≡ by_text}
+        (λ below. ap (λ o. ordering_then o by_second) (less a.first b.first below)
+        ∙ sym (is_less 8 (omega (arith, below, keyed_a.first_is, keyed_b.first_is))))
+        (λ from. ⊎_elim {C = by_key texts a b ≡ by_text}
+        (λ above. ap (λ o. ordering_then o by_second) (greater a.first b.first above)
+        ∙ sym (is_greater 8 (omega (arith, above, keyed_a.first_is, keyed_b.first_is))))
+        (λ upto. let same : a.first ≡ b.first = omega (arith, from, upto) in
+        ap (λ o. ordering_then o by_second) (equal a.first b.first same) ∙ seconds same)
+        (cases_lt b.first a.first))
+        (cases_lt a.first b.first)
 
-  -- keys in order are of texts in order
-  pub up_by_text : is_lt (by_key a b) ≡ false
-      → is_lt (text_cmp (text_at texts a) (text_at texts b)) ≡ false
-  up_by_text up = ap is_lt texts_cmp
-      ∙ never_less (nat_cmp a.front b.front) (text_cmp a.rest.now b.rest.now)
-      (nat_cmp a.number b.number) up
+    -- keys of one text have one front
+    pub same_front : text_at texts a ≡ text_at texts b → (a.first ≡ b.first) × (a.second ≡ b.second)
+    same_front e =
+        let eight = ap (digits 8) e in
+        let twelve = ap (digits 12) e in (
+          keyed_a.first_is ∙ eight ∙ sym keyed_b.first_is,
+          omega (arith, eight, twelve, keyed_a.second_is, keyed_b.second_is),
+        )
 
-  -- two keys are one where their texts are
-  pub same_key : (key_of a ≡ key_of b) ↔ (text_at texts a ≡ text_at texts b)
-  same_key = (
-    λ e. exact_bytes (text_at texts a) (text_at texts b)
-        (texts_cmp
-        ∙ (λ i. ordering_then (nat_cmp a.front (ap (λ (k : ℕ × List ℕ). k.0) (sym e) i))
-        (text_cmp a.rest.now (ap (λ (k : ℕ × List ℕ). k.1) (sym e) i)))
-        ∙ ap (λ o. ordering_then o (text_cmp a.rest.now a.rest.now))
-        (tied_itself nat_cmp_total a.front)
-        ∙ tied_itself nat_list_cmp_total a.rest.now),
-    λ e. λ i. (
-      (keyed_a.front_is ∙ ap front e ∙ sym keyed_b.front_is) i,
-      (keyed_a.rest_is ∙ ap (drop 7) e ∙ sym keyed_b.rest_is) i,
-    ),
-  )
+-- ---- texts by their keys, then by themselves, and then by number
+abbrev pub by_whole : Whole → Whole → Ordering
+by_whole a b =
+    ordering_then (nat_cmp a.first b.first) (ordering_then (nat_cmp a.second b.second)
+    (ordering_then (text_cmp a.text.now b.text.now) (nat_cmp a.number b.number)))
+
+never_less : (o p q r : Ordering)
+    → is_lt (ordering_then o (ordering_then p (ordering_then q r))) ≡ false
+    → is_lt (ordering_then o (ordering_then p q)) ≡ false
+never_less Less p q r h = h
+never_less Greater p q r h = refl
+never_less Equal Less q r h = h
+never_less Equal Greater q r h = refl
+never_less Equal Equal Less r h = h
+never_less Equal Equal Equal r h = refl
+never_less Equal Equal Greater r h = refl
+
+-- those in order are of texts in order
+pub up_by_text : (texts : List (List ℕ)) (a b : Whole) → IsWhole texts a → IsWhole texts b
+    → is_lt (by_whole a b) ≡ false
+    → is_lt (text_cmp (text_at texts (key_of a)) (text_at texts (key_of b))) ≡ false
+up_by_text texts a b whole_a whole_b up =
+    ap is_lt (sym (as_texts texts (key_of a) (key_of b) whole_a.keyed whole_b.keyed))
+    ∙ (λ i. is_lt (ordering_then (nat_cmp a.first b.first)
+    (ordering_then (nat_cmp a.second b.second)
+    (text_cmp (sym whole_a.text_is i) (sym whole_b.text_is i)))))
+    ∙ never_less (nat_cmp a.first b.first) (nat_cmp a.second b.second)
+    (text_cmp a.text.now b.text.now) (nat_cmp a.number b.number) up

@@ -1,6 +1,7 @@
 pub mod CodesKept
 pub mod CutLemmas
 pub mod Different
+pub mod EndsLemmas
 pub mod Enumerated
 pub mod InOrder
 pub mod Keys

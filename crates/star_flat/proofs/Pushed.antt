@@ -18,7 +18,8 @@ module _ {X : Type 0} (xs : List X) (y : X) where
       go [] = λ i. y
       go (z ∷ zs) = go zs
 
-  pub pushed_before : (n : ℕ) (x : X) → slice_get xs n ≡ Some x → slice_get (xs ++ y ∷ []) n ≡ Some x
+  pub pushed_before : (n : ℕ) (x : X) → slice_get xs n ≡ Some x
+      → slice_get (xs ++ y ∷ []) n ≡ Some x
   pushed_before n x at =
       let within = slice_get_within xs n x at in
       slice_get-get_or (xs ++ y ∷ []) n x (omega (arith, pushed_length, within))

@@ -7,7 +7,7 @@ use Rattle.std.proofs.lemmas.List.{get_or_append_left, get_or_default, get_or_pu
 use Rattle.std.proofs.lemmas.List.Elements.{All-get_or, All-head, All-map, All-push, All-tail, All-weaker, Contains-append_left, Contains-push}
 use Rattle.std.proofs.lemmas.Option.{get_or_from_slice_get, slice_get_within}
 use Rattle.std.proofs.lemmas.Simd.{map-map}
-use Rattle.star_flat.specs.Repeated.{AreRepeated, texts_at}
+use Rattle.star_flat.specs.Repeated.{AreRepeated, texts_at_places}
 
 -- what follows from what holds of each kind of answer
 pub either : {T E A B G : Type 0} (r : Result T E) → OnOk r A → OnErr r B → (A → G) → (B → G) → G
@@ -42,14 +42,14 @@ module _ (ts : List (List ℕ)) (ps : List ℕ) (repeated : AreRepeated ts ps) w
   }
 
   pub text_again : (p : ℕ) (t : List ℕ) → slice_get ts p ≡ Some t
-      → texts_at ts (ps ++ p ∷ []) ≡ texts_at ts ps ++ t ∷ []
+      → texts_at_places ts (ps ++ p ∷ []) ≡ texts_at_places ts ps ++ t ∷ []
   text_again p t there =
       map-append (λ q. get_or ts q []) ps (p ∷ [])
-      ∙ (λ i. texts_at ts ps ++ get_or_from_slice_get ts p t [] there i ∷ [])
+      ∙ (λ i. texts_at_places ts ps ++ get_or_from_slice_get ts p t [] there i ∷ [])
 
 -- texts that are kept later change none
 same_texts : (ts us : List (List ℕ)) (ps : List ℕ) → All (λ p. p < length ts) ps
-    → texts_at (ts ++ us) ps ≡ texts_at ts ps
+    → texts_at_places (ts ++ us) ps ≡ texts_at_places ts ps
 same_texts ts us [] within = refl
 same_texts ts us (p ∷ ps) within =
     λ i. get_or_append_left ts us [] p (All-head (λ q. q < length ts) p ps within) i
@@ -75,7 +75,8 @@ module _ (ts : List (List ℕ)) (ps : List ℕ) (repeated : AreRepeated ts ps) (
     few = omega (arith, repeated.few, more, length-append ps (length ts ∷ []));
   }
 
-  pub text_anew : texts_at (ts ++ t ∷ []) (ps ++ length ts ∷ []) ≡ texts_at ts ps ++ t ∷ []
+  pub text_anew : texts_at_places (ts ++ t ∷ []) (ps ++ length ts ∷ [])
+      ≡ texts_at_places ts ps ++ t ∷ []
   text_anew =
       map-append (λ q. get_or (ts ++ t ∷ []) q []) ps (length ts ∷ [])
       ∙ (λ i. same_texts ts (t ∷ []) ps repeated.within i
@@ -93,7 +94,7 @@ places_more f ps row p old new at so_far pushed =
 
 -- places of places: of rows among some texts, and of these among different ones
 module _ (ts ds : List (List ℕ)) (ps ns : List ℕ) (repeated : AreRepeated ts ps)
-    (coded : AreRepeated ds ns) (same : texts_at ds ns ≡ ts) where
+    (coded : AreRepeated ds ns) (same : texts_at_places ds ns ≡ ts) where
   pub count : length ns ≡ length ts
   count = sym (length-map ns (λ n. get_or ds n [])) ∙ ap length same
 
@@ -129,7 +130,7 @@ module _ (ts ds : List (List ℕ)) (ps ns : List ℕ) (repeated : AreRepeated ts
     );
   }
 
-  pub texts_of_coded : texts_at ds (map (λ p. get_or ns p 0) ps) ≡ texts_at ts ps
+  pub texts_of_coded : texts_at_places ds (map (λ p. get_or ns p 0) ps) ≡ texts_at_places ts ps
   texts_of_coded = map-map (λ n. get_or ds n []) (λ p. get_or ns p 0) ps ∙ agree ps repeated.within
     where
       agree : (qs : List ℕ) → All (λ p. p < length ts) qs

@@ -3,12 +3,12 @@ use Rattle.std.specs.Prelude.{◌<◌, ◌≤◌, ℕ, ℤ, List, [], All, Conta
 use Rattle.std.specs.Int.RustNames.{unsigned_abs}
 
 -- places that are kept as signed numbers
-abbrev pub places : List ℤ → List ℕ
-places numbers = map unsigned_abs numbers
+abbrev pub places_in : List ℤ → List ℕ
+places_in numbers = map unsigned_abs numbers
 
 -- the texts that stand at these places of a list
-abbrev pub texts_at : List (List ℕ) → List ℕ → List (List ℕ)
-texts_at texts places = map (λ place. slice_index_or texts place []) places
+abbrev pub texts_at_places : List (List ℕ) → List ℕ → List (List ℕ)
+texts_at_places texts places = map (λ place. slice_index_or texts place []) places
 
 -- places among some texts: each is one, and there is none of which there is no row
 pub record AreRepeated (texts : List (List ℕ)) (places : List ℕ) : Type 0 where

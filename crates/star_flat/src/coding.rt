@@ -1,16 +1,16 @@
 // From texts to their codes: they are put in order, each different one is put once, and its place
 // there is the code of all that equal it.
 
-ghost use Rattle.std.specs.Prelude.{◌≡◌, ◌↔◌, ◌-◌, ◌+◌, ◌<◌, ◌≤◌, ◌^◌, ℕ, List, IfOk, IsTrue, OnOk, Some, length, map, slice_get, take};
+ghost use Rattle.std.specs.Prelude.{◌≡◌, ◌↔◌, ◌-◌, ◌+◌, ◌<◌, ◌≤◌, ◌^◌, ℕ, List, All, IfOk, IsTrue, OnOk, Some, length, slice_get, take};
 ghost use Rattle.std.specs.Cmp.Lexicographic.{slice_cmp};
 ghost use Rattle.std.specs.List.Sorted.{IsStrictlySortedBy};
 ghost use Rattle.std.specs.Ordering.{nat_cmp};
-ghost use Rattle.star_flat.specs.Repeated.{AreRepeated, texts_at};
-ghost use Rattle.star_flat.specs.Private.Order.{AreInOrder, key_of, texts_of};
+ghost use Rattle.star_flat.specs.Repeated.{AreRepeated, texts_at_places};
+ghost use Rattle.star_flat.specs.Private.Order.{AreInTextOrder, IsKeyed, numbered_texts};
 ghost use Rattle.star_flat.specs.Private.Codes.{LeadTo, different};
 
 use crate::ordered::{Numbered, in_order};
-use crate::release::release;
+use crate::pages::release;
 use crate::texts::FlatTexts;
 use std::alloc::{AllocError, Global};
 
@@ -20,7 +20,7 @@ impl FlatTexts {
     pub fn coded(&self, alloc: Global) -> Result<(FlatTexts, Vec<u32>), AllocError>
         requires { length self.now < 2 ^ 32 }
         ensures sorted { IfOk result (λ coded. IsStrictlySortedBy (slice_cmp nat_cmp) coded.0) }
-        ensures texts { IfOk result (λ coded. texts_at coded.0 coded.1.items ≡ self.now) }
+        ensures texts { IfOk result (λ coded. texts_at_places coded.0 coded.1.items ≡ self.now) }
         ensures repeated { IfOk result (λ coded. AreRepeated coded.0 coded.1.items) }
     {
         let ordered = in_order(alloc, self)?;
@@ -34,12 +34,12 @@ impl FlatTexts {
 fn code_ordered(
     alloc: Global,
     texts: &FlatTexts,
-    ordered: &[Numbered<'_>],
+    ordered: &[Numbered],
 ) -> Result<(FlatTexts, Vec<u32>), AllocError>
     requires few { length texts.now < 2 ^ 32 }
-    requires ordered { AreInOrder texts.now ordered.now }
+    requires ordered { AreInTextOrder texts.now ordered.now }
     ensures texts { IfOk result
-        (λ coded. coded.0 ≡ different (texts_of texts.now ordered.now)) }
+        (λ coded. coded.0 ≡ different (numbered_texts texts.now ordered.now)) }
     ensures few { IfOk result (λ coded. length coded.0 ≤ length texts.now) }
     ensures len { IfOk result (λ coded. length coded.1.items ≡ length texts.now) }
     ensures codes { IfOk result (λ coded. LeadTo coded.0 coded.1.items texts.now ordered.now) }
@@ -52,39 +52,40 @@ fn code_ordered(
     Ok((put, codes))
 }
 
-/// Whether the key at a place is the one before it.
-fn repeats(ordered: &[Numbered<'_>], place: usize) -> bool
-    requires { place < length ordered.now }
+/// Whether the text at a place is the one before it.
+fn repeats(texts: &FlatTexts, ordered: &[Numbered], place: usize) -> bool
+    requires within { place < length ordered.now }
+    requires keyed { All (IsKeyed texts.now) ordered.now }
     ensures { IsTrue result
         ↔ ((0 < place)
-        × (slice_get (map key_of ordered.now) (place - 1)
-        ≡ slice_get (map key_of ordered.now) place)) }
+        × (slice_get (numbered_texts texts.now ordered.now) (place - 1)
+        ≡ slice_get (numbered_texts texts.now ordered.now) place)) }
 {
-    place > 0 && ordered[place - 1].has_key_of(&ordered[place])
+    place > 0 && ordered[place - 1].is_of_text(texts, ordered[place])
 }
 
-/// Puts the text at a place behind those of the places before, unless it repeats the last of them,
+/// Puts the text at a place after those of the places before, unless it repeats the last of them,
 /// and answers its code.
 fn put_next(
     put: &mut FlatTexts,
     texts: &FlatTexts,
-    ordered: &[Numbered<'_>],
+    ordered: &[Numbered],
     place: usize,
 ) -> Result<u32, AllocError>
     requires within { place < length ordered.now }
     requires few { length texts.now < 2 ^ 32 }
-    requires ordered { AreInOrder texts.now ordered.now }
-    requires put { put.old ≡ different (take place (texts_of texts.now ordered.now)) }
+    requires ordered { AreInTextOrder texts.now ordered.now }
+    requires put { put.old ≡ different (take place (numbered_texts texts.now ordered.now)) }
     requires no_more { length put.old ≤ place }
     ensures put { OnOk result
-        (put.new ≡ different (take (place + 1) (texts_of texts.now ordered.now))) }
+        (put.new ≡ different (take (place + 1) (numbered_texts texts.now ordered.now))) }
     ensures no_more { OnOk result (length put.new ≤ place + 1) }
     ensures kept { OnOk result ((code : ℕ) (text : List ℕ) → slice_get put.old code ≡ Some text
         → slice_get put.new code ≡ Some text) }
     ensures code { IfOk result (λ code. slice_get put.new code
-        ≡ slice_get (texts_of texts.now ordered.now) place) }
+        ≡ slice_get (numbered_texts texts.now ordered.now) place) }
 {
-    if !repeats(ordered, place) {
+    if !repeats(texts, ordered, place) {
         put.push(texts.get(ordered[place].number as usize))?;
     }
     Ok((put.len() - 1) as u32)

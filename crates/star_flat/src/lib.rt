@@ -1,20 +1,22 @@
 //! Lists in flat storage: of texts, one buffer for the bytes of all and one for where each ends; of
-//! texts many of which are equal, those and a place among them for each; of numbers, words no wider
-//! than they need. And of a list of texts the different ones in order, with the place of each text
-//! among them.
+//! texts, many of them equal: the kept ones, and for each text a place among these; of numbers,
+//! words no wider than they need. And of a list of texts the different ones in order, with the
+//! place of each text among them.
 #![tactic(auto)]
 
 mod coding;
+mod ends;
 mod marks;
 mod numbers;
 mod ordered;
-mod release;
+mod pages;
 mod repeated;
 mod slot;
 mod texts;
 mod words;
 
 pub use numbers::FlatNumbers;
+pub use pages::release;
 pub use repeated::RepeatedTexts;
 pub use slot::{SLOTS, slot_of};
 pub use texts::FlatTexts;

@@ -2,7 +2,7 @@
 
 ghost use Rattle.std.specs.Prelude.{◌≡◌, ◌<◌, ◌^◌, IfOk, IsTrue, length};
 
-use crate::release::release;
+use crate::pages::release;
 use crate::texts::FlatTexts;
 use std::alloc::{AllocError, Global};
 
@@ -34,9 +34,8 @@ fn count_remainders(alloc: Global, texts: &FlatTexts, count: u32) -> Result<u32,
     Ok(different)
 }
 
-/// Whether some of these texts, of which there are fewer than 2^32, may be equal. Otherwise at least
-/// three fifths of them are different. (Marks of texts that all differ leave five eighths of the
-/// remainders.)
+/// Whether some of these texts, fewer than 2^32, may be equal. Otherwise at least three fifths of
+/// them are different. (Marks of texts that all differ leave five eighths of the remainders.)
 pub(crate) fn may_repeat(alloc: Global, texts: &FlatTexts) -> Result<bool, AllocError>
     ensures { IfOk result (λ repeat. IsTrue repeat → length texts.now < 2 ^ 32) }
 {

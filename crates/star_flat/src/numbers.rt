@@ -1,6 +1,7 @@
 // A list of numbers, in words as wide as they need.
 
 ghost use Rattle.std.specs.Prelude.{◌≡◌, ◌<◌, ◌+◌, ◌++◌, ◌∷◌, [], OnErr, OnOk, Some, length, slice_get, take};
+ghost use Rattle.star_flat.specs.Repeated.{places_in};
 ghost use Rattle.star_flat.specs.Words.{numbers_in};
 
 use crate::words::SignedWords;
@@ -81,11 +82,11 @@ impl FlatNumbers {
     }
 
     /// Lets the numbers go, as `release` does.
-    pub(crate) fn release(self) {
+    pub fn release(self) {
         self.words.release();
     }
 
-    /// Keeps the first so many numbers alone.
+    /// Keeps the first `count` numbers alone.
     pub(crate) fn truncate(&mut self, count: usize)
         ensures { self.new ≡ take count self.old }
     {
@@ -103,5 +104,39 @@ impl FlatNumbers {
             self.words = self.words.widened(self.alloc)?;
         }
         Ok(())
+    }
+}
+
+/// The place of a text that equals the one of a row.
+pub(crate) fn place_at(rows: &FlatNumbers, row: usize) -> usize
+    requires { row < length rows.now }
+    ensures { slice_get (places_in rows.now) row ≡ Some result }
+{
+    rows.get(row).unsigned_abs() as usize
+}
+
+/// The places of a row and of the next one.
+#[inline(always)]
+pub(crate) fn two_places(rows: &FlatNumbers, row: usize) -> (usize, usize)
+    requires { row + 1 < length rows.now }
+    ensures first { slice_get (places_in rows.now) row ≡ Some result.0 }
+    ensures second { slice_get (places_in rows.now) (row + 1) ≡ Some result.1 }
+{
+    let (first, second) = rows.two_at(row);
+    (
+        first.unsigned_abs() as usize,
+        second.unsigned_abs() as usize,
+    )
+}
+
+/// Puts a place at the end, or changes nothing where memory is refused.
+#[inline(always)]
+pub(crate) fn push_place(rows: &mut FlatNumbers, place: usize) -> Result<(), AllocError>
+    ensures ok { OnOk result (places_in rows.new ≡ places_in rows.old ++ place ∷ []) }
+    ensures err { OnErr result (rows.new ≡ rows.old) }
+{
+    match i64::try_from(place) {
+        Ok(number) => rows.push(number),
+        Err(_) => Err(AllocError),
     }
 }

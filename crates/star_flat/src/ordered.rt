@@ -1,27 +1,40 @@
 // The texts of a list with their places, in the order of their bytes.
 
-ghost use Rattle.std.specs.Prelude.{◌≡◌, ◌↔◌, ◌<◌, ◌^◌, All, IfOk, IsTrue, drop, length, map, slice_index};
+ghost use Rattle.std.specs.Prelude.{◌≡◌, ◌↔◌, ◌<◌, ◌+◌, ◌*◌, ◌^◌, [], All, IfOk, IsTrue, length, map, slice_index, slice_index_or};
 ghost use Rattle.std.specs.List.{range_with_len};
-ghost use Rattle.star_flat.specs.Private.Order.{AreInOrder, IsKeyed, digits, front, key_of};
+ghost use Rattle.star_flat.specs.Private.Order.{AreInTextOrder, IsKeyed, IsWhole, by_key, digits, key_of, text_at};
 
+use crate::pages::release;
 use crate::texts::FlatTexts;
 use std::alloc::{AllocError, Global};
-
-/// How many bytes of a text its front holds.
-const FRONT: usize = 7;
+use std::cmp::Ordering;
 
 /// The key of a text, by which it is put in order, and its number, which is its place in a list.
 ///
-/// Two keys compare as their texts do, and equal ones by their numbers. Most keys are told apart by
-/// their fronts, with no look at where the texts lie: their first 7 bytes and how many these are.
-#[derive(Clone, Copy, PartialEq, Eq, PartialOrd, Ord)]
-pub(crate) struct Numbered<'t> {
-    pub(crate) front: u64,
-    pub(crate) rest: &'t [u8],
+/// Most keys are told apart by their fronts, the first 12 bytes of their texts, with no look at
+/// where the texts lie.
+#[derive(Clone, Copy)]
+pub(crate) struct Numbered {
+    /// The first 8 bytes.
+    pub(crate) first: u64,
+    /// The next 4.
+    pub(crate) second: u32,
     pub(crate) number: u32,
 }
 
-/// The byte at a place, 0 behind the end.
+/// A text behind its front, and its number.
+///
+/// Two of them compare as their texts do, and equal ones by their numbers. It is twice as long as a
+/// key, but has where its text lies, so those whose fronts are equal are compared sooner.
+#[derive(Clone, Copy, PartialEq, Eq, PartialOrd, Ord)]
+pub(crate) struct Whole<'t> {
+    pub(crate) first: u64,
+    pub(crate) second: u32,
+    pub(crate) text: &'t [u8],
+    pub(crate) number: u32,
+}
+
+/// The byte at a place, 0 after the end.
 fn byte_at(text: &[u8], place: usize) -> u8
     ensures { result ≡ slice_index text.now place }
 {
@@ -31,43 +44,44 @@ fn byte_at(text: &[u8], place: usize) -> u8
     }
 }
 
-/// The first 7 bytes of a text as the digits of a number, the first byte the highest. Where a text
+/// The first 8 bytes of a text as the digits of a number, the first byte the highest. Where a text
 /// has fewer, zeros follow.
-fn digits_of(text: &[u8]) -> u64
-    ensures digits { result ≡ digits 7 text.now }
-    ensures below { result < 2 ^ 56 }
+fn first_of(text: &[u8]) -> u64
+    ensures digits { result ≡ digits 8 text.now }
     ensures bytes { All (λ byte. byte < 256) text.now }
 {
     let mut digits = 0;
-    for place in 0..FRONT {
+    for place in 0..8 {
         digits = digits * 256 + u64::from(byte_at(text, place));
     }
     digits
 }
 
-/// The first 7 bytes of a text as digits, and behind them how many bytes it has, 8 where these are
-/// more.
-fn front_of(text: &[u8]) -> u64
-    ensures front { result ≡ front text.now }
-    ensures bytes { All (λ byte. byte < 256) text.now }
+/// The 4 bytes after the first 8 of a text, in the same way.
+fn second_of(text: &[u8]) -> u32
+    ensures { digits 12 text.now ≡ digits 8 text.now * 4294967296 + result }
 {
-    digits_of(text) * 256 + text.len().min(FRONT + 1) as u64
+    u32::from(byte_at(text, 8)) * 16_777_216
+        + u32::from(byte_at(text, 9)) * 65_536
+        + u32::from(byte_at(text, 10)) * 256
+        + u32::from(byte_at(text, 11))
 }
 
-/// What comes behind the first 7 bytes of a text.
-fn rest_of(text: &[u8]) -> &[u8]
-    ensures { result.now ≡ drop 7 text.now }
+/// The text of a number, an empty one where there is none.
+#[inline(always)]
+fn text_of(texts: &FlatTexts, number: u32) -> &[u8]
+    ensures { result.now ≡ slice_index_or texts.now number [] }
 {
-    if text.len() < FRONT {
-        &[]
+    if (number as usize) < texts.len() {
+        texts.get(number as usize)
     } else {
-        &text[FRONT..]
+        &[]
     }
 }
 
-impl<'t> Numbered<'t> {
+impl Numbered {
     /// The key of the text at a place, from 0.
-    fn at(texts: &'t FlatTexts, place: usize) -> Numbered<'t>
+    fn at(texts: &FlatTexts, place: usize) -> Numbered
         requires within { place < length texts.now }
         requires few { length texts.now < 2 ^ 32 }
         ensures number { result.number ≡ place }
@@ -75,22 +89,37 @@ impl<'t> Numbered<'t> {
     {
         let text = texts.get(place);
         Numbered {
-            front: front_of(text),
-            rest: rest_of(text),
+            first: first_of(text),
+            second: second_of(text),
             number: place as u32,
         }
     }
 
-    /// Whether this is also the key of another's text.
-    pub(crate) fn has_key_of(&self, other: &Numbered<'_>) -> bool
-        ensures { IsTrue result ↔ (key_of self.now ≡ key_of other.now) }
+    /// Whether this is the key of the same text as another.
+    pub(crate) fn is_of_text(self, texts: &FlatTexts, other: Numbered) -> bool
+        requires keyed { IsKeyed texts.now self }
+        requires other_keyed { IsKeyed texts.now other }
+        ensures { IsTrue result ↔ (text_at texts.now self ≡ text_at texts.now other) }
     {
-        self.front == other.front && self.rest == other.rest
+        self.first == other.first
+            && self.second == other.second
+            && text_of(texts, self.number) == text_of(texts, other.number)
+    }
+}
+
+/// How two keys compare: as their fronts, and where these are one, as their texts.
+#[inline(always)]
+fn compare(texts: &FlatTexts, one: Numbered, other: Numbered) -> Ordering
+    ensures { result ≡ by_key texts.now one other }
+{
+    match (one.first, one.second).cmp(&(other.first, other.second)) {
+        Ordering::Equal => text_of(texts, one.number).cmp(&text_of(texts, other.number)),
+        unequal => unequal,
     }
 }
 
 /// The keys of these texts, in their order.
-fn with_numbers<'t>(alloc: Global, texts: &'t FlatTexts) -> Result<Vec<Numbered<'t>>, AllocError>
+fn with_numbers(alloc: Global, texts: &FlatTexts) -> Result<Vec<Numbered>, AllocError>
     requires { length texts.now < 2 ^ 32 }
     ensures numbers { IfOk result
         (λ numbered. map (λ e. e.number) numbered.items ≡ range_with_len 0 (length texts.now)) }
@@ -103,15 +132,110 @@ fn with_numbers<'t>(alloc: Global, texts: &'t FlatTexts) -> Result<Vec<Numbered<
     Ok(numbered)
 }
 
-/// The keys of these texts in the order of their bytes, each with the text's place in the list.
-pub(crate) fn in_order<'t>(
-    alloc: Global,
-    texts: &'t FlatTexts,
-) -> Result<Vec<Numbered<'t>>, AllocError>
+/// The keys of these texts in the order of their bytes, with no more memory than they take.
+fn by_fronts(alloc: Global, texts: &FlatTexts) -> Result<Vec<Numbered>, AllocError>
     requires { length texts.now < 2 ^ 32 }
-    ensures { IfOk result (λ ordered. AreInOrder texts.now ordered.items) }
+    ensures { IfOk result (λ ordered. AreInTextOrder texts.now ordered.items) }
 {
     let mut ordered = with_numbers(alloc, texts)?;
-    ordered.sort_unstable();
+    ordered.sort_unstable_by(
+        |one: &Numbered, other: &Numbered| -> Ordering
+            ensures met { result ≡ by_key texts.entry.now one.now other.now }
+        { compare(texts, *one, *other) },
+    );
     Ok(ordered)
+}
+
+impl<'t> Whole<'t> {
+    /// The text at a place, from 0.
+    fn at(texts: &'t FlatTexts, place: usize) -> Whole<'t>
+        requires within { place < length texts.now }
+        requires few { length texts.now < 2 ^ 32 }
+        ensures number { result.number ≡ place }
+        ensures whole { IsWhole texts.now result }
+    {
+        let key = Numbered::at(texts, place);
+        Whole {
+            first: key.first,
+            second: key.second,
+            text: texts.get(place),
+            number: key.number,
+        }
+    }
+
+    /// The key of this text.
+    fn key(&self) -> Numbered
+        ensures { result ≡ key_of self.now }
+    {
+        Numbered {
+            first: self.first,
+            second: self.second,
+            number: self.number,
+        }
+    }
+}
+
+/// These texts, in their order.
+fn wholes<'t>(alloc: Global, texts: &'t FlatTexts) -> Result<Vec<Whole<'t>>, AllocError>
+    requires { length texts.now < 2 ^ 32 }
+    ensures numbers { IfOk result
+        (λ wholes. map (λ e. e.number) wholes.items ≡ range_with_len 0 (length texts.now)) }
+    ensures wholes { IfOk result (λ wholes. All (IsWhole texts.now) wholes.items) }
+{
+    let mut wholes = Vec::with_capacity(alloc, texts.len())?;
+    for place in 0..texts.len() {
+        wholes.push_reserved(Whole::at(texts, place));
+    }
+    Ok(wholes)
+}
+
+/// The keys of these texts, in their order.
+fn keys_of(alloc: Global, wholes: &[Whole<'_>]) -> Result<Vec<Numbered>, AllocError>
+    ensures { IfOk result (λ keys. keys.items ≡ map key_of wholes.now) }
+{
+    let mut keys = Vec::with_capacity(alloc, wholes.len())?;
+    for place in 0..wholes.len() {
+        keys.push_reserved(wholes[place].key());
+    }
+    Ok(keys)
+}
+
+/// The keys of these texts in the order of their bytes, by fronts and texts at once.
+fn by_wholes(alloc: Global, texts: &FlatTexts) -> Result<Vec<Numbered>, AllocError>
+    requires { length texts.now < 2 ^ 32 }
+    ensures { IfOk result (λ ordered. AreInTextOrder texts.now ordered.items) }
+{
+    let mut wholes = wholes(alloc, texts)?;
+    wholes.sort_unstable();
+    let ordered = keys_of(alloc, wholes.as_slice())?;
+    release(wholes);
+    Ok(ordered)
+}
+
+/// Whether more than a third of these texts have more bytes than their fronts hold.
+///
+/// Either answer is right: it only decides how texts are sorted.
+fn are_long(texts: &FlatTexts) -> bool {
+    let mut long = 0;
+    for place in 0..texts.len() {
+        if texts.get(place).len() > 12 {
+            long += 1;
+        }
+    }
+    long > texts.len() / 3
+}
+
+/// The keys of these texts in the order of their bytes, each with the text's place in the list.
+///
+/// Where many texts are long, all their fronts may be equal, so it is kept where each lies. That
+/// takes three times the memory, but a long text has more than 12 bytes of its file itself.
+pub(crate) fn in_order(alloc: Global, texts: &FlatTexts) -> Result<Vec<Numbered>, AllocError>
+    requires { length texts.now < 2 ^ 32 }
+    ensures { IfOk result (λ ordered. AreInTextOrder texts.now ordered.items) }
+{
+    if are_long(texts) {
+        by_wholes(alloc, texts)
+    } else {
+        by_fronts(alloc, texts)
+    }
 }

@@ -1,19 +1,19 @@
-// A list of texts, many of which are equal.
+// A list of texts, many of them equal.
 
 ghost use Rattle.std.specs.Prelude.{◌≡◌, ◌<◌, ◌^◌, ◌++◌, ◌∷◌, [], All, IfOk, IfSome, Some, length, map, slice_get, slice_index, OnErr, OnOk};
-ghost use Rattle.star_flat.specs.Repeated.{AreRepeated, places, texts_at};
+ghost use Rattle.star_flat.specs.Repeated.{AreRepeated, places_in, texts_at_places};
 
 use crate::marks::may_repeat;
-use crate::numbers::FlatNumbers;
-use crate::release::release;
+use crate::numbers::{FlatNumbers, place_at, push_place};
+use crate::pages::release;
 use crate::slot::{SLOTS, slot_of};
 use crate::texts::FlatTexts;
 use std::alloc::{AllocError, Global};
 use std::marker::Model;
 use std::mem::replace;
 
-/// How many texts are kept at least before they are compacted. The places of so many fit into words
-/// of 16 bits.
+/// How many texts are kept at least before they are compacted. Their places fit into words of 16
+/// bits.
 const MANY: usize = 32_768;
 
 /// A list of texts, which a contract sees as the list of their bytes. A text that equals one that
@@ -33,21 +33,13 @@ pub struct RepeatedTexts {
 
 impl Model for RepeatedTexts {
     ghost use Rattle.std.specs.Prelude.{List, ℕ};
-    ghost use Rattle.star_flat.specs.Repeated.{AreRepeated, places, texts_at};
+    ghost use Rattle.star_flat.specs.Repeated.{AreRepeated, places_in, texts_at_places};
 
     ghost Value = { List (List ℕ) };
 
-    ghost view = { λ texts. texts_at texts.kept (places texts.rows) };
+    ghost view = { λ texts. texts_at_places texts.kept (places_in texts.rows) };
 
-    ghost invariant = { λ texts. AreRepeated texts.kept (places texts.rows) };
-}
-
-/// The place of a text that equals the one of a row.
-fn place_at(rows: &FlatNumbers, row: usize) -> usize
-    requires { row < length rows.now }
-    ensures { slice_get (places rows.now) row ≡ Some result }
-{
-    rows.get(row).unsigned_abs() as usize
+    ghost invariant = { λ texts. AreRepeated texts.kept (places_in texts.rows) };
 }
 
 /// The place of an equal text that was put lately.
@@ -63,23 +55,11 @@ fn recent_place(recent: &[usize; SLOTS], kept: &FlatTexts, text: &[u8]) -> Optio
     }
 }
 
-/// Puts a place at the end, or changes nothing where memory is refused.
-#[inline(always)]
-fn push_place(rows: &mut FlatNumbers, place: usize) -> Result<(), AllocError>
-    ensures ok { OnOk result (places rows.new ≡ places rows.old ++ place ∷ []) }
-    ensures err { OnErr result (rows.new ≡ rows.old) }
-{
-    match i64::try_from(place) {
-        Ok(number) => rows.push(number),
-        Err(_) => Err(AllocError),
-    }
-}
-
 /// Keeps a text, and puts its place at the end, or changes nothing where memory is refused.
 fn keep(kept: &mut FlatTexts, rows: &mut FlatNumbers, text: &[u8]) -> Result<(), AllocError>
     ensures kept { OnOk result (kept.new ≡ kept.old ++ text.now ∷ []) }
-    ensures rows { OnOk result (places rows.new ≡ places rows.old ++ length kept.old ∷ []) }
-    ensures err { OnErr result ((kept.new ≡ kept.old) × (places rows.new ≡ places rows.old)) }
+    ensures rows { OnOk result (places_in rows.new ≡ places_in rows.old ++ length kept.old ∷ []) }
+    ensures err { OnErr result ((kept.new ≡ kept.old) × (places_in rows.new ≡ places_in rows.old)) }
 {
     let count = rows.len();
     push_place(rows, kept.len())?;
@@ -94,9 +74,9 @@ fn keep(kept: &mut FlatTexts, rows: &mut FlatNumbers, text: &[u8]) -> Result<(),
 
 /// What stands at the place of each row.
 fn renumbered(alloc: Global, rows: &FlatNumbers, numbers: &[u32]) -> Result<FlatNumbers, AllocError>
-    requires { All (λ place. place < length numbers.now) (places rows.now) }
-    ensures { IfOk result (λ renumbered. places renumbered
-        ≡ map (λ place. slice_index numbers.now place) (places rows.now)) }
+    requires { All (λ place. place < length numbers.now) (places_in rows.now) }
+    ensures { IfOk result (λ renumbered. places_in renumbered
+        ≡ map (λ place. slice_index numbers.now place) (places_in rows.now)) }
 {
     let mut renumbered = FlatNumbers::new(alloc);
     for row in 0..rows.len() {
@@ -113,9 +93,9 @@ fn keep_different(
     rows: &mut FlatNumbers,
 ) -> Result<(), AllocError>
     requires few { length kept.old < 2 ^ 32 }
-    requires repeated { AreRepeated kept.old (places rows.old) }
-    ensures texts { texts_at kept.new (places rows.new) ≡ texts_at kept.old (places rows.old) }
-    ensures repeated { AreRepeated kept.new (places rows.new) }
+    requires repeated { AreRepeated kept.old (places_in rows.old) }
+    ensures texts { texts_at_places kept.new (places_in rows.new) ≡ texts_at_places kept.old (places_in rows.old) }
+    ensures repeated { AreRepeated kept.new (places_in rows.new) }
 {
     let (different, codes) = kept.coded(alloc)?;
     let places = renumbered(alloc, rows, codes.as_slice())?;
@@ -157,8 +137,8 @@ impl RepeatedTexts {
     /// The texts that are kept, some of them equal, and for each text the place of an equal one
     /// among them.
     pub fn parts(&self) -> (&FlatTexts, &FlatNumbers)
-        ensures texts { texts_at result.0.now (places result.1.now) ≡ self.now }
-        ensures repeated { AreRepeated result.0.now (places result.1.now) }
+        ensures texts { texts_at_places result.0.now (places_in result.1.now) ≡ self.now }
+        ensures repeated { AreRepeated result.0.now (places_in result.1.now) }
     {
         (&self.kept, &self.rows)
     }
@@ -173,6 +153,12 @@ impl RepeatedTexts {
             Some(place) => push_place(&mut self.rows, place),
             None => self.push_other(text),
         }
+    }
+
+    /// Lets the texts go, as `release` does.
+    pub fn release(self) {
+        self.kept.release();
+        self.rows.release();
     }
 
     /// Puts a text at the end that equals none of those that were put lately, or changes nothing

@@ -1,11 +1,10 @@
 // A list of texts, one after another in one buffer.
 
 ghost use Rattle.std.specs.Prelude.{◌≡◌, ◌<◌, ◌+◌, ◌++◌, ◌∷◌, ◌↔◌, [], IsTrue, Some, length, slice_get, OnOk, OnErr};
-ghost use Rattle.star_flat.specs.Private.Cut.{texts_from, start_of, IsCut};
-ghost use Rattle.star_flat.specs.Repeated.{places};
+ghost use Rattle.star_flat.specs.Private.Cut.{texts_from, text_start, IsCut};
 
-use crate::numbers::FlatNumbers;
-use crate::release::release;
+use crate::ends::Ends;
+use crate::pages::release;
 use std::alloc::{AllocError, Global};
 use std::marker::Model;
 
@@ -14,19 +13,18 @@ use std::marker::Model;
 #[derive(Drop)]
 pub struct FlatTexts {
     bytes: Vec<u8>,
-    ends: FlatNumbers,
+    ends: Ends,
 }
 
 impl Model for FlatTexts {
     ghost use Rattle.std.specs.Prelude.{List, ℕ, length};
     ghost use Rattle.star_flat.specs.Private.Cut.{texts_from, IsCut};
-    ghost use Rattle.star_flat.specs.Repeated.{places};
 
     ghost Value = { List (List ℕ) };
 
-    ghost view = { λ texts. texts_from 0 texts.bytes.items (places texts.ends) };
+    ghost view = { λ texts. texts_from 0 texts.bytes.items texts.ends };
 
-    ghost invariant = { λ texts. IsCut 0 (places texts.ends) (length texts.bytes.items) };
+    ghost invariant = { λ texts. IsCut 0 texts.ends (length texts.bytes.items) };
 }
 
 impl FlatTexts {
@@ -36,7 +34,7 @@ impl FlatTexts {
     {
         FlatTexts {
             bytes: Vec::new(alloc),
-            ends: FlatNumbers::new(alloc),
+            ends: Ends::new(alloc),
         }
     }
 
@@ -76,7 +74,7 @@ impl FlatTexts {
     {
         let start = self.bytes.len();
         self.bytes.extend_from_slice(text)?;
-        match self.ends.push(self.bytes.len() as i64) {
+        match self.ends.push(start, self.bytes.len()) {
             Ok(()) => Ok(()),
             Err(error) => {
                 self.bytes.truncate(start);
@@ -86,47 +84,25 @@ impl FlatTexts {
     }
 }
 
-// Where the first text ends.
-fn first_end(ends: &FlatNumbers) -> usize
-    requires { 0 < length ends.now }
-    ensures { slice_get (places ends.now) 0 ≡ Some result }
-{
-    ends.get(0).unsigned_abs() as usize
-}
-
-// Where the text at a place ends, and where the next one does.
-#[inline(always)]
-fn two_ends(ends: &FlatNumbers, place: usize) -> (usize, usize)
-    requires { place + 1 < length ends.now }
-    ensures first { slice_get (places ends.now) place ≡ Some result.0 }
-    ensures second { slice_get (places ends.now) (place + 1) ≡ Some result.1 }
-{
-    let (first, second) = ends.two_at(place);
-    (
-        first.unsigned_abs() as usize,
-        second.unsigned_abs() as usize,
-    )
-}
-
 // Where the text at a place begins, and where it ends.
 #[inline(always)]
-fn range_at(ends: &FlatNumbers, place: usize) -> (usize, usize)
+fn range_at(ends: &Ends, place: usize) -> (usize, usize)
     requires { place < length ends.now }
-    ensures start { result.0 ≡ start_of 0 (places ends.now) place }
-    ensures end { slice_get (places ends.now) place ≡ Some result.1 }
+    ensures start { result.0 ≡ text_start 0 ends.now place }
+    ensures end { slice_get ends.now place ≡ Some result.1 }
 {
     if place == 0 {
-        (0, first_end(ends))
+        (0, ends.get(0))
     } else {
-        two_ends(ends, place - 1)
+        ends.bounds_at(place)
     }
 }
 
 #[inline(always)]
-fn text_at<'t>(bytes: &'t [u8], ends: &FlatNumbers, place: usize) -> &'t [u8]
-    requires cut { IsCut 0 (places ends.now) (length bytes.now) }
+fn text_at<'t>(bytes: &'t [u8], ends: &Ends, place: usize) -> &'t [u8]
+    requires cut { IsCut 0 ends.now (length bytes.now) }
     requires within { place < length ends.now }
-    ensures { slice_get (texts_from 0 bytes.now (places ends.now)) place ≡ Some result.now }
+    ensures { slice_get (texts_from 0 bytes.now ends.now) place ≡ Some result.now }
 {
     let (start, end) = range_at(ends, place);
     &bytes[start..end]

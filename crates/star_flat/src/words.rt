@@ -1,12 +1,12 @@
 // Signed words of 8, 16, 32 and 64 bits.
 
-ghost use Rattle.std.specs.Prelude.{◌≡◌, ◌<◌, ◌+◌, ◌++◌, ◌∷◌, [], ℤ, true, All, FitsSigned, IfOk, MatchBool, MatchOption, OnErr, OnOk, Some, length, map, refl, slice_get, take, vec_capacity, vec_len};
+ghost use Rattle.std.specs.Prelude.{◌≡◌, ◌<◌, ◌+◌, ◌++◌, ◌∷◌, [], ℤ, true, FitsSigned, IfOk, MatchBool, MatchOption, OnErr, OnOk, Some, length, map, refl, slice_get, take, vec_capacity, vec_len};
 ghost use Rattle.std.specs.Int.{w8, w16, w32, w64};
 ghost use Rattle.std.specs.Ordering.{int_cmp};
 ghost use Rattle.star_flat.specs.Words.{numbers_in};
 ghost use Rattle.star_flat.specs.Private.Widths.{widenings};
 
-use crate::release::release;
+use crate::pages::release;
 use std::alloc::{AllocError, Global};
 
 /// A signed integer of some width.
@@ -227,7 +227,7 @@ impl SignedWords {
         }
     }
 
-    /// Keeps the first so many numbers alone.
+    /// Keeps the first `count` numbers alone.
     pub(crate) fn truncate(&mut self, count: usize)
         ensures { numbers_in self.new ≡ take count (numbers_in self.old) }
     {

@@ -13,7 +13,7 @@ use Rattle.star_group.specs.Cells.{held}
 use Rattle.star_group.specs.OwnKeys.{key_eq, padded}
 use Rattle.star_schema.specs.declared.group.Shape.{Shape}
 use Rattle.star_group.specs.Private.BasePut.{TakesPut, group_with}
-use Rattle.star_group.specs.Private.Merged.{IsMerged, IsMergedAt, IsMergedInto, IsRowOf, MergeStays, RowsStay, cell_of, merged}
+use Rattle.star_group.specs.Private.Merged.{IsMerged, IsMergedAt, IsMergedInto, IsRowOfOnePut, MergeStays, RowsStay, cell_of_one_put, merged}
 use Rattle.star_group.specs.Stores.{Group, HasRoom, put_number}
 use Rattle.star_group.specs.Stores.{AddUp, IsContent, above_zero, below_zero, key_lists}
 use Rattle.star_program.specs.Keys.{same_keys}
@@ -24,15 +24,19 @@ use Rattle.star_group.proofs.Rooms.{held_stays}
 
 -- ---- look-ups after a row was merged in
 
-module _ (gs : List Aggregate) (key : List (Option KeyValue)) (more : List (Option ℤ)) (es fs : List (List KeyPart × List (Option ℤ))) (at : IsMergedAt gs key more es fs) where
-  pub own_row : (q : List (Option KeyValue)) → q ≡ key → IsMergedInto gs more (row_found es q) (row_found fs q)
+module _ (gs : List Aggregate) (key : List (Option KeyValue)) (more : List (Option ℤ))
+    (es fs : List (List KeyPart × List (Option ℤ))) (at : IsMergedAt gs key more es fs) where
+  pub own_row : (q : List (Option KeyValue)) → q ≡ key
+      → IsMergedInto gs more (row_found es q) (row_found fs q)
   own_row q e = (
     at.0,
-    at.2 q ∙ ap (λ b. cond b (Some at.0) (row_found es q)) (ap (λ k. key_eq k key) e ∙ key_equiv.refl key),
+    at.2 q ∙ ap (λ b. cond b (Some at.0) (row_found es q))
+        (ap (λ k. key_eq k key) e ∙ key_equiv.refl key),
     subst (λ k. IsMerged gs (unwrap_or (row_found es k) []) more at.0) (sym e) at.1,
   )
 
-  pub other_row : (q : List (Option KeyValue)) → key_eq q key ≡ false → row_found fs q ≡ row_found es q
+  pub other_row : (q : List (Option KeyValue)) → key_eq q key ≡ false
+      → row_found fs q ≡ row_found es q
   other_row q apart = at.2 q ∙ ap (λ b. cond b (Some at.0) (row_found es q)) apart
 
 -- ---- one put more
@@ -41,80 +45,134 @@ filter_all : (us : List Update) → filter (λ w. true) us ≡ us
 filter_all [] = refl
 filter_all (u ∷ us) = ap (λ ws. u ∷ ws) (filter_all us)
 
-module _ (d : Group) (us : List Update) (u : Update) (row : List (Option ℤ)) (one : IsRowOf d.aggregates u.values row) where
-  pub more_over : (found new : Option (List (Option ℤ))) → IsRowOver d us found → IsMergedInto d.aggregates row found new → IsRowOver d (u ∷ us) new
-  more_over None new was m = subst (IsRowOver d (u ∷ us)) (sym m.1) (refl, subst (λ ws. HasAggregates d (u ∷ ws) m.0) (sym (no_puts us was)) (λ place h. m.2 place h ∙ row_of_one d u row one place h))
-  more_over (Some held_row) new was m = subst (IsRowOver d (u ∷ us)) (sym m.1) (refl, merged_more d u us held_row row m.0 one was.1 m.2)
+module _ (d : Group) (us : List Update) (u : Update) (row : List (Option ℤ))
+    (one : IsRowOfOnePut d.aggregates u.values row) where
+  pub more_over : (found new : Option (List (Option ℤ))) → IsRowOver d us found
+      → IsMergedInto d.aggregates row found new → IsRowOver d (u ∷ us) new
+  more_over None new was m =
+      subst (IsRowOver d (u ∷ us)) (sym m.1) (
+        refl,
+        subst (λ ws. HasAggregates d (u ∷ ws) m.0) (sym (no_puts us was))
+            (λ place h. m.2 place h ∙ row_of_one d u row one place h),
+      )
+  more_over (Some held_row) new was m =
+      subst (IsRowOver d (u ∷ us)) (sym m.1)
+      (refl, merged_more d u us held_row row m.0 one was.1 m.2)
 
   -- no SUM and no COUNT leaves its bits
-  pub merge_stays : (all : List Update) (p : List KeyValue → Bool) → HasRoom d all → filter (λ w. p w.keys) all ≡ u ∷ us → (held_row : List (Option ℤ)) → HasAggregates d us held_row → MergeStays d.aggregates held_row row
+  pub merge_stays : (all : List Update) (p : List KeyValue → Bool) → HasRoom d all
+      → filter (λ w. p w.keys) all ≡ u ∷ us → (held_row : List (Option ℤ))
+      → HasAggregates d us held_row → MergeStays d.aggregates held_row row
   merge_stays all p room is held_row so_far = λ place h.
       let g = aggregate_at d.aggregates place in
       ap (leaves g)
-      ((λ i. merged g (so_far place h i) (one place h i)) ∙ merged_comm g (held g (numbers_for place us)) (Some (cell_of g (put_number place u)))
-      ∙ sym (held_one g (put_number place u) (numbers_for place us)) ∙ ap (λ ws. held g (numbers_for place ws)) (sym is))
+      ((λ i. merged g (so_far place h i) (one place h i))
+      ∙ merged_comm g (held g (numbers_for place us))
+      (Some (cell_of_one_put g (put_number place u)))
+      ∙ sym (held_one g (put_number place u) (numbers_for place us))
+      ∙ ap (λ ws. held g (numbers_for place ws)) (sym is))
       ∙ held_stays d all room p place h
 
-  pub rows_stay : (all : List Update) (p : List KeyValue → Bool) → HasRoom d all → filter (λ w. p w.keys) all ≡ u ∷ us → (found : Option (List (Option ℤ))) → IsRowOver d us found → RowsStay d.aggregates found row
+  pub rows_stay : (all : List Update) (p : List KeyValue → Bool) → HasRoom d all
+      → filter (λ w. p w.keys) all ≡ u ∷ us → (found : Option (List (Option ℤ)))
+      → IsRowOver d us found → RowsStay d.aggregates found row
   rows_stay all p room is None was = tt
   rows_stay all p room is (Some held_row) was = merge_stays all p room is held_row was.1
 
-  pub total_stays : HasRoom d (u ∷ us) → (all : List (Option ℤ)) → HasAggregates d us all → MergeStays d.aggregates all row
+  pub total_stays : HasRoom d (u ∷ us) → (all : List (Option ℤ)) → HasAggregates d us all
+      → MergeStays d.aggregates all row
   total_stays room = merge_stays (u ∷ us) (λ ks. true) room (filter_all (u ∷ us))
 
-module _ (d : Group) (us : List Update) (u : Update) (key : List KeyPart) (row : List (Option ℤ)) (is_key : key_view key ≡ padded 6 u.keys) (one : IsRowOf d.aggregates u.values row)
-    (es : List (List KeyPart × List (Option ℤ))) (all : List (Option ℤ)) (base : IsBase d es all us) where
-  with_own : (q : List (Option KeyValue)) → key_eq q (padded 6 u.keys) ≡ true → puts_with q (u ∷ us) ≡ u ∷ puts_with q us
+module _ (d : Group) (us : List Update) (u : Update) (key : List KeyPart) (row : List (Option ℤ))
+    (is_key : key_view key ≡ padded 6 u.keys) (one : IsRowOfOnePut d.aggregates u.values row)
+    (es : List (List KeyPart × List (Option ℤ))) (all : List (Option ℤ))
+    (base : IsBase d es all us) where
+  with_own : (q : List (Option KeyValue)) → key_eq q (padded 6 u.keys) ≡ true
+      → puts_with q (u ∷ us) ≡ u ∷ puts_with q us
   with_own q e = ap (λ b. cond b (u ∷ puts_with q us) (puts_with q us)) e
 
-  with_other : (q : List (Option KeyValue)) → key_eq q (padded 6 u.keys) ≡ false → puts_with q (u ∷ us) ≡ puts_with q us
+  with_other : (q : List (Option KeyValue)) → key_eq q (padded 6 u.keys) ≡ false
+      → puts_with q (u ∷ us) ≡ puts_with q us
   with_other q e = ap (λ b. cond b (u ∷ puts_with q us) (puts_with q us)) e
 
-  pub base_more : length u.keys ≡ d.count → (fs : List (List KeyPart × List (Option ℤ))) (total : List (Option ℤ)) → IsMergedAt d.aggregates (key_view key) row es fs → IsMerged d.aggregates all row total → IsBase d fs total (u ∷ us)
+  pub base_more : length u.keys ≡ d.count
+      → (fs : List (List KeyPart × List (Option ℤ))) (total : List (Option ℤ))
+      → IsMergedAt d.aggregates (key_view key) row es fs → IsMerged d.aggregates all row total
+      → IsBase d fs total (u ∷ us)
   base_more fits fs total at is_total = record {
     fit = (fits, base.fit);
     rows = λ q. by q (key_eq q (padded 6 u.keys)) refl;
     total = merged_more d u us all row total one base.total is_total;
   }
     where
-      by : (q : List (Option KeyValue)) (b : Bool) → key_eq q (padded 6 u.keys) ≡ b → IsRowOver d (puts_with q (u ∷ us)) (row_found fs q)
+      by : (q : List (Option KeyValue)) (b : Bool) → key_eq q (padded 6 u.keys) ≡ b
+          → IsRowOver d (puts_with q (u ∷ us)) (row_found fs q)
       by q true e = subst (λ ps. IsRowOver d ps (row_found fs q)) (sym (with_own q e))
-          (more_over d (puts_with q us) u row one (row_found es q) (row_found fs q) (base.rows q) (own_row d.aggregates (key_view key) row es fs at q ((key_decides q (padded 6 u.keys)).0 e ∙ sym is_key)))
+          (more_over d (puts_with q us) u row one (row_found es q) (row_found fs q) (base.rows q)
+          (own_row d.aggregates (key_view key) row es fs at q
+          ((key_decides q (padded 6 u.keys)).0 e ∙ sym is_key)))
       by q false e = subst (λ ps. IsRowOver d ps (row_found fs q)) (sym (with_other q e))
-          (subst (IsRowOver d (puts_with q us)) (sym (other_row d.aggregates (key_view key) row es fs at q (ap (key_eq q) is_key ∙ e))) (base.rows q))
+          (subst (IsRowOver d (puts_with q us))
+          (sym (other_row d.aggregates (key_view key) row es fs at q
+          (ap (key_eq q) is_key ∙ e))) (base.rows q))
 
   pub base_stays : HasRoom d (u ∷ us) → RowsStay d.aggregates (row_found es (key_view key)) row
   base_stays room =
       let q : List (Option KeyValue) = padded 6 u.keys in
       subst (λ r. RowsStay d.aggregates r row) (sym (ap (row_found es) is_key))
-      (rows_stay d (puts_with q us) u row one (u ∷ us) (λ ks. key_eq q (padded 6 ks)) room (with_own q (key_equiv.refl q)) (row_found es q) (base.rows q))
+      (rows_stay d (puts_with q us) u row one (u ∷ us) (λ ks. key_eq q (padded 6 ks)) room
+      (with_own q (key_equiv.refl q)) (row_found es q) (base.rows q))
 
 -- no puts
-pub no_base : (d : Group) (es : List (List KeyPart × List (Option ℤ))) (blank : List (Option ℤ)) → es ≡ [] → ((place : ℕ) → get_or blank place None ≡ None) → IsBase d es blank []
-no_base d es blank e none = subst (λ xs. IsBase d xs blank []) (sym e) (record { fit = tt; rows = λ q. refl; total = λ place h. none place ∙ sym (held_none (aggregate_at d.aggregates place)) })
+pub no_base : (d : Group) (es : List (List KeyPart × List (Option ℤ))) (blank : List (Option ℤ))
+    → es ≡ [] → ((place : ℕ) → get_or blank place None ≡ None) → IsBase d es blank []
+no_base d es blank e none =
+    subst (λ xs. IsBase d xs blank []) (sym e)
+    (record {
+      fit = tt;
+      rows = λ q. refl;
+      total =
+          λ place h. none place ∙ sym (held_none (aggregate_at d.aggregates place));
+    })
 
 -- ---- room
 
 -- after a put that is taken, or refused
-pub room_after : {T E : Type 0} (r : Result T E) (shape : Shape) (n : ℕ) (gs hs : List Aggregate) (u : Update) (us : List Update) (es fs : List (List KeyPart × List (Option ℤ))) (all total : List (Option ℤ)) → length u.keys ≡ n → gs ≡ hs
-    → IsBase (group_with shape n hs) es all us → HasRoom (group_with shape n hs) (u ∷ us) → HasBaseWithRoom (group_with shape n hs) es all
-    → OnOk r (TakesPut gs u es all fs total) → OnErr r (fs ≡ es) → OnErr r (total ≡ all) → HasBaseWithRoom (group_with shape n hs) fs total
+pub room_after : {T E : Type 0} (r : Result T E) (shape : Shape) (n : ℕ) (gs hs : List Aggregate)
+    (u : Update) (us : List Update) (es fs : List (List KeyPart × List (Option ℤ)))
+    (all total : List (Option ℤ)) → length u.keys ≡ n → gs ≡ hs
+    → IsBase (group_with shape n hs) es all us → HasRoom (group_with shape n hs) (u ∷ us)
+    → HasBaseWithRoom (group_with shape n hs) es all
+    → OnOk r (TakesPut gs u es all fs total) → OnErr r (fs ≡ es) → OnErr r (total ≡ all)
+    → HasBaseWithRoom (group_with shape n hs) fs total
 room_after (Ok x) shape n gs hs u us es fs all total fits same base room has takes e h =
-    let d : group_with shape (length u.keys) gs ≡ group_with shape n hs = (λ i. group_with shape (fits i) (same i)) in
-    ∣ (u ∷ us, subst (λ g. IsBase g fs total (u ∷ us)) d (takes shape us (subst (λ g. IsBase g es all us) (sym d) base)), room) ∣₁
+    let d : group_with shape (length u.keys) gs ≡ group_with shape n hs =
+    (λ i. group_with shape (fits i) (same i)) in
+    ∣ (
+      u ∷ us,
+      subst (λ g. IsBase g fs total (u ∷ us)) d
+          (takes shape us (subst (λ g. IsBase g es all us) (sym d) base)),
+      room,
+    ) ∣₁
 room_after (Err x) shape n gs hs u us es fs all total fits same base room has takes e h =
-    subst (λ xs. HasBaseWithRoom (group_with shape n hs) xs total) (sym e) (subst (HasBaseWithRoom (group_with shape n hs) es) (sym h) has)
+    subst (λ xs. HasBaseWithRoom (group_with shape n hs) xs total) (sym e)
+    (subst (HasBaseWithRoom (group_with shape n hs) es) (sym h) has)
 
 no_content : (d : Group) (content : List Update) → IsContent d [] content → content ≡ []
 no_content d [] is = refl
-no_content d (e ∷ es) is = absurd (true≢false (sym (or_left (same_keys e.keys e.keys) (list_any (same_keys e.keys) (key_lists es)) (keys_equiv.refl e.keys)) ∙ is.keys e.keys))
+no_content d (e ∷ es) is =
+    absurd (true≢false (sym (or_left (same_keys e.keys e.keys)
+    (list_any (same_keys e.keys) (key_lists es)) (keys_equiv.refl e.keys)) ∙ is.keys e.keys))
 
 pub no_room : (d : Group) → HasRoom d []
 unfolding above_zero below_zero
 no_room d = record {
-  sums = λ content is place h same. subst (λ es. AddUp (numbers_for place es)) (sym (no_content d content is)) (record { above = omega arith; below = omega arith });
+  sums = λ content is place h same.
+      subst (λ es. AddUp (numbers_for place es)) (sym (no_content d content is))
+      (record { above = omega arith; below = omega arith });
   counts = λ place h same. omega arith;
 }
 
-pub new_room : (d : Group) (es : List (List KeyPart × List (Option ℤ))) (blank : List (Option ℤ)) → es ≡ [] → ((place : ℕ) → get_or blank place None ≡ None) → HasBaseWithRoom d es blank
+pub new_room : (d : Group) (es : List (List KeyPart × List (Option ℤ))) (blank : List (Option ℤ))
+    → es ≡ [] → ((place : ℕ) → get_or blank place None ≡ None) → HasBaseWithRoom d es blank
 new_room d es blank e none = ∣ ([], no_base d es blank e none, no_room d) ∣₁

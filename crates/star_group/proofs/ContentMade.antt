@@ -21,30 +21,42 @@ use Rattle.star_group.proofs.KeyLists.{keys_decide, keys_equiv, some_put}
 
 abbrev once_lists : List Update → List (List KeyValue)
 once_lists [] = []
-once_lists (u ∷ us) = cond (list_any (same_keys u.keys) (once_lists us)) (once_lists us) (u.keys ∷ once_lists us)
+once_lists (u ∷ us) = cond (list_any (same_keys u.keys) (once_lists us)) (once_lists us)
+    (u.keys ∷ once_lists us)
 
-none_same : (ks : List KeyValue) (kss : List (List KeyValue)) → list_any (same_keys ks) kss ≡ false → AllByRecursion (λ ls. same_keys ks ls ≡ false) kss
-none_same ks kss h = of_each (λ ls. same_keys ks ls ≡ false) kss (λ ls c. false_from_ne_true (same_keys ks ls) (λ e. true≢false (sym (list_any-from_Any (same_keys ks) kss (c.0, ls, c.1, c.2, e)) ∙ h)))
+none_same : (ks : List KeyValue) (kss : List (List KeyValue)) → list_any (same_keys ks) kss ≡ false
+    → AllByRecursion (λ ls. same_keys ks ls ≡ false) kss
+none_same ks kss h = of_each (λ ls. same_keys ks ls ≡ false) kss
+    (λ ls c. false_from_ne_true (same_keys ks ls)
+    (λ e. true≢false (sym (list_any-from_Any (same_keys ks) kss (c.0, ls, c.1, c.2, e)) ∙ h)))
 
 once_distinct : (us : List Update) → IsDistinct same_keys (once_lists us)
 unfolding IsDistinct
 once_distinct [] = tt
 once_distinct (u ∷ us) = by (list_any (same_keys u.keys) (once_lists us)) refl (once_distinct us)
   where
-    by : (b : Bool) → list_any (same_keys u.keys) (once_lists us) ≡ b → IsDistinct same_keys (once_lists us) → IsDistinct same_keys (cond b (once_lists us) (u.keys ∷ once_lists us))
+    by : (b : Bool) → list_any (same_keys u.keys) (once_lists us) ≡ b
+        → IsDistinct same_keys (once_lists us)
+        → IsDistinct same_keys (cond b (once_lists us) (u.keys ∷ once_lists us))
     by true e rest = rest
     by false e rest = (none_same u.keys (once_lists us) e, rest)
 
-once_are : (us : List Update) (ks : List KeyValue) → list_any (same_keys ks) (once_lists us) ≡ list_any (same_keys ks) (key_lists us)
+once_are : (us : List Update) (ks : List KeyValue)
+    → list_any (same_keys ks) (once_lists us) ≡ list_any (same_keys ks) (key_lists us)
 once_are [] ks = refl
 once_are (u ∷ us) ks = by (list_any (same_keys u.keys) (once_lists us)) refl (once_are us ks)
   where
-    known : (b : Bool) → same_keys ks u.keys ≡ b → list_any (same_keys u.keys) (once_lists us) ≡ true → list_any (same_keys ks) (once_lists us) ≡ (b || list_any (same_keys ks) (once_lists us))
-    known true e there = ap (λ l. list_any (same_keys l) (once_lists us)) ((keys_decide ks u.keys).0 e) ∙ there
+    known : (b : Bool) → same_keys ks u.keys ≡ b
+        → list_any (same_keys u.keys) (once_lists us) ≡ true
+        → list_any (same_keys ks) (once_lists us) ≡ (b || list_any (same_keys ks) (once_lists us))
+    known true e there = ap (λ l. list_any (same_keys l) (once_lists us))
+        ((keys_decide ks u.keys).0 e) ∙ there
     known false e there = refl
 
-    by : (b : Bool) → list_any (same_keys u.keys) (once_lists us) ≡ b → list_any (same_keys ks) (once_lists us) ≡ list_any (same_keys ks) (key_lists us)
-        → list_any (same_keys ks) (cond b (once_lists us) (u.keys ∷ once_lists us)) ≡ (same_keys ks u.keys || list_any (same_keys ks) (key_lists us))
+    by : (b : Bool) → list_any (same_keys u.keys) (once_lists us) ≡ b
+        → list_any (same_keys ks) (once_lists us) ≡ list_any (same_keys ks) (key_lists us)
+        → list_any (same_keys ks) (cond b (once_lists us) (u.keys ∷ once_lists us))
+        ≡ (same_keys ks u.keys || list_any (same_keys ks) (key_lists us))
     by true e rest = known (same_keys ks u.keys) refl e ∙ ap (λ b. same_keys ks u.keys || b) rest
     by false e rest = ap (λ b. same_keys ks u.keys || b) rest
 
@@ -52,23 +64,31 @@ once_are (u ∷ us) ks = by (list_any (same_keys u.keys) (once_lists us)) refl (
 
 abbrev numbers_from : List Aggregate → ℕ → List Update → List ℤ
 numbers_from [] place us = []
-numbers_from (g ∷ gs) place us = unwrap_or (aggregate g (numbers_for place us)) (pos 0) ∷ numbers_from gs (place + 1) us
+numbers_from (g ∷ gs) place us =
+    unwrap_or (aggregate g (numbers_for place us)) (pos 0) ∷ numbers_from gs (place + 1) us
 
-number_from : (gs : List Aggregate) (p : ℕ) (us : List Update) (a : ℕ) → a < length gs → get_or (numbers_from gs p us) a (pos 0) ≡ unwrap_or (aggregate (get_or gs a Count) (numbers_for (p + a) us)) (pos 0)
+number_from : (gs : List Aggregate) (p : ℕ) (us : List Update) (a : ℕ) → a < length gs
+    → get_or (numbers_from gs p us) a (pos 0)
+    ≡ unwrap_or (aggregate (get_or gs a Count) (numbers_for (p + a) us)) (pos 0)
 number_from [] p us a h = absurd (omega (arith, h))
-number_from (g ∷ gs) p us zero h = let here : p ≡ p + 0 = omega arith in ap (λ n. unwrap_or (aggregate g (numbers_for n us)) (pos 0)) here
+number_from (g ∷ gs) p us zero h = let here : p ≡ p + 0 = omega arith in
+    ap (λ n. unwrap_or (aggregate g (numbers_for n us)) (pos 0)) here
 number_from (g ∷ gs) p us (suc a) h =
     let next : (p + 1) + a ≡ p + suc a = omega arith in
-    number_from gs (p + 1) us a (omega (arith, h)) ∙ ap (λ n. unwrap_or (aggregate (get_or gs a Count) (numbers_for n us)) (pos 0)) next
+    number_from gs (p + 1) us a (omega (arith, h))
+    ∙ ap (λ n. unwrap_or (aggregate (get_or gs a Count) (numbers_for n us)) (pos 0)) next
 
-some_joined : (f : ℤ → ℤ → ℤ) (z : ℤ) (zs : List ℤ) → joined f (z ∷ zs) ≡ Some (unwrap_or (joined f (z ∷ zs)) (pos 0))
-some_joined f z zs = joined_more f z zs ∙ by (joined f zs) ∙ ap (λ r. Some (unwrap_or r (pos 0))) (sym (joined_more f z zs))
+some_joined : (f : ℤ → ℤ → ℤ) (z : ℤ) (zs : List ℤ)
+    → joined f (z ∷ zs) ≡ Some (unwrap_or (joined f (z ∷ zs)) (pos 0))
+some_joined f z zs = joined_more f z zs ∙ by (joined f zs)
+    ∙ ap (λ r. Some (unwrap_or r (pos 0))) (sym (joined_more f z zs))
   where
     by : (r : Option ℤ) → more f z r ≡ Some (unwrap_or (more f z r) (pos 0))
     by None = refl
     by (Some y) = refl
 
-some_total : (g : Aggregate) (z : ℤ) (zs : List ℤ) → aggregate g (z ∷ zs) ≡ Some (unwrap_or (aggregate g (z ∷ zs)) (pos 0))
+some_total : (g : Aggregate) (z : ℤ) (zs : List ℤ)
+    → aggregate g (z ∷ zs) ≡ Some (unwrap_or (aggregate g (z ∷ zs)) (pos 0))
 some_total Count z zs = refl
 some_total Sum z zs = some_joined (λ x y. x +ℤ y) z zs
 some_total Min z zs = some_joined int_min z zs
@@ -82,16 +102,27 @@ module _ (d : Group) (us : List Update) where
   lists_of [] = refl
   lists_of (ks ∷ kss) = ap (λ r. ks ∷ r) (lists_of kss)
 
-  entry_total : (ks : List KeyValue) → list_any (same_keys ks) (key_lists us) ≡ true → (place : ℕ) → place < length d.aggregates → aggregate (aggregate_at d.aggregates place) (numbers_for place (puts_of ks us)) ≡ Some (put_number place (entry ks))
+  entry_total : (ks : List KeyValue) → list_any (same_keys ks) (key_lists us) ≡ true → (place : ℕ)
+      → place < length d.aggregates
+      → aggregate (aggregate_at d.aggregates place) (numbers_for place (puts_of ks us))
+      ≡ Some (put_number place (entry ks))
   entry_total ks there place h =
       let some = some_put ks us there in
       let zeros : 0 + place ≡ place = omega arith in
-      ap (λ ws. aggregate (aggregate_at d.aggregates place) (numbers_for place ws)) some.2 ∙ some_total (aggregate_at d.aggregates place) (put_number place some.0) (numbers_for place some.1)
-      ∙ ap (λ ws. Some (unwrap_or (aggregate (aggregate_at d.aggregates place) (numbers_for place ws)) (pos 0))) (sym some.2)
-      ∙ ap Some (sym (number_from d.aggregates 0 (puts_of ks us) place h ∙ ap (λ n. unwrap_or (aggregate (aggregate_at d.aggregates place) (numbers_for n (puts_of ks us))) (pos 0)) zeros))
+      ap (λ ws. aggregate (aggregate_at d.aggregates place) (numbers_for place ws)) some.2
+      ∙ some_total (aggregate_at d.aggregates place) (put_number place some.0)
+      (numbers_for place some.1)
+      ∙ ap (λ ws. Some (unwrap_or
+      (aggregate (aggregate_at d.aggregates place) (numbers_for place ws)) (pos 0)))
+      (sym some.2)
+      ∙ ap Some (sym (number_from d.aggregates 0 (puts_of ks us) place h
+      ∙ ap (λ n. unwrap_or (aggregate (aggregate_at d.aggregates place)
+      (numbers_for n (puts_of ks us))) (pos 0)) zeros))
 
   abbrev Told : Update → Type 0
-  Told e = (place : ℕ) → place < length d.aggregates → aggregate (aggregate_at d.aggregates place) (numbers_for place (puts_of e.keys us)) ≡ Some (put_number place e)
+  Told e = (place : ℕ) → place < length d.aggregates
+      → aggregate (aggregate_at d.aggregates place) (numbers_for place (puts_of e.keys us))
+      ≡ Some (put_number place e)
 
   abbrev pub made : List Update
   made = map entry (once_lists us)
@@ -102,5 +133,7 @@ module _ (d : Group) (us : List Update) where
     once = subst (IsDistinct same_keys) (sym (lists_of (once_lists us))) (once_distinct us);
     numbers = of_each Told made (λ e c.
         let ks = from_contains_map entry (once_lists us) e c in
-        subst Told ks.2 (entry_total ks.0 (sym (once_are us ks.0) ∙ list_any-from_Contains keys_equiv ks.0 (once_lists us) ks.1)));
+        subst Told ks.2 (entry_total ks.0
+        (sym (once_are us ks.0) ∙ list_any-from_Contains keys_equiv ks.0 (once_lists us)
+        ks.1)));
   }

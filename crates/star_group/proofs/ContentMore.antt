@@ -61,7 +61,8 @@ found Told keys place (e ∷ es) h told =
         → (b || list_any (same_keys keys) (key_lists es)) ≡ true
         → (list_any (same_keys keys) (key_lists es) ≡ true
         → (z : ℤ) × (group_aggregate keys place es ≡ Some z) × Told keys z)
-        → (z : ℤ) × ((if b then Some (put_number place e) else group_aggregate keys place es) ≡ Some z)
+        → (z : ℤ) × ((if b then Some (put_number place e) else group_aggregate keys place es)
+        ≡ Some z)
         × Told keys z
     by true p there later = (
       put_number place e,
@@ -80,9 +81,11 @@ own_numbers place (e ∷ es) once = (
   behind es once.0 (own_numbers place es once.1),
 )
   where
-    behind : (rest : List Update) → AllByRecursion (λ ks. same_keys e.keys ks ≡ false) (key_lists rest)
+    behind : (rest : List Update)
+        → AllByRecursion (λ ks. same_keys e.keys ks ≡ false) (key_lists rest)
         → AllByRecursion (λ f. group_aggregate f.keys place es ≡ Some (put_number place f)) rest
-        → AllByRecursion (λ f. group_aggregate f.keys place (e ∷ es) ≡ Some (put_number place f)) rest
+        → AllByRecursion (λ f. group_aggregate f.keys place (e ∷ es) ≡ Some (put_number place f))
+        rest
     behind [] apart told = tt
     behind (f ∷ rest) apart told = (
       first_number f.keys place e es false (other (same_keys f.keys e.keys) refl) ∙ told.0,
@@ -118,7 +121,9 @@ module _ (d : Group) (us es : List Update) (is : IsContent d us es) (place : ℕ
           (sym (no_puts keys us (sym (is.keys keys) ∙ e)))
       by true e =
           let some = some_put keys us (sym (is.keys keys) ∙ e) in
-          let at = found (λ ks z. aggregate (aggregate_at d.aggregates place) (numbers_for place (puts_of ks us)) ≡ Some z) keys place es e (all_more _ _ (λ f told. told place declared) es is.numbers) in
+          let at = found (λ ks z. aggregate (aggregate_at d.aggregates place)
+          (numbers_for place (puts_of ks us)) ≡ Some z) keys place es e
+          (all_more _ _ (λ f told. told place declared) es is.numbers) in
           at.1 ∙ sym at.2
           ∙ ap (λ ps. aggregate (aggregate_at d.aggregates place) (numbers_for place ps)) some.2
           ∙ sym (some_aggregate (aggregate_at d.aggregates place) _ _)
@@ -145,7 +150,8 @@ content_more d us es after u is more = record {
       where
         by : (b : Bool) → same_keys keys u.keys ≡ b → group_aggregate keys place after
             ≡ held (aggregate_at d.aggregates place)
-            (numbers_for place (cond (same_keys keys u.keys) (u ∷ puts_of keys us) (puts_of keys us)))
+            (numbers_for place (cond (same_keys keys u.keys) (u ∷ puts_of keys us)
+            (puts_of keys us)))
         by false p =
             more.others keys p place declared
             ∙ number_is d us es is place declared keys
@@ -163,7 +169,8 @@ content_more d us es after u is more = record {
             (numbers_for place (cond b (u ∷ puts_of keys us) (puts_of keys us)))) (sym p)
 
     all_numbers : (rest : List Update)
-        → ((place : ℕ) → AllByRecursion (λ e. group_aggregate e.keys place after ≡ Some (put_number place e)) rest)
+        → ((place : ℕ) → AllByRecursion
+        (λ e. group_aggregate e.keys place after ≡ Some (put_number place e)) rest)
         → AllByRecursion (λ e. (place : ℕ) → place < length d.aggregates
         → aggregate (aggregate_at d.aggregates place) (numbers_for place (puts_of e.keys (u ∷ us)))
         ≡ Some (put_number place e)) rest

@@ -14,15 +14,19 @@ use Rattle.star_group.proofs.KeyLists.{keys_decide, keys_equiv}
 use Rattle.star_group.proofs.Totals.{joined_none, joined_some}
 
 -- tests that pick out the puts with a key list, and those with one of others
-module _ (k : List KeyValue) (kss : List (List KeyValue)) (distinct : AllByRecursion (λ y. same_keys k y ≡ false) kss) (ks : List KeyValue) where
+module _ (k : List KeyValue) (kss : List (List KeyValue))
+    (distinct : AllByRecursion (λ y. same_keys k y ≡ false) kss) (ks : List KeyValue) where
   pub no_two : (same_keys k ks && list_any (same_keys ks) kss) ≡ false
   no_two = by (same_keys k ks) refl
     where
       by : (b : Bool) → same_keys k ks ≡ b → (b && list_any (same_keys ks) kss) ≡ false
-      by true e = ap (λ l. list_any (same_keys l) kss) (sym ((keys_decide k ks).0 e)) ∙ list_any_none (same_keys k) kss (All-from_recursion (λ y. same_keys k y ≡ false) kss distinct)
+      by true e = ap (λ l. list_any (same_keys l) kss) (sym ((keys_decide k ks).0 e))
+          ∙ list_any_none (same_keys k) kss
+          (All-from_recursion (λ y. same_keys k y ≡ false) kss distinct)
       by false e = refl
 
-  pub flipped : (same_keys ks k || list_any (same_keys ks) kss) ≡ (same_keys k ks || list_any (same_keys ks) kss)
+  pub flipped : (same_keys ks k || list_any (same_keys ks) kss)
+      ≡ (same_keys k ks || list_any (same_keys ks) kss)
   flipped = ap (λ b. b || list_any (same_keys ks) kss) (keys_equiv.symm ks k)
 
 module _ (f : ℤ → ℤ → ℤ) where
@@ -45,10 +49,12 @@ module _ (f : ℤ → ℤ → ℤ) where
   abbrev pub over : (Update → ℤ) → (Update → Bool) → List Update → Option ℤ
   over number t us = joined f (map number (filter t us))
 
-  pub over_more : (number : Update → ℤ) (t : Update → Bool) (u : Update) (us : List Update) → over number t (u ∷ us) ≡ cond (t u) (more (number u) (over number t us)) (over number t us)
+  pub over_more : (number : Update → ℤ) (t : Update → Bool) (u : Update) (us : List Update)
+      → over number t (u ∷ us) ≡ cond (t u) (more (number u) (over number t us)) (over number t us)
   over_more number t u us = by (t u)
     where
-      by : (b : Bool) → joined f (map number (cond b (u ∷ filter t us) (filter t us))) ≡ cond b (more (number u) (over number t us)) (over number t us)
+      by : (b : Bool) → joined f (map number (cond b (u ∷ filter t us) (filter t us)))
+          ≡ cond b (more (number u) (over number t us)) (over number t us)
       by true = joined_more (number u) (map number (filter t us))
       by false = refl
 
@@ -56,14 +62,17 @@ module _ (f : ℤ → ℤ → ℤ) where
   none_over number [] = refl
   none_over number (u ∷ us) = none_over number us
 
-  covered : (number : Update → ℤ) (t p : Update → Bool) (us : List Update) → AllByRecursion (λ u. t u ≡ true) us → over number (λ u. t u && p u) us ≡ over number p us
+  covered : (number : Update → ℤ) (t p : Update → Bool) (us : List Update)
+      → AllByRecursion (λ u. t u ≡ true) us → over number (λ u. t u && p u) us ≡ over number p us
   covered number t p [] h = refl
   covered number t p (u ∷ us) h = over_more number (λ w. t w && p w) u us
-      ∙ (λ i. cond (h.0 i && p u) (more (number u) (covered number t p us h.1 i)) (covered number t p us h.1 i))
+      ∙ (λ i. cond (h.0 i && p u) (more (number u) (covered number t p us h.1 i))
+      (covered number t p us h.1 i))
       ∙ sym (over_more number p u us)
 
 -- an operation that joins numbers in any order
-module _ (f : ℤ → ℤ → ℤ) (comm : (x y : ℤ) → f x y ≡ f y x) (assoc : (x y z : ℤ) → f (f x y) z ≡ f x (f y z)) where
+module _ (f : ℤ → ℤ → ℤ) (comm : (x y : ℤ) → f x y ≡ f y x)
+    (assoc : (x y z : ℤ) → f (f x y) z ≡ f x (f y z)) where
   more_left : (x : ℤ) (r s : Option ℤ) → more f x (both f r s) ≡ both f (more f x r) s
   more_left x None s = refl
   more_left x (Some y) None = refl
@@ -72,67 +81,106 @@ module _ (f : ℤ → ℤ → ℤ) (comm : (x y : ℤ) → f x y ≡ f y x) (ass
   more_right : (x : ℤ) (r s : Option ℤ) → more f x (both f r s) ≡ both f r (more f x s)
   more_right x None s = refl
   more_right x (Some y) None = ap Some (comm x y)
-  more_right x (Some y) (Some z) = ap Some (sym (assoc x y z) ∙ ap (λ w. f w z) (comm x y) ∙ assoc y x z)
+  more_right x (Some y) (Some z) =
+      ap Some (sym (assoc x y z) ∙ ap (λ w. f w z) (comm x y) ∙ assoc y x z)
 
   -- the puts that pass one of two tests, of which none passes both
-  apart : (number : Update → ℤ) (a b c : Update → Bool) (us : List Update) → ((u : Update) → c u ≡ (a u || b u)) → ((u : Update) → (a u && b u) ≡ false) → over f number c us ≡ both f (over f number a us) (over f number b us)
+  apart : (number : Update → ℤ) (a b c : Update → Bool) (us : List Update)
+      → ((u : Update) → c u ≡ (a u || b u)) → ((u : Update) → (a u && b u) ≡ false)
+      → over f number c us ≡ both f (over f number a us) (over f number b us)
   apart number a b c [] either no_both = refl
   apart number a b c (u ∷ us) either no_both =
-      over_more f number c u us ∙ ap (λ t. cond t (more f (number u) (over f number c us)) (over f number c us)) (either u)
+      over_more f number c u us
+      ∙ ap (λ t. cond t (more f (number u) (over f number c us)) (over f number c us))
+      (either u)
       ∙ by (a u) (b u) (no_both u) (apart number a b c us either no_both)
       ∙ (λ i. both f (sym (over_more f number a u us) i) (sym (over_more f number b u us) i))
     where
-      by : (x y : Bool) → (x && y) ≡ false → over f number c us ≡ both f (over f number a us) (over f number b us)
+      by : (x y : Bool) → (x && y) ≡ false
+          → over f number c us ≡ both f (over f number a us) (over f number b us)
           → cond (x || y) (more f (number u) (over f number c us)) (over f number c us)
-          ≡ both f (cond x (more f (number u) (over f number a us)) (over f number a us)) (cond y (more f (number u) (over f number b us)) (over f number b us))
+          ≡ both f (cond x (more f (number u) (over f number a us)) (over f number a us))
+          (cond y (more f (number u) (over f number b us)) (over f number b us))
       by true true never e = absurd (true≢false never)
-      by true false never e = ap (more f (number u)) e ∙ more_left (number u) (over f number a us) (over f number b us)
-      by false true never e = ap (more f (number u)) e ∙ more_right (number u) (over f number a us) (over f number b us)
+      by true false never e = ap (more f (number u)) e
+          ∙ more_left (number u) (over f number a us) (over f number b us)
+      by false true never e = ap (more f (number u)) e
+          ∙ more_right (number u) (over f number a us) (over f number b us)
       by false false never e = e
 
   module _ (number : Update → ℤ) (p : List KeyValue → Bool) (us : List Update) where
     -- the puts of each key list that passes
     abbrev whole : List (List KeyValue) → Option ℤ
     whole [] = None
-    whole (k ∷ kss) = cond (p k) (both f (over f number (λ u. same_keys k u.keys) us) (whole kss)) (whole kss)
+    whole (k ∷ kss) = cond (p k) (both f (over f number (λ u. same_keys k u.keys) us) (whole kss))
+        (whole kss)
 
-    by_key_lists : (kss : List (List KeyValue)) → IsDistinct same_keys kss → whole kss ≡ over f number (λ u. list_any (same_keys u.keys) kss && p u.keys) us
+    by_key_lists : (kss : List (List KeyValue)) → IsDistinct same_keys kss
+        → whole kss ≡ over f number (λ u. list_any (same_keys u.keys) kss && p u.keys) us
     by_key_lists [] h = sym (none_over f number us)
     by_key_lists (k ∷ kss) h = by (p k) refl (by_key_lists kss (IsDistinct-tail same_keys k kss h))
       where
         first : AllByRecursion (λ y. same_keys k y ≡ false) kss
         first = IsDistinct-head same_keys k kss h
 
-        chosen : p k ≡ true → (ks : List KeyValue) (b : Bool) → same_keys k ks ≡ b → ((b || list_any (same_keys ks) kss) && p ks) ≡ (b || (list_any (same_keys ks) kss && p ks))
+        chosen : p k ≡ true → (ks : List KeyValue) (b : Bool) → same_keys k ks ≡ b
+            → ((b || list_any (same_keys ks) kss) && p ks)
+            ≡ (b || (list_any (same_keys ks) kss && p ks))
         chosen passes ks true e = ap p (sym ((keys_decide k ks).0 e)) ∙ passes
         chosen passes ks false e = refl
 
-        left_out : p k ≡ false → (ks : List KeyValue) (b : Bool) → same_keys k ks ≡ b → ((b || list_any (same_keys ks) kss) && p ks) ≡ (list_any (same_keys ks) kss && p ks)
-        left_out fails ks true e = let no : p ks ≡ false = ap p (sym ((keys_decide k ks).0 e)) ∙ fails in no ∙ sym (and-false (list_any (same_keys ks) kss)) ∙ ap (λ b. list_any (same_keys ks) kss && b) (sym no)
+        left_out : p k ≡ false → (ks : List KeyValue) (b : Bool) → same_keys k ks ≡ b
+            → ((b || list_any (same_keys ks) kss) && p ks) ≡ (list_any (same_keys ks) kss && p ks)
+        left_out fails ks true e = let no : p ks ≡ false =
+            ap p (sym ((keys_decide k ks).0 e)) ∙ fails in
+            no ∙ sym (and-false (list_any (same_keys ks) kss))
+            ∙ ap (λ b. list_any (same_keys ks) kss && b) (sym no)
         left_out fails ks false e = refl
 
-        apart_from : (ks : List KeyValue) (b c : Bool) → (b && c) ≡ false → (b && (c && p ks)) ≡ false
+        apart_from : (ks : List KeyValue) (b c : Bool) → (b && c) ≡ false
+            → (b && (c && p ks)) ≡ false
         apart_from ks true c e = ap (λ x. x && p ks) e
         apart_from ks false c e = refl
 
-        by : (b : Bool) → p k ≡ b → whole kss ≡ over f number (λ u. list_any (same_keys u.keys) kss && p u.keys) us
-            → cond b (both f (over f number (λ u. same_keys k u.keys) us) (whole kss)) (whole kss) ≡ over f number (λ u. (same_keys u.keys k || list_any (same_keys u.keys) kss) && p u.keys) us
+        by : (b : Bool) → p k ≡ b
+            → whole kss ≡ over f number (λ u. list_any (same_keys u.keys) kss && p u.keys) us
+            → cond b (both f (over f number (λ u. same_keys k u.keys) us) (whole kss)) (whole kss)
+            ≡ over f number (λ u. (same_keys u.keys k || list_any (same_keys u.keys) kss)
+            && p u.keys) us
         by true e rest = ap (both f (over f number (λ u. same_keys k u.keys) us)) rest
-            ∙ sym (apart number (λ u. same_keys k u.keys) (λ u. list_any (same_keys u.keys) kss && p u.keys) (λ u. (same_keys u.keys k || list_any (same_keys u.keys) kss) && p u.keys) us
-            (λ u. ap (λ b. b && p u.keys) (flipped k kss first u.keys) ∙ chosen e u.keys (same_keys k u.keys) refl)
-            (λ u. apart_from u.keys (same_keys k u.keys) (list_any (same_keys u.keys) kss) (no_two k kss first u.keys)))
-        by false e rest = rest ∙ ap (λ t. over f number t us) (λ i u. sym (ap (λ b. b && p u.keys) (flipped k kss first u.keys) ∙ left_out e u.keys (same_keys k u.keys) refl) i)
+            ∙ sym (apart number (λ u. same_keys k u.keys)
+            (λ u. list_any (same_keys u.keys) kss && p u.keys)
+            (λ u. (same_keys u.keys k || list_any (same_keys u.keys) kss) && p u.keys) us
+            (λ u. ap (λ b. b && p u.keys) (flipped k kss first u.keys)
+            ∙ chosen e u.keys (same_keys k u.keys) refl)
+            (λ u. apart_from u.keys (same_keys k u.keys) (list_any (same_keys u.keys) kss)
+            (no_two k kss first u.keys)))
+        by false e rest = rest ∙ ap (λ t. over f number t us)
+            (λ i u. sym (ap (λ b. b && p u.keys) (flipped k kss first u.keys)
+            ∙ left_out e u.keys (same_keys k u.keys) refl) i)
 
-    of_entries : (num : Update → ℤ) (es : List Update) → AllByRecursion (λ e. over f number (λ u. same_keys e.keys u.keys) us ≡ Some (num e)) es → over f num (λ e. p e.keys) es ≡ whole (key_lists es)
+    of_entries : (num : Update → ℤ) (es : List Update)
+        → AllByRecursion (λ e. over f number (λ u. same_keys e.keys u.keys) us ≡ Some (num e)) es
+        → over f num (λ e. p e.keys) es ≡ whole (key_lists es)
     of_entries num [] h = refl
-    of_entries num (e ∷ es) h = over_more f num (λ x. p x.keys) e es ∙ by (p e.keys) (of_entries num es h.1)
+    of_entries num (e ∷ es) h =
+        over_more f num (λ x. p x.keys) e es ∙ by (p e.keys) (of_entries num es h.1)
       where
         by : (b : Bool) → over f num (λ x. p x.keys) es ≡ whole (key_lists es)
-            → cond b (more f (num e) (over f num (λ x. p x.keys) es)) (over f num (λ x. p x.keys) es) ≡ cond b (both f (over f number (λ u. same_keys e.keys u.keys) us) (whole (key_lists es))) (whole (key_lists es))
-        by true rest = ap (more f (num e)) rest ∙ ap (λ r. both f r (whole (key_lists es))) (sym h.0)
+            → cond b (more f (num e) (over f num (λ x. p x.keys) es))
+            (over f num (λ x. p x.keys) es)
+            ≡ cond b (both f (over f number (λ u. same_keys e.keys u.keys) us)
+            (whole (key_lists es))) (whole (key_lists es))
+        by true rest = ap (more f (num e)) rest
+            ∙ ap (λ r. both f r (whole (key_lists es))) (sym h.0)
         by false rest = rest
 
     -- entries that have the puts of their key lists joined, joined, are all puts joined
-    pub joined_by_parts : (num : Update → ℤ) (es : List Update) → IsDistinct same_keys (key_lists es) → AllByRecursion (λ u. list_any (same_keys u.keys) (key_lists es) ≡ true) us
-        → AllByRecursion (λ e. over f number (λ u. same_keys e.keys u.keys) us ≡ Some (num e)) es → over f num (λ e. p e.keys) es ≡ over f number (λ u. p u.keys) us
-    joined_by_parts num es once all each = of_entries num es each ∙ by_key_lists (key_lists es) once ∙ covered f number (λ u. list_any (same_keys u.keys) (key_lists es)) (λ u. p u.keys) us all
+    pub joined_by_parts : (num : Update → ℤ) (es : List Update)
+        → IsDistinct same_keys (key_lists es)
+        → AllByRecursion (λ u. list_any (same_keys u.keys) (key_lists es) ≡ true) us
+        → AllByRecursion (λ e. over f number (λ u. same_keys e.keys u.keys) us ≡ Some (num e)) es
+        → over f num (λ e. p e.keys) es ≡ over f number (λ u. p u.keys) us
+    joined_by_parts num es once all each =
+        of_entries num es each ∙ by_key_lists (key_lists es) once
+        ∙ covered f number (λ u. list_any (same_keys u.keys) (key_lists es)) (λ u. p u.keys) us all

@@ -2,15 +2,20 @@
 use Rattle.std.specs.Prelude.{◌≡◌, ℕ, ◌<◌, ◌≤◌, ℤ, pos, List, Option, Some, None, length, slice_index_or}
 use Rattle.star_schema.specs.declared.group.Aggregate.{Aggregate}
 use Rattle.star_schema.specs.declared.group.Aggregate.TheVariants.{Count}
-use Rattle.star_group.specs.Private.Merged.{cell_of, merged_at}
+use Rattle.star_group.specs.Private.Merged.{cell_of_one_put, merged_at}
 
 -- the places below i of a row are merged, and the others are as they were
-pub record MergedBelow (gs : List Aggregate) (held more row : List (Option ℤ)) (i : ℕ) : Type 0 where
+pub record MergedBelow (gs : List Aggregate) (held more row : List (Option ℤ)) (i : ℕ) :
+    Type 0 where
   pub wide : length row ≡ length held
   pub cells : (place : ℕ) → place < i → slice_index_or row place None ≡ merged_at gs held more place
-  pub later : (place : ℕ) → i ≤ place → slice_index_or row place None ≡ slice_index_or held place None
+  pub later : (place : ℕ) → i ≤ place
+      → slice_index_or row place None ≡ slice_index_or held place None
 
 -- the places below i are those of one put
-pub record RowOfBelow (gs : List Aggregate) (vs : List ℤ) (row : List (Option ℤ)) (i : ℕ) : Type 0 where
+pub record RowOfBelow (gs : List Aggregate) (vs : List ℤ) (row : List (Option ℤ)) (i : ℕ) :
+    Type 0 where
   pub wide : length row ≡ 8
-  pub cells : (place : ℕ) → place < i → slice_index_or row place None ≡ Some (cell_of (slice_index_or gs place Count) (slice_index_or vs place (pos 0)))
+  pub cells : (place : ℕ) → place < i
+      → slice_index_or row place None
+      ≡ Some (cell_of_one_put (slice_index_or gs place Count) (slice_index_or vs place (pos 0)))

@@ -17,7 +17,7 @@ use Rattle.star_group.specs.Entries.{entries_of}
 use Rattle.star_group.specs.Keyed.{filled}
 use Rattle.star_group.specs.OwnKeys.{key_eq}
 use Rattle.star_group.specs.Private.Merged.{IsMergedAt, IsMergedInto, MergeLeaves, MergeStays, RowsStay}
-use Rattle.star_group.specs.Private.Numbers.{AreNarrow, IsGrown, IsNarrow, IsPlace, IsPlaceAmong, IsWithin, keys_in}
+use Rattle.star_group.specs.Private.Numbers.{AreNarrow, IsGrown, IsNarrow, IsPlace, IsPlaceAmong, IsRowWithin, keys_in}
 use Rattle.star_group.specs.Private.Tries.{IsHeld, IsMissing}
 use Rattle.star_group.specs.Private.Rows.{AllStay, MergesAll, SomeLeaves}
 use Rattle.star_group.proofs.Bases.{other_row, own_row}
@@ -31,125 +31,192 @@ abbrev pub among : List (List (Option KeyValue)) → List (Option KeyValue) → 
 among own q = list_any (key_eq q) own
 
 -- an element is not among those before it
-fresh_at : (own : List (List (Option KeyValue))) (i : ℕ) (d : List (Option KeyValue)) → IsDistinct key_eq own → i < length own → list_any (key_eq (get_or own i d)) (take i own) ≡ false
+fresh_at : (own : List (List (Option KeyValue))) (i : ℕ) (d : List (Option KeyValue))
+    → IsDistinct key_eq own → i < length own
+    → list_any (key_eq (get_or own i d)) (take i own) ≡ false
 fresh_at [] i d distinct h = absurd (omega (arith, h))
 fresh_at (x ∷ xs) zero d distinct h = refl
 fresh_at (x ∷ xs) (suc j) d distinct h =
     let k : List (Option KeyValue) = get_or xs j d in
-    let apart : key_eq x k ≡ false = apart_from_distinct key_eq (x ∷ xs) 0 (suc j) d distinct (omega arith) h in
-    ap (λ b. b || list_any (key_eq k) (take j xs)) (key_equiv.symm k x ∙ apart) ∙ fresh_at xs j d (IsDistinct-tail key_eq x xs distinct) (omega (arith, h))
+    let apart : key_eq x k ≡ false =
+    apart_from_distinct key_eq (x ∷ xs) 0 (suc j) d distinct (omega arith) h in
+    ap (λ b. b || list_any (key_eq k) (take j xs)) (key_equiv.symm k x ∙ apart)
+    ∙ fresh_at xs j d (IsDistinct-tail key_eq x xs distinct) (omega (arith, h))
 
-pub key_here : (own : List (List KeyPart)) (i : ℕ) → i < length own → get_or (map key_view own) i (key_view (get_or own i [])) ≡ key_view (get_or own i [])
+pub key_here : (own : List (List KeyPart)) (i : ℕ) → i < length own
+    → get_or (map key_view own) i (key_view (get_or own i [])) ≡ key_view (get_or own i [])
 key_here own i h = get_or-map key_view own i [] (key_view (get_or own i [])) h
 
-pub key_within : (own : List (List KeyPart)) (i : ℕ) → i < length own → i < length (map key_view own)
+pub key_within : (own : List (List KeyPart)) (i : ℕ) → i < length own
+    → i < length (map key_view own)
 key_within own i h = omega (arith, h, length-map own key_view)
 
-module _ (own : List (List (Option KeyValue))) (i : ℕ) (key : List (Option KeyValue)) (within : i < length own) (here : get_or own i key ≡ key) where
+module _ (own : List (List (Option KeyValue))) (i : ℕ) (key : List (Option KeyValue))
+    (within : i < length own) (here : get_or own i key ≡ key) where
   among_here : list_any (key_eq key) own ≡ true
   among_here = list_any_at (key_eq key) own i key within (ap (key_eq key) here ∙ key_equiv.refl key)
 
   fresh : IsDistinct key_eq own → list_any (key_eq key) (take i own) ≡ false
-  fresh distinct = subst (λ k. list_any (key_eq k) (take i own) ≡ false) here (fresh_at own i key distinct within)
+  fresh distinct = subst (λ k. list_any (key_eq k) (take i own) ≡ false) here
+      (fresh_at own i key distinct within)
 
   -- a key among the first i + 1 is among the first i, or is the one at i
-  split : (q : List (Option KeyValue)) → list_any (key_eq q) (take (i + 1) own) ≡ true → (list_any (key_eq q) (take i own) ≡ true) ⊎ (q ≡ key)
+  split : (q : List (Option KeyValue)) → list_any (key_eq q) (take (i + 1) own) ≡ true
+      → (list_any (key_eq q) (take i own) ≡ true) ⊎ (q ≡ key)
   split q e = by (list_any (key_eq q) (take i own)) refl
     where
-      by : (b : Bool) → list_any (key_eq q) (take i own) ≡ b → (list_any (key_eq q) (take i own) ≡ true) ⊎ (q ≡ key)
+      by : (b : Bool) → list_any (key_eq q) (take i own) ≡ b
+          → (list_any (key_eq q) (take i own) ≡ true) ⊎ (q ≡ key)
       by true p = inl p
-      by false p = inr ((key_decides q (get_or own i key)).0 (sym (ap (λ b. b || key_eq q (get_or own i key)) p) ∙ sym (list_any_more (key_eq q) own i key within) ∙ e) ∙ here)
+      by false p = inr ((key_decides q (get_or own i key)).0
+          (sym (ap (λ b. b || key_eq q (get_or own i key)) p)
+          ∙ sym (list_any_more (key_eq q) own i key within) ∙ e) ∙ here)
 
-  not_among : (q : List (Option KeyValue)) → list_any (key_eq q) (take (i + 1) own) ≡ false → (list_any (key_eq q) (take i own) ≡ false) × (key_eq q key ≡ false)
+  not_among : (q : List (Option KeyValue)) → list_any (key_eq q) (take (i + 1) own) ≡ false
+      → (list_any (key_eq q) (take i own) ≡ false) × (key_eq q key ≡ false)
   not_among q none =
       let both = or_parts _ _ (sym (list_any_more (key_eq q) own i key within) ∙ none) in
       (both.0, ap (key_eq q) (sym here) ∙ both.1)
 
   module _ (gs : List Aggregate) (more : List (Option ℤ)) where
     -- whether the row at i stays tells whether those of the first i + 1 keys do
-    pub told_more : (look : List (Option KeyValue) → Option (List (Option ℤ))) → AllStay look (among (take i own)) gs more → (stays : Bool)
-        → MatchBool stays (MergeStays gs (unwrap_or (look key) []) more) (MergeLeaves gs (unwrap_or (look key) []) more)
-        → MatchBool stays (AllStay look (among (take (i + 1) own)) gs more) (SomeLeaves look (among own) gs more)
+    pub told_more : (look : List (Option KeyValue) → Option (List (Option ℤ)))
+        → AllStay look (among (take i own)) gs more → (stays : Bool)
+        → MatchBool stays (MergeStays gs (unwrap_or (look key) []) more)
+        (MergeLeaves gs (unwrap_or (look key) []) more)
+        → MatchBool stays (AllStay look (among (take (i + 1) own)) gs more)
+        (SomeLeaves look (among own) gs more)
     told_more look so_far false leaves = record { key = key; among = among_here; leaves = leaves }
     told_more look so_far true now = record { stay = λ q e. by q (split q e) }
       where
-        by : (q : List (Option KeyValue)) → (list_any (key_eq q) (take i own) ≡ true) ⊎ (q ≡ key) → MergeStays gs (unwrap_or (look q) []) more
+        by : (q : List (Option KeyValue)) → (list_any (key_eq q) (take i own) ≡ true) ⊎ (q ≡ key)
+            → MergeStays gs (unwrap_or (look q) []) more
         by q (inl earlier) = so_far.stay q earlier
         by q (inr same) = subst (λ k. MergeStays gs (unwrap_or (look k) []) more) (sym same) now
 
-    stays_found : (found : Option (List (Option ℤ))) → MergeStays gs (unwrap_or found []) more → RowsStay gs found more
+    stays_found : (found : Option (List (Option ℤ))) → MergeStays gs (unwrap_or found []) more
+        → RowsStay gs found more
     stays_found None h = tt
     stays_found (Some row) h = h
 
-    module _ (distinct : IsDistinct key_eq own) (old : List (Option KeyValue) → Option (List (Option ℤ))) (es : List (List KeyPart × List (Option ℤ))) (so_far : MergesAll (among (take i own)) gs more old (row_found es)) where
+    module _ (distinct : IsDistinct key_eq own)
+        (old : List (Option KeyValue) → Option (List (Option ℤ)))
+        (es : List (List KeyPart × List (Option ℤ)))
+        (so_far : MergesAll (among (take i own)) gs more old (row_found es)) where
       found_here : row_found es key ≡ old key
       found_here = so_far.same key (fresh distinct)
 
       pub stays_here : AllStay old (among own) gs more → RowsStay gs (row_found es key) more
-      stays_here all = subst (λ found. RowsStay gs found more) (sym found_here) (stays_found (old key) (all.stay key among_here))
+      stays_here all = subst (λ found. RowsStay gs found more) (sym found_here)
+          (stays_found (old key) (all.stay key among_here))
 
-      pub merges_more : (fs : List (List KeyPart × List (Option ℤ))) → IsMergedAt gs key more es fs → MergesAll (among (take (i + 1) own)) gs more old (row_found fs)
+      pub merges_more : (fs : List (List KeyPart × List (Option ℤ))) → IsMergedAt gs key more es fs
+          → MergesAll (among (take (i + 1) own)) gs more old (row_found fs)
       merges_more fs at = record {
         changed = λ q e. by q (split q e);
-        same = λ q none. let both = not_among q none in other_row gs key more es fs at q both.1 ∙ so_far.same q both.0;
+        same = λ q none. let both = not_among q none in
+            other_row gs key more es fs at q both.1 ∙ so_far.same q both.0;
       }
         where
-          apart : (q : List (Option KeyValue)) → list_any (key_eq q) (take i own) ≡ true → key_eq q key ≡ false
+          apart : (q : List (Option KeyValue)) → list_any (key_eq q) (take i own) ≡ true
+              → key_eq q key ≡ false
           apart q earlier = is (key_eq q key) refl
             where
               is : (b : Bool) → key_eq q key ≡ b → key_eq q key ≡ false
               is false e = e
-              is true e = absurd (true≢false (sym earlier ∙ ap (λ k. list_any (key_eq k) (take i own)) ((key_decides q key).0 e) ∙ fresh distinct))
+              is true e = absurd (true≢false
+                  (sym earlier ∙ ap (λ k. list_any (key_eq k) (take i own))
+                  ((key_decides q key).0 e) ∙ fresh distinct))
 
-          by : (q : List (Option KeyValue)) → (list_any (key_eq q) (take i own) ≡ true) ⊎ (q ≡ key) → IsMergedInto gs more (old q) (row_found fs q)
-          by q (inl earlier) = subst (IsMergedInto gs more (old q)) (sym (other_row gs key more es fs at q (apart q earlier))) (so_far.changed q earlier)
-          by q (inr same) = subst (λ k. IsMergedInto gs more (old k) (row_found fs k)) (sym same) (subst (λ found. IsMergedInto gs more found (row_found fs key)) found_here (own_row gs key more es fs at key refl))
+          by : (q : List (Option KeyValue)) → (list_any (key_eq q) (take i own) ≡ true) ⊎ (q ≡ key)
+              → IsMergedInto gs more (old q) (row_found fs q)
+          by q (inl earlier) = subst (IsMergedInto gs more (old q))
+              (sym (other_row gs key more es fs at q (apart q earlier))) (so_far.changed q earlier)
+          by q (inr same) = subst (λ k. IsMergedInto gs more (old k) (row_found fs k)) (sym same)
+              (subst (λ found. IsMergedInto gs more found (row_found fs key)) found_here
+              (own_row gs key more es fs at key refl))
 
 -- ---- places of rows
 
 -- the places of the rows of the first i keys
-pub record PlacesBelow (rows : KeyedRows) (keys : List (List KeyPart)) (places : List Place) (i : ℕ) : Type 0 where
+pub record PlacesBelow (rows : KeyedRows) (keys : List (List KeyPart)) (places : List Place)
+    (i : ℕ) : Type 0 where
   pub many : length places ≡ i
-  pub each : (index : ℕ) → index < i → IsPlace rows (get_or keys index []) (get_or places index (Held 0))
+  pub each : (index : ℕ) → index < i
+      → IsPlace rows (get_or keys index []) (get_or places index (Held 0))
 
-pub narrow_at : (width : ℕ) (keys : List (List KeyPart)) (i : ℕ) (d : List KeyPart) → i < length keys → AreNarrow width keys → IsNarrow width (get_or keys i d)
+pub narrow_at : (width : ℕ) (keys : List (List KeyPart)) (i : ℕ) (d : List KeyPart)
+    → i < length keys → AreNarrow width keys → IsNarrow width (get_or keys i d)
 narrow_at width [] i d h are = absurd (omega (arith, h))
 narrow_at width (key ∷ keys) zero d h are = are.0
 narrow_at width (key ∷ keys) (suc i) d h are = narrow_at width keys i d (omega (arith, h)) are.1
 
 module _ (rows : KeyedRows) where
-  pub place_in : (key : List KeyPart) (place : Place) → IsPlace rows key place → IsWithin rows place
+  pub place_in : (key : List KeyPart) (place : Place) → IsPlace rows key place
+      → IsRowWithin rows place
   place_in key (Missing node digit) is = tt
-  place_in key (Held number) held = omega (arith, held.within, length-cut rows.trie.width rows.trie.len rows.trie.keys.items, row_count rows)
+  place_in key (Held number) held =
+      omega (
+        arith,
+        held.within,
+        length-cut rows.trie.width rows.trie.len rows.trie.keys.items,
+        row_count rows,
+      )
 
 -- ---- rows that have grown
 
 -- the same rows
 pub grown_same : (rows : KeyedRows) → IsGrown rows rows
-grown_same rows = record { widths = record { width = refl; many = refl }; held = λ key number h. h; more = omega arith; keys = λ e. refl; links = λ e. refl }
+grown_same rows = record {
+  widths = record { width = refl; many = refl };
+  held =
+      λ key number h. h;
+  more = omega arith;
+  keys = λ e. refl;
+  links = λ e. refl;
+}
 
 -- a row keeps its key
-pub grown_keys : (old new : KeyedRows) → IsGrown old new → (number : ℕ) → number < length (entries_of old) → (get_or (entries_of new) number ([], [])).0 ≡ (get_or (entries_of old) number ([], [])).0
+pub grown_keys : (old new : KeyedRows) → IsGrown old new → (number : ℕ)
+    → number < length (entries_of old)
+    → (get_or (entries_of new) number ([], [])).0 ≡ (get_or (entries_of old) number ([], [])).0
 grown_keys old new grown number h =
-    let many : (rows : KeyedRows) → length (keys_in rows) ≡ length (entries_of rows) = λ rows. length-cut rows.trie.width rows.trie.len rows.trie.keys.items ∙ sym (row_count rows) in
-    let held = grown.held (get_or (keys_in old) number []) number (record { within = omega (arith, h, many old); is = refl }) in
-    ap (λ (e : List KeyPart × List (Option ℤ)). e.0) (entry_at new number (omega (arith, held.within, many new))) ∙ ap filled held.is ∙ sym (ap (λ (e : List KeyPart × List (Option ℤ)). e.0) (entry_at old number h))
+    let many : (rows : KeyedRows) → length (keys_in rows) ≡ length (entries_of rows) =
+    λ rows. length-cut rows.trie.width rows.trie.len rows.trie.keys.items
+    ∙ sym (row_count rows) in
+    let held = grown.held (get_or (keys_in old) number []) number
+    (record { within = omega (arith, h, many old); is = refl }) in
+    ap (λ (e : List KeyPart × List (Option ℤ)). e.0)
+    (entry_at new number (omega (arith, held.within, many new))) ∙ ap filled held.is
+    ∙ sym (ap (λ (e : List KeyPart × List (Option ℤ)). e.0) (entry_at old number h))
 
 pub grown_more : (a b c : KeyedRows) → IsGrown a b → IsGrown b c → IsGrown a c
 grown_more a b c ab bc = record {
-  widths = record { width = bc.widths.width ∙ ab.widths.width; many = bc.widths.many ∙ ab.widths.many };
+  widths = record {
+    width = bc.widths.width ∙ ab.widths.width;
+    many =
+        bc.widths.many ∙ ab.widths.many;
+  };
   held = λ key number is. bc.held key number (ab.held key number is);
   more = omega (arith, ab.more, bc.more);
-  keys = λ same. bc.keys (omega (arith, same, ab.more, bc.more)) ∙ ab.keys (omega (arith, same, ab.more, bc.more));
-  links = λ same. bc.links (omega (arith, same, ab.more, bc.more)) ∙ ab.links (omega (arith, same, ab.more, bc.more));
+  keys = λ same. bc.keys (omega (arith, same, ab.more, bc.more))
+      ∙ ab.keys (omega (arith, same, ab.more, bc.more));
+  links = λ same. bc.links (omega (arith, same, ab.more, bc.more))
+      ∙ ab.links (omega (arith, same, ab.more, bc.more));
 }
 
 -- a place is the same among rows that have grown, as long as there are no more
-pub place_among : (old new : KeyedRows) (count : ℕ) (key : List KeyPart) (place : Place) → IsGrown old new → old.trie.len ≡ count
+pub place_among : (old new : KeyedRows) (count : ℕ) (key : List KeyPart) (place : Place)
+    → IsGrown old new → old.trie.len ≡ count
     → IsPlace old key place → IsPlaceAmong new count key place
-place_among old new count key (Held number) grown all is = subst (λ w. IsHeld (keys_in new) (take w key) number) (sym grown.widths.width) (grown.held (take old.trie.width key) number is)
+place_among old new count key (Held number) grown all is =
+    subst (λ w. IsHeld (keys_in new) (take w key) number) (sym grown.widths.width)
+    (grown.held (take old.trie.width key) number is)
 place_among old new count key (Missing node digit) grown all is = λ same.
     let all_same = same ∙ sym all in
-    subst (λ w. IsMissing w (keys_in new) new.trie.links.items (take w key) node digit) (sym grown.widths.width)
-    (subst (λ ks. IsMissing old.trie.width ks new.trie.links.items (take old.trie.width key) node digit) (sym (grown.keys all_same))
-    (subst (λ ls. IsMissing old.trie.width (keys_in old) ls (take old.trie.width key) node digit) (sym (grown.links all_same)) is))
+    subst (λ w. IsMissing w (keys_in new) new.trie.links.items (take w key) node digit)
+    (sym grown.widths.width)
+    (subst (λ ks. IsMissing old.trie.width ks new.trie.links.items (take old.trie.width key) node
+    digit) (sym (grown.keys all_same))
+    (subst (λ ls. IsMissing old.trie.width (keys_in old) ls (take old.trie.width key) node digit)
+    (sym (grown.links all_same)) is))

@@ -7,20 +7,21 @@ use Rattle.star_schema.specs.Groups.{numbers_for}
 use Rattle.star_group.specs.Base.{HasAggregates, IsRowOver}
 use Rattle.star_group.specs.Cells.{held, step}
 use Rattle.star_group.specs.Held.{has_puts}
-use Rattle.star_group.specs.Private.Merged.{both, cell_of, merged, IsMerged, IsMergedInto, IsRowOf}
+use Rattle.star_group.specs.Private.Merged.{merged_total, cell_of_one_put, merged, IsMerged, IsMergedInto, IsRowOfOnePut}
 use Rattle.star_program.specs.Puts.{Update, aggregate_at}
 use Rattle.star_group.specs.Stores.{Group, put_number}
 use Rattle.star_group.proofs.ContentByKeys.{plus_comm, plus_assoc, least_comm, least_assoc, greatest_comm, greatest_assoc}
 
 -- ---- the operations
 
-both_comm : (g : Aggregate) (x y : ℤ) → both g x y ≡ both g y x
+both_comm : (g : Aggregate) (x y : ℤ) → merged_total g x y ≡ merged_total g y x
 both_comm Sum = plus_comm
 both_comm Count = plus_comm
 both_comm Min = least_comm
 both_comm Max = greatest_comm
 
-both_assoc : (g : Aggregate) (x y z : ℤ) → both g (both g x y) z ≡ both g x (both g y z)
+both_assoc : (g : Aggregate) (x y z : ℤ)
+    → merged_total g (merged_total g x y) z ≡ merged_total g x (merged_total g y z)
 both_assoc Sum = plus_assoc
 both_assoc Count = plus_assoc
 both_assoc Min = least_assoc
@@ -32,7 +33,8 @@ merged_comm g None (Some y) = refl
 merged_comm g (Some x) None = refl
 merged_comm g (Some x) (Some y) = ap Some (both_comm g x y)
 
-merged_assoc : (g : Aggregate) (r s t : Option ℤ) → merged g (merged g r s) t ≡ merged g r (merged g s t)
+merged_assoc : (g : Aggregate) (r s t : Option ℤ)
+    → merged g (merged g r s) t ≡ merged g r (merged g s t)
 merged_assoc g None s t = refl
 merged_assoc g (Some x) None t = refl
 merged_assoc g (Some x) (Some y) None = refl
@@ -40,7 +42,8 @@ merged_assoc g (Some x) (Some y) (Some z) = ap Some (both_assoc g x y z)
 
 -- ---- one number more
 
-one_step : (g : Aggregate) (v : ℤ) (r : Option ℤ) → Some (step g v r) ≡ merged g (Some (cell_of g v)) r
+one_step : (g : Aggregate) (v : ℤ) (r : Option ℤ)
+    → Some (step g v r) ≡ merged g (Some (cell_of_one_put g v)) r
 one_step Sum v None = refl
 one_step Sum v (Some z) = refl
 one_step Count v None = refl
@@ -50,7 +53,8 @@ one_step Min v (Some z) = refl
 one_step Max v None = refl
 one_step Max v (Some z) = refl
 
-pub held_one : (g : Aggregate) (v : ℤ) (vs : List ℤ) → held g (v ∷ vs) ≡ merged g (Some (cell_of g v)) (held g vs)
+pub held_one : (g : Aggregate) (v : ℤ) (vs : List ℤ)
+    → held g (v ∷ vs) ≡ merged g (Some (cell_of_one_put g v)) (held g vs)
 unfolding held
 held_one g v vs = one_step g v (held g vs)
 
@@ -64,7 +68,8 @@ pub any_filter : (t : Update → Bool) (us : List Update) → has_puts (filter t
 any_filter t [] = refl
 any_filter t (u ∷ us) = by (t u) (any_filter t us)
   where
-    by : (b : Bool) → has_puts (filter t us) ≡ list_any t us → has_puts (cond b (u ∷ filter t us) (filter t us)) ≡ (b || list_any t us)
+    by : (b : Bool) → has_puts (filter t us) ≡ list_any t us
+        → has_puts (cond b (u ∷ filter t us) (filter t us)) ≡ (b || list_any t us)
     by true e = refl
     by false e = e
 
@@ -72,43 +77,62 @@ any_filter t (u ∷ us) = by (t u) (any_filter t us)
 abbrev pub AreSplit : (Update → Bool) → (Update → Bool) → (Update → Bool) → List Update → Type 0
 AreSplit ta tb tc us = AllByRecursion (λ u. (tc u ≡ (ta u || tb u)) × ((ta u && tb u) ≡ false)) us
 
-pub held_parts : (g : Aggregate) (place : ℕ) (ta tb tc : Update → Bool) (us : List Update) → AreSplit ta tb tc us
-    → held g (numbers_for place (filter tc us)) ≡ merged g (held g (numbers_for place (filter ta us))) (held g (numbers_for place (filter tb us)))
-held_parts g place ta tb tc [] parts = held_none g ∙ (λ i. merged g (sym (held_none g) i) (sym (held_none g) i))
+pub held_parts : (g : Aggregate) (place : ℕ) (ta tb tc : Update → Bool) (us : List Update)
+    → AreSplit ta tb tc us
+    → held g (numbers_for place (filter tc us))
+    ≡ merged g (held g (numbers_for place (filter ta us)))
+    (held g (numbers_for place (filter tb us)))
+held_parts g place ta tb tc [] parts =
+    held_none g ∙ (λ i. merged g (sym (held_none g) i) (sym (held_none g) i))
 held_parts g place ta tb tc (u ∷ us) parts =
     ap (λ b. held g (numbers_for place (cond b (u ∷ filter tc us) (filter tc us)))) parts.0.0
     ∙ by (ta u) (tb u) parts.0.1 (held_parts g place ta tb tc us parts.1)
   where
     one : Option ℤ
-    one = Some (cell_of g (put_number place u))
+    one = Some (cell_of_one_put g (put_number place u))
 
     over : (Update → Bool) → Option ℤ
     over t = held g (numbers_for place (filter t us))
 
-    more : (t : Update → Bool) → held g (numbers_for place (u ∷ filter t us)) ≡ merged g one (over t)
+    more : (t : Update → Bool)
+        → held g (numbers_for place (u ∷ filter t us)) ≡ merged g one (over t)
     more t = held_one g (put_number place u) (numbers_for place (filter t us))
 
     by : (x y : Bool) → (x && y) ≡ false → over tc ≡ merged g (over ta) (over tb)
         → held g (numbers_for place (cond (x || y) (u ∷ filter tc us) (filter tc us)))
-        ≡ merged g (held g (numbers_for place (cond x (u ∷ filter ta us) (filter ta us)))) (held g (numbers_for place (cond y (u ∷ filter tb us) (filter tb us))))
+        ≡ merged g (held g (numbers_for place (cond x (u ∷ filter ta us) (filter ta us))))
+        (held g (numbers_for place (cond y (u ∷ filter tb us) (filter tb us))))
     by true true never e = absurd (true≢false never)
-    by true false never e = more tc ∙ ap (merged g one) e ∙ sym (merged_assoc g one (over ta) (over tb)) ∙ ap (λ r. merged g r (over tb)) (sym (more ta))
+    by true false never e = more tc ∙ ap (merged g one) e
+        ∙ sym (merged_assoc g one (over ta) (over tb))
+        ∙ ap (λ r. merged g r (over tb)) (sym (more ta))
     by false true never e =
-        more tc ∙ ap (merged g one) e ∙ sym (merged_assoc g one (over ta) (over tb)) ∙ ap (λ r. merged g r (over tb)) (merged_comm g one (over ta))
+        more tc ∙ ap (merged g one) e ∙ sym (merged_assoc g one (over ta) (over tb))
+        ∙ ap (λ r. merged g r (over tb)) (merged_comm g one (over ta))
         ∙ merged_assoc g (over ta) one (over tb) ∙ ap (merged g (over ta)) (sym (more tb))
     by false false never e = e
 
 -- ---- rows
 
 -- the row of one put
-pub row_of_one : (d : Group) (u : Update) (row : List (Option ℤ)) → IsRowOf d.aggregates u.values row → HasAggregates d (u ∷ []) row
-row_of_one d u row is = λ place h. is place h ∙ sym (held_one (aggregate_at d.aggregates place) (put_number place u) [] ∙ ap (merged (aggregate_at d.aggregates place) (Some (cell_of (aggregate_at d.aggregates place) (put_number place u)))) (held_none (aggregate_at d.aggregates place)))
+pub row_of_one : (d : Group) (u : Update) (row : List (Option ℤ))
+    → IsRowOfOnePut d.aggregates u.values row → HasAggregates d (u ∷ []) row
+row_of_one d u row is = λ place h.
+    is place h ∙ sym (held_one (aggregate_at d.aggregates place) (put_number place u) []
+    ∙ ap (merged (aggregate_at d.aggregates place)
+    (Some (cell_of_one_put (aggregate_at d.aggregates place) (put_number place u))))
+    (held_none (aggregate_at d.aggregates place)))
 
 -- one put more
-pub merged_more : (d : Group) (u : Update) (us : List Update) (held_row row new : List (Option ℤ)) → IsRowOf d.aggregates u.values row → HasAggregates d us held_row → IsMerged d.aggregates held_row row new → HasAggregates d (u ∷ us) new
+pub merged_more : (d : Group) (u : Update) (us : List Update) (held_row row new : List (Option ℤ))
+    → IsRowOfOnePut d.aggregates u.values row → HasAggregates d us held_row
+    → IsMerged d.aggregates held_row row new → HasAggregates d (u ∷ us) new
 merged_more d u us held_row row new one so_far is = λ place h.
     let g = aggregate_at d.aggregates place in
-    is place h ∙ (λ i. merged g (so_far place h i) (one place h i)) ∙ merged_comm g (held g (numbers_for place us)) (Some (cell_of g (put_number place u))) ∙ sym (held_one g (put_number place u) (numbers_for place us))
+    is place h ∙ (λ i. merged g (so_far place h i) (one place h i))
+    ∙ merged_comm g (held g (numbers_for place us))
+    (Some (cell_of_one_put g (put_number place u)))
+    ∙ sym (held_one g (put_number place u) (numbers_for place us))
 
 pub no_puts : (us : List Update) → has_puts us ≡ false → us ≡ []
 no_puts [] h = refl
@@ -118,31 +142,45 @@ or_right : (a b : Bool) → b ≡ true → (a || b) ≡ true
 or_right true b h = refl
 or_right false b h = h
 
-any_parts : (ta tb tc : Update → Bool) (us : List Update) → AreSplit ta tb tc us → list_any tb us ≡ true → list_any tc us ≡ true
+any_parts : (ta tb tc : Update → Bool) (us : List Update) → AreSplit ta tb tc us
+    → list_any tb us ≡ true → list_any tc us ≡ true
 any_parts ta tb tc [] parts h = h
-any_parts ta tb tc (u ∷ us) parts h = ap (λ b. b || list_any tc us) parts.0.0 ∙ by (ta u) (tb u) h (any_parts ta tb tc us parts.1)
+any_parts ta tb tc (u ∷ us) parts h =
+    ap (λ b. b || list_any tc us) parts.0.0 ∙ by (ta u) (tb u) h (any_parts ta tb tc us parts.1)
   where
-    by : (x y : Bool) → (y || list_any tb us) ≡ true → (list_any tb us ≡ true → list_any tc us ≡ true) → ((x || y) || list_any tc us) ≡ true
+    by : (x y : Bool) → (y || list_any tb us) ≡ true
+        → (list_any tb us ≡ true → list_any tc us ≡ true) → ((x || y) || list_any tc us) ≡ true
     by true y h later = refl
     by false true h later = refl
     by false false h later = later h
 
 -- a row over some puts, with one over others merged into it
-pub over_parts : (d : Group) (us : List Update) (ta tb tc : Update → Bool) (found new : Option (List (Option ℤ))) (more : List (Option ℤ)) → AreSplit ta tb tc us
-    → IsRowOver d (filter ta us) found → IsRowOver d (filter tb us) (Some more) → IsMergedInto d.aggregates more found new → IsRowOver d (filter tc us) new
+pub over_parts : (d : Group) (us : List Update) (ta tb tc : Update → Bool)
+    (found new : Option (List (Option ℤ))) (more : List (Option ℤ)) → AreSplit ta tb tc us
+    → IsRowOver d (filter ta us) found → IsRowOver d (filter tb us) (Some more)
+    → IsMergedInto d.aggregates more found new → IsRowOver d (filter tc us) new
 over_parts d us ta tb tc found new more parts was adds merges = by found was merges
   where
     there : has_puts (filter tc us) ≡ true
     there = any_filter tc us ∙ any_parts ta tb tc us parts (sym (any_filter tb us) ∙ adds.0)
 
-    by : (found : Option (List (Option ℤ))) → IsRowOver d (filter ta us) found → IsMergedInto d.aggregates more found new → IsRowOver d (filter tc us) new
+    by : (found : Option (List (Option ℤ))) → IsRowOver d (filter ta us) found
+        → IsMergedInto d.aggregates more found new → IsRowOver d (filter tc us) new
     by None was m = subst (IsRowOver d (filter tc us)) (sym m.1) (
       there,
-      λ place h. m.2 place h ∙ adds.1 place h ∙ sym (held_parts (aggregate_at d.aggregates place) place ta tb tc us parts
-          ∙ ap (λ ps. merged (aggregate_at d.aggregates place) (held (aggregate_at d.aggregates place) (numbers_for place ps)) (held (aggregate_at d.aggregates place) (numbers_for place (filter tb us)))) (no_puts (filter ta us) was)
-          ∙ ap (λ r. merged (aggregate_at d.aggregates place) r (held (aggregate_at d.aggregates place) (numbers_for place (filter tb us)))) (held_none (aggregate_at d.aggregates place))),
+      λ place h. m.2 place h ∙ adds.1 place h
+          ∙ sym (held_parts (aggregate_at d.aggregates place) place ta tb tc us parts
+          ∙ ap (λ ps. merged (aggregate_at d.aggregates place)
+          (held (aggregate_at d.aggregates place) (numbers_for place ps))
+          (held (aggregate_at d.aggregates place) (numbers_for place (filter tb us))))
+          (no_puts (filter ta us) was)
+          ∙ ap (λ r. merged (aggregate_at d.aggregates place) r
+          (held (aggregate_at d.aggregates place) (numbers_for place (filter tb us))))
+          (held_none (aggregate_at d.aggregates place))),
     )
     by (Some row) was m = subst (IsRowOver d (filter tc us)) (sym m.1) (
       there,
-      λ place h. m.2 place h ∙ (λ i. merged (aggregate_at d.aggregates place) (was.1 place h i) (adds.1 place h i)) ∙ sym (held_parts (aggregate_at d.aggregates place) place ta tb tc us parts),
+      λ place h. m.2 place h ∙ (λ i.
+          merged (aggregate_at d.aggregates place) (was.1 place h i) (adds.1 place h i))
+          ∙ sym (held_parts (aggregate_at d.aggregates place) place ta tb tc us parts),
     )

@@ -1,5 +1,6 @@
 -- How the keys of an update's rows are made.
-use Rattle.std.proofs.Common.{◌≡◌, ℕ, zero, suc, ◌+◌, ◌<◌, ◌≤◌, Bool, true, false, not, ◌&&◌, ◌||◌, cond, true≢false, List, [], ◌∷◌, ◌++◌, Option, Some, None, take, drop, set, length, get_or, map, ap, sym, ◌∙◌, refl, arith, append_assoc, take-append-drop}
+use Rattle.std.proofs.Common.{◌≡◌, ℕ, zero, suc, ◌+◌, ◌<◌, ◌≤◌, Bool, true, false, not, ◌&&◌, ◌||◌, cond, true≢false, List, [], ◌∷◌, ◌++◌, Option}
+use Rattle.std.proofs.Common.{Some, None, take, drop, set, length, get_or, map, ap, sym, ◌∙◌, refl, arith, append_assoc, take-append-drop}
 use Rattle.std.specs.List.{AllByRecursion, IsDistinct, filter, list_all, list_any}
 use Rattle.std.specs.Cmp.Lexicographic.{options_equiv}
 use Rattle.star_program.specs.contracts.key.KeyValueEq.TheImpl.Laws.{laws-law}
@@ -17,12 +18,14 @@ use Rattle.star_group.specs.declared.keyed.key.KeyPart.TheVariants.{All}
 use Rattle.star_group.specs.Base.{key_view, key_value_view}
 use Rattle.star_group.specs.OwnKeys.{key_eq, padded, vary}
 
-pub padded-set : (n : ℕ) (ks : List KeyValue) (i : ℕ) (d : KeyValue) → i < length ks → length ks ≤ n → set (padded n (take i ks)) i (Some (get_or ks i d)) ≡ padded n (take (suc i) ks)
+pub padded-set : (n : ℕ) (ks : List KeyValue) (i : ℕ) (d : KeyValue) → i < length ks → length ks ≤ n
+    → set (padded n (take i ks)) i (Some (get_or ks i d)) ≡ padded n (take (suc i) ks)
 unfolding padded
 padded-set n [] i d h few = absurd (omega arith)
 padded-set zero (k ∷ ks) i d h few = absurd (omega arith)
 padded-set (suc n) (k ∷ ks) zero d h few = refl
-padded-set (suc n) (k ∷ ks) (suc i) d h few = ap (λ s. Some k ∷ s) (padded-set n ks i d (omega arith) (omega arith))
+padded-set (suc n) (k ∷ ks) (suc i) d h few =
+    ap (λ s. Some k ∷ s) (padded-set n ks i d (omega arith) (omega arith))
 
 pub length-padded : (n : ℕ) (ks : List KeyValue) → length (padded n ks) ≡ n
 unfolding padded
@@ -31,35 +34,46 @@ length-padded (suc n) [] = ap suc (length-padded n [])
 length-padded (suc n) (k ∷ ks) = ap suc (length-padded n ks)
 
 module _ {A : Type 0} where
-  pub one_more : (key : List A) (p : ℕ) (d : A) (s : List A) → p < length key → take (suc p) key ++ s ≡ take p key ++ (get_or key p d ∷ s)
+  pub one_more : (key : List A) (p : ℕ) (d : A) (s : List A) → p < length key
+      → take (suc p) key ++ s ≡ take p key ++ (get_or key p d ∷ s)
   one_more [] p d s h = absurd (omega arith)
   one_more (x ∷ xs) zero d s h = refl
   one_more (x ∷ xs) (suc p) d s h = ap (λ t. x ∷ t) (one_more xs p d s (omega arith))
 
-  pub set_there : (key : List A) (p : ℕ) (y : A) (s : List A) → p < length key → set (take (suc p) key ++ s) p y ≡ take p key ++ (y ∷ s)
+  pub set_there : (key : List A) (p : ℕ) (y : A) (s : List A) → p < length key
+      → set (take (suc p) key ++ s) p y ≡ take p key ++ (y ∷ s)
   set_there [] p y s h = absurd (omega arith)
   set_there (x ∷ xs) zero y s h = refl
   set_there (x ∷ xs) (suc p) y s h = ap (λ t. x ∷ t) (set_there xs p y s (omega arith))
 
-  map_map : {B C : Type 0} (f : B → C) (g : A → B) (xs : List A) → map f (map g xs) ≡ map (λ x. f (g x)) xs
+  map_map : {B C : Type 0} (f : B → C) (g : A → B) (xs : List A)
+      → map f (map g xs) ≡ map (λ x. f (g x)) xs
   map_map f g [] = refl
   map_map f g (x ∷ xs) = ap (λ t. f (g x) ∷ t) (map_map f g xs)
 
-pub vary-start : (key : List (Option KeyValue)) (n : ℕ) → map (λ s. take n key ++ s) (vary 0 (drop n key)) ≡ key ∷ []
+pub vary-start : (key : List (Option KeyValue)) (n : ℕ)
+    → map (λ s. take n key ++ s) (vary 0 (drop n key)) ≡ key ∷ []
 unfolding vary
 vary-start key n = ap (λ k. k ∷ []) (take-append-drop n key)
 
-pub vary-more : (key : List (Option KeyValue)) (p n : ℕ) (xs : List (List (Option KeyValue))) → p < length key → xs ≡ map (λ s. take (suc p) key ++ s) (vary n (drop (suc p) key))
+pub vary-more : (key : List (Option KeyValue)) (p n : ℕ) (xs : List (List (Option KeyValue)))
+    → p < length key → xs ≡ map (λ s. take (suc p) key ++ s) (vary n (drop (suc p) key))
     → xs ++ map (λ k. set k p None) xs ≡ map (λ s. take p key ++ s) (vary (suc n) (drop p key))
 unfolding vary
 vary-more key p n xs h e =
     let v : List (List (Option KeyValue)) = vary n (drop (suc p) key) in
     let x : Option KeyValue = get_or key p None in
-    let first : xs ≡ map (λ s. take p key ++ (x ∷ s)) v = e ∙ (λ i. map (λ s. one_more key p None s h i) v) in
+    let first : xs ≡ map (λ s. take p key ++ (x ∷ s)) v =
+    e ∙ (λ i. map (λ s. one_more key p None s h i) v) in
     let second : map (λ k. set k p None) xs ≡ map (λ s. take p key ++ (None ∷ s)) v =
-    ap (map (λ k. set k p None)) e ∙ map_map (λ k. set k p None) (λ s. take (suc p) key ++ s) v ∙ (λ i. map (λ s. set_there key p None s h i) v) in
-    let left : map (λ s. take p key ++ (x ∷ s)) v ≡ map (λ s. take p key ++ s) (map (λ s. x ∷ s) v) = sym (map_map (λ s. take p key ++ s) (λ s. x ∷ s) v) in
-    let right : map (λ s. take p key ++ (None ∷ s)) v ≡ map (λ s. take p key ++ s) (map (λ s. None ∷ s) v) = sym (map_map (λ s. take p key ++ s) (λ s. None ∷ s) v) in
+    ap (map (λ k. set k p None)) e ∙ map_map (λ k. set k p None) (λ s. take (suc p) key ++ s) v
+    ∙ (λ i. map (λ s. set_there key p None s h i) v) in
+    let left : map (λ s. take p key ++ (x ∷ s)) v
+    ≡ map (λ s. take p key ++ s) (map (λ s. x ∷ s) v) =
+    sym (map_map (λ s. take p key ++ s) (λ s. x ∷ s) v) in
+    let right : map (λ s. take p key ++ (None ∷ s)) v
+    ≡ map (λ s. take p key ++ s) (map (λ s. None ∷ s) v) =
+    sym (map_map (λ s. take p key ++ s) (λ s. None ∷ s) v) in
     (λ i. (first ∙ left) i ++ (second ∙ right) i)
     ∙ sym (map-append (λ s. take p key ++ s) (map (λ s. x ∷ s) v) (map (λ s. None ∷ s) v))
     ∙ ap (λ k. map (λ s. take p key ++ s) (vary (suc n) k)) (sym (drop-cons key p None h))
@@ -75,24 +89,34 @@ length-key [] = refl
 length-key (part ∷ key) = ap suc (length-key key)
 
 -- some part is shown where the key is not that of all puts
-pub shows_key : (n : ℕ) (key : List KeyPart) → length key ≡ n → list_any (λ part. is_some (key_value_view part)) key ≡ not (key_eq (key_view key) (padded n []))
+pub shows_key : (n : ℕ) (key : List KeyPart) → length key ≡ n
+    → list_any (λ part. is_some (key_value_view part)) key
+    ≡ not (key_eq (key_view key) (padded n []))
 unfolding padded
 shows_key zero [] long = refl
 shows_key zero (part ∷ key) long = absurd (omega (arith, long))
 shows_key (suc n) [] long = absurd (omega (arith, long))
-shows_key (suc n) (part ∷ key) long = by (key_value_view part) (shows_key n key (omega (arith, long)))
+shows_key (suc n) (part ∷ key) long =
+    by (key_value_view part) (shows_key n key (omega (arith, long)))
   where
-    by : (v : Option KeyValue) → list_any (λ p. is_some (key_value_view p)) key ≡ not (key_eq (key_view key) (padded n [])) → (is_some v || list_any (λ p. is_some (key_value_view p)) key) ≡ not (key_eq (v ∷ key_view key) (None ∷ padded n []))
+    by : (v : Option KeyValue)
+        → list_any (λ p. is_some (key_value_view p)) key ≡ not (key_eq (key_view key) (padded n []))
+        → (is_some v || list_any (λ p. is_some (key_value_view p)) key)
+        ≡ not (key_eq (v ∷ key_view key) (None ∷ padded n []))
     by None rest = rest
     by (Some k) rest = refl
 
 -- one key more, with ALL at a place, where it passes
-pub next_hidden : (P : List KeyPart → Bool) (p i : ℕ) (xs now : List (List KeyPart)) (d : List KeyPart) → i < length xs → now ≡ xs ++ filter P (map (λ key. set key p All) (take i xs))
-    → now ++ filter P (set (get_or now i d) p All ∷ []) ≡ xs ++ filter P (map (λ key. set key p All) (take (i + 1) xs))
+pub next_hidden : (P : List KeyPart → Bool) (p i : ℕ) (xs now : List (List KeyPart))
+    (d : List KeyPart) → i < length xs
+    → now ≡ xs ++ filter P (map (λ key. set key p All) (take i xs))
+    → now ++ filter P (set (get_or now i d) p All ∷ [])
+    ≡ xs ++ filter P (map (λ key. set key p All) (take (i + 1) xs))
 next_hidden P p i xs now d h e =
     let so_far : List (List KeyPart) = map (λ key. set key p All) (take i xs) in
     let next : i + 1 ≡ suc i = omega arith in
-    let here : get_or now i d ≡ get_or xs i d = ap (λ l. get_or l i d) e ∙ get_or-append xs (filter P so_far) d i h in
+    let here : get_or now i d ≡ get_or xs i d =
+    ap (λ l. get_or l i d) e ∙ get_or-append xs (filter P so_far) d i h in
     (λ j. e j ++ filter P (set (here j) p All ∷ []))
     ∙ append_assoc xs (filter P so_far) (filter P (set (get_or xs i d) p All ∷ []))
     ∙ ap (λ l. xs ++ l) (sym (filter-append P so_far (set (get_or xs i d) p All ∷ []))
@@ -100,41 +124,62 @@ next_hidden P p i xs now d h e =
     ∙ ap (map (λ key. set key p All)) (sym (take-suc xs i d h) ∙ ap (λ n. take n xs) (sym next))))
 
 module _ (G : List (Option KeyValue) → Bool) (p : ℕ) where
-  hidden_keys : (xs : List (List KeyPart)) → map key_view (filter (λ key. G (key_view key)) (map (λ key. set key p All) xs)) ≡ filter G (map (λ key. set key p None) (map key_view xs))
+  hidden_keys : (xs : List (List KeyPart))
+      → map key_view (filter (λ key. G (key_view key)) (map (λ key. set key p All) xs))
+      ≡ filter G (map (λ key. set key p None) (map key_view xs))
   hidden_keys [] = refl
-  hidden_keys (x ∷ xs) = by (G (key_view (set x p All))) (hidden_keys xs) ∙ (λ i. cond (G (map-set key_value_view x p All i)) (map-set key_value_view x p All i ∷ rest) rest)
+  hidden_keys (x ∷ xs) = by (G (key_view (set x p All))) (hidden_keys xs)
+      ∙ (λ i. cond (G (map-set key_value_view x p All i)) (map-set key_value_view x p All i ∷ rest)
+      rest)
     where
       rest : List (List (Option KeyValue))
       rest = filter G (map (λ key. set key p None) (map key_view xs))
 
-      by : (b : Bool) → map key_view (filter (λ key. G (key_view key)) (map (λ key. set key p All) xs)) ≡ filter G (map (λ key. set key p None) (map key_view xs))
-          → map key_view (cond b (set x p All ∷ filter (λ key. G (key_view key)) (map (λ key. set key p All) xs)) (filter (λ key. G (key_view key)) (map (λ key. set key p All) xs)))
-          ≡ cond b (key_view (set x p All) ∷ filter G (map (λ key. set key p None) (map key_view xs))) (filter G (map (λ key. set key p None) (map key_view xs)))
+      by : (b : Bool) → map key_view
+          (filter (λ key. G (key_view key)) (map (λ key. set key p All) xs))
+          ≡ filter G (map (λ key. set key p None) (map key_view xs))
+          → map key_view (cond b (set x p All
+          ∷ filter (λ key. G (key_view key)) (map (λ key. set key p All) xs))
+          (filter (λ key. G (key_view key)) (map (λ key. set key p All) xs)))
+          ≡ cond b (key_view (set x p All)
+          ∷ filter G (map (λ key. set key p None) (map key_view xs)))
+          (filter G (map (λ key. set key p None) (map key_view xs)))
       by true e = ap (λ l. key_view (set x p All) ∷ l) e
       by false e = e
 
-  pub doubled : (xs ys : List (List KeyPart)) → ys ≡ xs ++ filter (λ key. G (key_view key)) (map (λ key. set key p All) xs) → map key_view ys ≡ map key_view xs ++ filter G (map (λ key. set key p None) (map key_view xs))
-  doubled xs ys e = ap (map key_view) e ∙ map-append key_view xs _ ∙ ap (λ zs. map key_view xs ++ zs) (hidden_keys xs)
+  pub doubled : (xs ys : List (List KeyPart))
+      → ys ≡ xs ++ filter (λ key. G (key_view key)) (map (λ key. set key p All) xs)
+      → map key_view ys ≡ map key_view xs
+      ++ filter G (map (λ key. set key p None) (map key_view xs))
+  doubled xs ys e = ap (map key_view) e ∙ map-append key_view xs _
+      ∙ ap (λ zs. map key_view xs ++ zs) (hidden_keys xs)
 
 module _ {A : Type 0} where
   -- what the filter left out, the filter leaves out after this step, too
-  pub kept_before : (G : A → Bool) (f : A → A) (xs : List A) → AllByRecursion (λ x. G (f x) ≡ true → G x ≡ true) xs → filter G (map f xs) ≡ filter G (map f (filter G xs))
+  pub kept_before : (G : A → Bool) (f : A → A) (xs : List A)
+      → AllByRecursion (λ x. G (f x) ≡ true → G x ≡ true) xs
+      → filter G (map f xs) ≡ filter G (map f (filter G xs))
   kept_before G f [] h = refl
   kept_before G f (x ∷ xs) h = by (G x) refl (kept_before G f xs h.1)
     where
-      by : (b : Bool) → G x ≡ b → filter G (map f xs) ≡ filter G (map f (filter G xs)) → filter G (map f (x ∷ xs)) ≡ filter G (map f (cond b (x ∷ filter G xs) (filter G xs)))
+      by : (b : Bool) → G x ≡ b → filter G (map f xs) ≡ filter G (map f (filter G xs))
+          → filter G (map f (x ∷ xs)) ≡ filter G (map f (cond b (x ∷ filter G xs) (filter G xs)))
       by true e rest = ap (λ l. cond (G (f x)) (f x ∷ l) l) rest
-      by false e rest = ap (λ b. cond b (f x ∷ filter G (map f xs)) (filter G (map f xs))) (false_from_ne_true (G (f x)) (λ t. true≢false (sym (h.0 t) ∙ e))) ∙ rest
+      by false e rest = ap (λ b. cond b (f x ∷ filter G (map f xs)) (filter G (map f xs)))
+          (false_from_ne_true (G (f x)) (λ t. true≢false (sym (h.0 t) ∙ e))) ∙ rest
 
 -- ---- the keys that a rollup shows: those before the first that is hidden
 
--- whether the keys to come go on with a grouping of a rollup, where one before them is hidden or none is
+-- whether the keys to come go on with a grouping of a rollup, where one before them is hidden or
+-- none is
 abbrev pub goes_on : {K : Type 0} → Bool → List (Option K) → Bool
 goes_on true ms = list_all is_none ms
 goes_on false ms = is_grouping Rollup ms
 
 -- a key more: hidden, or shown where none is hidden before it
-shown_more : {K : Type 0} (hides shown : Bool) (m : Option K) (ms : List (Option K)) → shown ≡ is_some m → (shown ≡ true → hides ≡ false) → goes_on (not shown) ms ≡ goes_on hides (m ∷ ms)
+shown_more : {K : Type 0} (hides shown : Bool) (m : Option K) (ms : List (Option K))
+    → shown ≡ is_some m → (shown ≡ true → hides ≡ false)
+    → goes_on (not shown) ms ≡ goes_on hides (m ∷ ms)
 shown_more true true m ms e h = absurd (true≢false (h refl))
 shown_more hides true None ms e h = absurd (true≢false e)
 shown_more false true (Some k) ms e h = refl
@@ -142,42 +187,57 @@ shown_more hides false (Some k) ms e h = absurd (true≢false (sym e))
 shown_more true false None ms e h = refl
 shown_more false false None ms e h = refl
 
-pub part_more : (parts : List KeyPart) (i : ℕ) (d : KeyPart) (hides shown : Bool) → i < length parts → shown ≡ is_some (key_value_view (get_or parts i d)) → (shown ≡ true → hides ≡ false)
-    → goes_on hides (key_view (drop i parts)) ≡ is_grouping Rollup (key_view parts) → goes_on (not shown) (key_view (drop (i + 1) parts)) ≡ is_grouping Rollup (key_view parts)
+pub part_more : (parts : List KeyPart) (i : ℕ) (d : KeyPart) (hides shown : Bool) → i < length parts
+    → shown ≡ is_some (key_value_view (get_or parts i d)) → (shown ≡ true → hides ≡ false)
+    → goes_on hides (key_view (drop i parts)) ≡ is_grouping Rollup (key_view parts)
+    → goes_on (not shown) (key_view (drop (i + 1) parts)) ≡ is_grouping Rollup (key_view parts)
 part_more parts i d hides shown within e h so_far =
     let next : i + 1 ≡ suc i = omega arith in
     let rest : List (Option KeyValue) = key_view (drop (i + 1) parts) in
-    let here : key_view (drop i parts) ≡ key_value_view (get_or parts i d) ∷ rest = ap key_view (drop-cons parts i d within) ∙ ap (λ n. key_value_view (get_or parts i d) ∷ key_view (drop n parts)) (sym next) in
-    shown_more hides shown (key_value_view (get_or parts i d)) rest e h ∙ sym (ap (goes_on hides) here) ∙ so_far
+    let here : key_view (drop i parts) ≡ key_value_view (get_or parts i d) ∷ rest =
+    ap key_view (drop-cons parts i d within)
+    ∙ ap (λ n. key_value_view (get_or parts i d) ∷ key_view (drop n parts)) (sym next) in
+    shown_more hides shown (key_value_view (get_or parts i d)) rest e h
+    ∙ sym (ap (goes_on hides) here) ∙ so_far
 
 -- ---- the keys are distinct
 
-all_put : (a : Option KeyValue) (x : List (Option KeyValue)) (ys : List (List (Option KeyValue))) → AllByRecursion (λ y. key_eq x y ≡ false) ys → AllByRecursion (λ y. key_eq (a ∷ x) y ≡ false) (map (λ s. a ∷ s) ys)
+all_put : (a : Option KeyValue) (x : List (Option KeyValue)) (ys : List (List (Option KeyValue)))
+    → AllByRecursion (λ y. key_eq x y ≡ false) ys
+    → AllByRecursion (λ y. key_eq (a ∷ x) y ≡ false) (map (λ s. a ∷ s) ys)
 all_put a x [] h = tt
-all_put a x (y ∷ ys) h = (ap (λ b. b && key_eq x y) ((options_equiv laws-law).refl a) ∙ h.0, all_put a x ys h.1)
+all_put a x (y ∷ ys) h =
+    (ap (λ b. b && key_eq x y) ((options_equiv laws-law).refl a) ∙ h.0, all_put a x ys h.1)
 
-distinct_put : (a : Option KeyValue) (xs : List (List (Option KeyValue))) → IsDistinct key_eq xs → IsDistinct key_eq (map (λ s. a ∷ s) xs)
+distinct_put : (a : Option KeyValue) (xs : List (List (Option KeyValue))) → IsDistinct key_eq xs
+    → IsDistinct key_eq (map (λ s. a ∷ s) xs)
 unfolding IsDistinct
 distinct_put a [] h = tt
 distinct_put a (x ∷ xs) h = (all_put a x xs h.0, distinct_put a xs h.1)
 
-all_apart : (v : KeyValue) (x : List (Option KeyValue)) (ys : List (List (Option KeyValue))) → AllByRecursion (λ y. key_eq (Some v ∷ x) y ≡ false) (map (λ s. None ∷ s) ys)
+all_apart : (v : KeyValue) (x : List (Option KeyValue)) (ys : List (List (Option KeyValue)))
+    → AllByRecursion (λ y. key_eq (Some v ∷ x) y ≡ false) (map (λ s. None ∷ s) ys)
 all_apart v x [] = tt
 all_apart v x (y ∷ ys) = (refl, all_apart v x ys)
 
 -- lists that begin with different cells are apart
-distinct_both : (v : KeyValue) (xs ys : List (List (Option KeyValue))) → IsDistinct key_eq (map (λ s. Some v ∷ s) xs) → IsDistinct key_eq (map (λ s. None ∷ s) ys) → IsDistinct key_eq (map (λ s. Some v ∷ s) xs ++ map (λ s. None ∷ s) ys)
+distinct_both : (v : KeyValue) (xs ys : List (List (Option KeyValue)))
+    → IsDistinct key_eq (map (λ s. Some v ∷ s) xs) → IsDistinct key_eq (map (λ s. None ∷ s) ys)
+    → IsDistinct key_eq (map (λ s. Some v ∷ s) xs ++ map (λ s. None ∷ s) ys)
 unfolding IsDistinct
 distinct_both v [] ys h k = k
 distinct_both v (x ∷ xs) ys h k = (
-  recursion_from_All _ _ (All-append (λ y. key_eq (Some v ∷ x) y ≡ false) _ _ (All-from_recursion _ _ h.0) (All-from_recursion _ _ (all_apart v x ys))),
+  recursion_from_All _ _ (All-append (λ y. key_eq (Some v ∷ x) y ≡ false) _ _
+      (All-from_recursion _ _ h.0) (All-from_recursion _ _ (all_apart v x ys))),
   distinct_both v xs ys h.1 k,
 )
 
-pub vary_distinct : (m : ℕ) (ks : List KeyValue) → length ks ≤ m → IsDistinct key_eq (vary (length ks) (padded m ks))
+pub vary_distinct : (m : ℕ) (ks : List KeyValue) → length ks ≤ m
+    → IsDistinct key_eq (vary (length ks) (padded m ks))
 unfolding vary padded IsDistinct
 vary_distinct m [] h = (tt, tt)
 vary_distinct zero (k ∷ ks) h = absurd (omega arith)
 vary_distinct (suc m) (k ∷ ks) h =
     let rest = vary_distinct m ks (omega arith) in
-    distinct_both k (vary (length ks) (padded m ks)) (vary (length ks) (padded m ks)) (distinct_put (Some k) _ rest) (distinct_put None _ rest)
+    distinct_both k (vary (length ks) (padded m ks)) (vary (length ks) (padded m ks))
+    (distinct_put (Some k) _ rest) (distinct_put None _ rest)

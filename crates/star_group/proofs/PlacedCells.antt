@@ -1,5 +1,6 @@
 -- What stands at places, with the numbers of more puts.
-use Rattle.std.proofs.Common.{◌≡◌, ◌≢◌, ℕ, zero, suc, ◌-◌, ◌<◌, ◌≤◌, ◌^◌, Bool, true, false, nat_eq, nat_lt, cond, FitsSigned, w64, ℤ, pos, negsuc, ◌+ℤ◌, List, ◌∷◌, Option, Some, None, length, get_or, set, refl, ap, sym, ◌∙◌, arith, true≢false}
+use Rattle.std.proofs.Common.{◌≡◌, ◌≢◌, ℕ, zero, suc, ◌-◌, ◌<◌, ◌≤◌, ◌^◌, Bool, true, false, nat_eq, nat_lt, cond, FitsSigned, w64, ℤ, pos}
+use Rattle.std.proofs.Common.{negsuc, ◌+ℤ◌, List, ◌∷◌, Option, Some, None, length, get_or, set, refl, ap, sym, ◌∙◌, arith, true≢false}
 use Rattle.std.specs.List.{filter}
 use Rattle.std.specs.Option.{option_eq, unwrap_or}
 use Rattle.std.proofs.lemmas.Bool.{eqb-true, eq-eqb, lt-ltb, ltb-false, ltb-true}
@@ -23,26 +24,37 @@ use Rattle.star_group.proofs.Rooms.{held_stays}
 
 -- ---- the puts at a place
 
-pub at_here : (spans : List Span) (keys : List KeyValue) (p q : ℕ) → cell_place spans keys ≡ Some q → is_at spans p keys ≡ nat_eq q p
+pub at_here : (spans : List Span) (keys : List KeyValue) (p q : ℕ) → cell_place spans keys ≡ Some q
+    → is_at spans p keys ≡ nat_eq q p
 at_here spans keys p q e = ap (λ r. option_eq nat_eq r (Some p)) e
 
 abbrev pub puts_there : List Span → ℕ → List Update → List Update
 puts_there spans p us = filter (λ w. is_at spans p w.keys) us
 
-pub there_more : (spans : List Span) (u : Update) (us : List Update) (p : ℕ) (b : Bool) → is_at spans p u.keys ≡ b → puts_there spans p (u ∷ us) ≡ cond b (u ∷ puts_there spans p us) (puts_there spans p us)
+pub there_more : (spans : List Span) (u : Update) (us : List Update) (p : ℕ) (b : Bool)
+    → is_at spans p u.keys ≡ b
+    → puts_there spans p (u ∷ us) ≡ cond b (u ∷ puts_there spans p us) (puts_there spans p us)
 there_more spans u us p b e = ap (λ c. cond c (u ∷ puts_there spans p us) (puts_there spans p us)) e
 
 -- ---- rows, one after another
 
-pub length-after_rows : {A : Type 0} (none : A) (change : ℕ → A → A) (at : List ℕ) (items : List A) (rows : ℕ) → length (after_rows none change at items rows) ≡ length items
+pub length-after_rows : {A : Type 0} (none : A) (change : ℕ → A → A) (at : List ℕ) (items : List A)
+    (rows : ℕ) → length (after_rows none change at items rows) ≡ length items
 unfolding after_rows
 length-after_rows none change at items zero = refl
-length-after_rows none change at items (suc row) = length-set _ _ _ ∙ length-after_rows none change at items row
+length-after_rows none change at items (suc row) =
+    length-set _ _ _ ∙ length-after_rows none change at items row
 
-module _ {A : Type 0} (none : A) (value : List Update → A) (change : ℕ → A → A) (spans : List Span) (u : ℕ → Update) (at : List ℕ) where
+module _ {A : Type 0} (none : A) (value : List Update → A) (change : ℕ → A → A) (spans : List Span)
+    (u : ℕ → Update) (at : List ℕ) where
   -- one row more
-  pub at_more : (row : ℕ) (items : List A) (us : List Update) → ((ws : List Update) → change row (value ws) ≡ value (u row ∷ ws)) → cell_place spans (u row).keys ≡ Some (get_or at row 0)
-      → AreAt none value spans items us → AreAt none value spans (set items (get_or at row 0) (change row (get_or items (get_or at row 0) none))) (u row ∷ us)
+  pub at_more : (row : ℕ) (items : List A) (us : List Update)
+      → ((ws : List Update) → change row (value ws) ≡ value (u row ∷ ws))
+      → cell_place spans (u row).keys ≡ Some (get_or at row 0)
+      → AreAt none value spans items us
+      → AreAt none value spans
+      (set items (get_or at row 0) (change row (get_or items (get_or at row 0) none)))
+      (u row ∷ us)
   at_more row items us changes is are p h = by (nat_eq q p) refl
     where
       q : ℕ
@@ -51,78 +63,116 @@ module _ {A : Type 0} (none : A) (value : List Update → A) (change : ℕ → A
       within : p < length items
       within = omega (arith, h, length-set items q (change row (get_or items q none)))
 
-      by : (b : Bool) → nat_eq q p ≡ b → get_or (set items (get_or at row 0) (change row (get_or items (get_or at row 0) none))) p none ≡ value (puts_there spans p (u row ∷ us))
+      by : (b : Bool) → nat_eq q p ≡ b
+          → get_or (set items (get_or at row 0) (change row (get_or items (get_or at row 0) none)))
+          p none ≡ value (puts_there spans p (u row ∷ us))
       by true e =
           let same : p ≡ get_or at row 0 = sym (eqb-true (get_or at row 0) p e) in
           let here : get_or at row 0 < length items = omega (arith, within, same) in
-          ap (λ n. get_or (set items (get_or at row 0) (change row (get_or items (get_or at row 0) none))) n none) same
-          ∙ get_or-set_same items (get_or at row 0) (change row (get_or items (get_or at row 0) none)) none here
+          ap (λ n. get_or (set items (get_or at row 0)
+          (change row (get_or items (get_or at row 0) none))) n none) same
+          ∙ get_or-set_same items (get_or at row 0)
+          (change row (get_or items (get_or at row 0) none)) none here
           ∙ ap (change row) (are (get_or at row 0) here)
           ∙ changes (puts_there spans (get_or at row 0) us)
           ∙ ap (λ n. value (u row ∷ puts_there spans n us)) (sym same)
-          ∙ ap value (sym (there_more spans (u row) us p true (at_here spans (u row).keys p (get_or at row 0) is ∙ e)))
+          ∙ ap value (sym (there_more spans (u row) us p true
+          (at_here spans (u row).keys p (get_or at row 0) is ∙ e)))
       by false e =
-          let other : p ≢ get_or at row 0 = (λ same. true≢false (sym (eq-eqb (get_or at row 0) p (sym same)) ∙ e)) in
-          get_or-set_other items (get_or at row 0) p (change row (get_or items (get_or at row 0) none)) none other
+          let other : p ≢ get_or at row 0 =
+          (λ same. true≢false (sym (eq-eqb (get_or at row 0) p (sym same)) ∙ e)) in
+          get_or-set_other items (get_or at row 0) p
+          (change row (get_or items (get_or at row 0) none)) none other
           ∙ are p within
-          ∙ ap value (sym (there_more spans (u row) us p false (at_here spans (u row).keys p (get_or at row 0) is ∙ e)))
+          ∙ ap value (sym (there_more spans (u row) us p false
+          (at_here spans (u row).keys p (get_or at row 0) is ∙ e)))
 
-  pub at_after : (items : List A) (us : List Update) (rows : ℕ) → ((row : ℕ) → row < rows → (ws : List Update) → change row (value ws) ≡ value (u row ∷ ws)) → ((row : ℕ) → row < rows → cell_place spans (u row).keys ≡ Some (get_or at row 0))
-      → AreAt none value spans items us → AreAt none value spans (after_rows none change at items rows) (puts_after u us rows)
+  pub at_after : (items : List A) (us : List Update) (rows : ℕ)
+      → ((row : ℕ) → row < rows → (ws : List Update) → change row (value ws) ≡ value (u row ∷ ws))
+      → ((row : ℕ) → row < rows → cell_place spans (u row).keys ≡ Some (get_or at row 0))
+      → AreAt none value spans items us
+      → AreAt none value spans (after_rows none change at items rows) (puts_after u us rows)
   unfolding after_rows
   at_after items us zero changes is are = are
   at_after items us (suc row) changes is are =
-      at_more row (after_rows none change at items row) (puts_after u us row) (changes row (omega arith)) (is row (omega arith))
-      (at_after items us row (λ r h. changes r (omega (arith, h))) (λ r h. is r (omega (arith, h))) are)
+      at_more row (after_rows none change at items row) (puts_after u us row)
+      (changes row (omega arith)) (is row (omega arith))
+      (at_after items us row (λ r h. changes r (omega (arith, h))) (λ r h. is r (omega (arith, h)))
+      are)
 
 -- ---- cells
 
-neutral_step : (g : Aggregate) (v : ℤ) (r : Option ℤ) → is_i64 v ≡ true → step g v (Some (unwrap_or r (neutral g))) ≡ step g v r
+neutral_step : (g : Aggregate) (v : ℤ) (r : Option ℤ) → is_i64 v ≡ true
+    → step g v (Some (unwrap_or r (neutral g))) ≡ step g v r
 unfolding is_i64
 neutral_step g v (Some z) h = refl
 neutral_step Sum v None h = let e : v +ℤ pos 0 ≡ v = omega (arith, ints) in e
 neutral_step Count v None h = refl
-neutral_step Min (pos n) None h = let l = ltb-true n (2 ^ 63) h in omega (arith, ints, int_min_is (pos n) (pos (2 ^ 63 - 1)), l)
-neutral_step Min (negsuc n) None h = let l = ltb-true n (2 ^ 63) h in omega (arith, ints, int_min_is (negsuc n) (pos (2 ^ 63 - 1)), l)
-neutral_step Max (pos n) None h = let l = ltb-true n (2 ^ 63) h in omega (arith, ints, int_max_is (pos n) (negsuc (2 ^ 63 - 1)), l)
-neutral_step Max (negsuc n) None h = let l = ltb-true n (2 ^ 63) h in omega (arith, ints, int_max_is (negsuc n) (negsuc (2 ^ 63 - 1)), l)
+neutral_step Min (pos n) None h = let l = ltb-true n (2 ^ 63) h in
+    omega (arith, ints, int_min_is (pos n) (pos (2 ^ 63 - 1)), l)
+neutral_step Min (negsuc n) None h = let l = ltb-true n (2 ^ 63) h in
+    omega (arith, ints, int_min_is (negsuc n) (pos (2 ^ 63 - 1)), l)
+neutral_step Max (pos n) None h = let l = ltb-true n (2 ^ 63) h in
+    omega (arith, ints, int_max_is (pos n) (negsuc (2 ^ 63 - 1)), l)
+neutral_step Max (negsuc n) None h = let l = ltb-true n (2 ^ 63) h in
+    omega (arith, ints, int_max_is (negsuc n) (negsuc (2 ^ 63 - 1)), l)
 
 -- a lane has the numbers of some rows' puts for an aggregate
 pub record IsLane (a : ℕ) (u : ℕ → Update) (lane : List ℤ) (rows : ℕ) : Type 0 where
   pub is : (row : ℕ) → row < rows → get_or lane row (pos 0) ≡ put_number a (u row)
   pub narrow : (row : ℕ) → row < rows → is_i64 (put_number a (u row)) ≡ true
 
-module _ (d : Group) (a : ℕ) (spans : List Span) (u : ℕ → Update) (at : List ℕ) (lane : List ℤ) (rows : ℕ) (are : IsLane a u lane rows)
+module _ (d : Group) (a : ℕ) (spans : List Span) (u : ℕ → Update) (at : List ℕ) (lane : List ℤ)
+    (rows : ℕ) (are : IsLane a u lane rows)
     (is : (row : ℕ) → row < rows → cell_place spans (u row).keys ≡ Some (get_or at row 0)) where
   abbrev g : Aggregate
   g = aggregate_at d.aggregates a
 
-  held_more : (row : ℕ) → row < rows → (ws : List Update) → Some (taking g lane row (cell_over d a ws)) ≡ held g (numbers_for a (u row ∷ ws))
+  held_more : (row : ℕ) → row < rows → (ws : List Update)
+      → Some (taking g lane row (cell_over d a ws)) ≡ held g (numbers_for a (u row ∷ ws))
   unfolding held
-  held_more row h ws = ap Some (ap (λ v. step g v (Some (cell_over d a ws))) (are.is row h) ∙ neutral_step g (put_number a (u row)) (held g (numbers_for a ws)) (are.narrow row h))
+  held_more row h ws = ap Some
+      (ap (λ v. step g v (Some (cell_over d a ws))) (are.is row h)
+      ∙ neutral_step g (put_number a (u row)) (held g (numbers_for a ws)) (are.narrow row h))
 
-  cell_more : (row : ℕ) → row < rows → (ws : List Update) → taking g lane row (cell_over d a ws) ≡ cell_over d a (u row ∷ ws)
+  cell_more : (row : ℕ) → row < rows → (ws : List Update)
+      → taking g lane row (cell_over d a ws) ≡ cell_over d a (u row ∷ ws)
   cell_more row h ws = ap (λ r. unwrap_or r (neutral g)) (held_more row h ws)
 
-  pub column_at : (cells : List ℤ) (us : List Update) (n : ℕ) → n ≤ rows → AreAt (pos 0) (cell_over d a) spans cells us → AreAt (pos 0) (cell_over d a) spans (column_after g lane at cells n) (puts_after u us n)
-  column_at cells us n few = at_after (pos 0) (cell_over d a) (taking g lane) spans u at cells us n (λ row h. cell_more row (omega (arith, h, few))) (λ row h. is row (omega (arith, h, few)))
+  pub column_at : (cells : List ℤ) (us : List Update) (n : ℕ) → n ≤ rows
+      → AreAt (pos 0) (cell_over d a) spans cells us
+      → AreAt (pos 0) (cell_over d a) spans (column_after g lane at cells n) (puts_after u us n)
+  column_at cells us n few =
+      at_after (pos 0) (cell_over d a) (taking g lane) spans u at cells us n
+      (λ row h. cell_more row (omega (arith, h, few))) (λ row h. is row (omega (arith, h, few)))
 
-  pub can_take : (cells : List ℤ) (us : List Update) → length at ≡ rows → a < length d.aggregates → AreWithin at (length cells) → ((row : ℕ) → row < rows → HasRoom d (u row ∷ puts_after u us row)) → AreAt (pos 0) (cell_over d a) spans cells us → CanTake g lane at cells
+  pub can_take : (cells : List ℤ) (us : List Update) → length at ≡ rows → a < length d.aggregates
+      → AreWithin at (length cells)
+      → ((row : ℕ) → row < rows → HasRoom d (u row ∷ puts_after u us row))
+      → AreAt (pos 0) (cell_over d a) spans cells us → CanTake g lane at cells
   can_take cells us long declared within room so_far row h =
       let few : row < rows = omega (arith, h, long) in
       let q : ℕ = get_or at row 0 in
-      let there : q < length (column_after g lane at cells row) = omega (arith, within row h, length-after_rows (pos 0) (taking g lane) at cells row) in
+      let there : q < length (column_after g lane at cells row) =
+      omega (arith, within row h, length-after_rows (pos 0) (taking g lane) at cells row) in
       let cell = column_at cells us row (omega (arith, few)) so_far q there in
       ap (λ z. leaves g (Some (taking g lane row z))) cell
       ∙ ap (leaves g) (held_more row few (puts_there spans q (puts_after u us row)))
-      ∙ ap (λ ws. leaves g (held g (numbers_for a ws))) (sym (there_more spans (u row) (puts_after u us row) q true (at_here spans (u row).keys q q (is row few) ∙ eq-eqb q q refl)))
+      ∙ ap (λ ws. leaves g (held g (numbers_for a ws)))
+      (sym (there_more spans (u row) (puts_after u us row) q true
+      (at_here spans (u row).keys q q (is row few) ∙ eq-eqb q q refl)))
       ∙ held_stays d (u row ∷ puts_after u us row) (room row few) (is_at spans q) a declared
 
 -- ---- which places have puts
 
-pub seen_at : (spans : List Span) (u : ℕ → Update) (at : List ℕ) (seen : List Bool) (us : List Update) (rows : ℕ) → ((row : ℕ) → row < rows → cell_place spans (u row).keys ≡ Some (get_or at row 0))
-    → AreAt false has_puts spans seen us → AreAt false has_puts spans (after_rows false (λ row was. true) at seen rows) (puts_after u us rows)
-seen_at spans u at seen us rows is = at_after false has_puts (λ row was. true) spans u at seen us rows (λ row h ws. refl) is
+pub seen_at : (spans : List Span) (u : ℕ → Update) (at : List ℕ) (seen : List Bool)
+    (us : List Update) (rows : ℕ)
+    → ((row : ℕ) → row < rows → cell_place spans (u row).keys ≡ Some (get_or at row 0))
+    → AreAt false has_puts spans seen us
+    → AreAt false has_puts spans (after_rows false (λ row was. true) at seen rows)
+    (puts_after u us rows)
+seen_at spans u at seen us rows is =
+    at_after false has_puts (λ row was. true) spans u at seen us rows (λ row h ws. refl) is
 
 -- ---- numbers of 64 bits
 
@@ -135,9 +185,12 @@ zero_narrow : is_i64 (pos 0) ≡ true
 unfolding is_i64
 zero_narrow = refl
 
-pub each_narrow : (words : List ℤ) (n : ℕ) → length words ≤ n → ((at : ℕ) → at < n → is_i64 (get_or words at (pos 0)) ≡ true) → (at : ℕ) → is_i64 (get_or words at (pos 0)) ≡ true
+pub each_narrow : (words : List ℤ) (n : ℕ) → length words ≤ n
+    → ((at : ℕ) → at < n → is_i64 (get_or words at (pos 0)) ≡ true) → (at : ℕ)
+    → is_i64 (get_or words at (pos 0)) ≡ true
 each_narrow words n few each at = by (nat_lt at n) refl
   where
     by : (b : Bool) → nat_lt at n ≡ b → is_i64 (get_or words at (pos 0)) ≡ true
     by true e = each at (ltb-true at n e)
-    by false e = ap is_i64 (get_or_past words at (pos 0) (omega (arith, few, ltb-false at n e))) ∙ zero_narrow
+    by false e = ap is_i64 (get_or_past words at (pos 0) (omega (arith, few, ltb-false at n e)))
+        ∙ zero_narrow

@@ -1,8 +1,8 @@
 -- The content of a placed store, with the puts of more rows.
-use Rattle.std.proofs.Common.{◌≡◌, ℕ, zero, suc, ◌*◌, ◌<◌, ◌≤◌, Bool, true, false, nat_eq, cond, ℤ, pos, List, [], ◌∷◌, Option, Some, None, Result, Ok, Err, OnOk, OnErr, length, get_or, map, replicate, refl, ap, sym, ◌∙◌, subst, arith}
+use Rattle.std.proofs.Common.{◌≡◌, ℕ, zero, suc, ◌+◌, ◌*◌, ◌<◌, ◌≤◌, Bool, true, false, nat_eq, cond, ℤ, pos, List, [], ◌∷◌, Option, Some, None, Result, Ok, Err, OnOk, OnErr, length, get_or, replicate, refl, ap, sym, ◌∙◌, subst, arith}
 use Rattle.std.specs.List.{filter, AllByRecursion}
 use Rattle.std.specs.Option.{is_none, option_eq}
-use Rattle.std.proofs.lemmas.List.{get_or-replicate, length-map, length-replicate}
+use Rattle.std.proofs.lemmas.List.{get_or-replicate, length-replicate}
 use Rattle.std.proofs.Math.Logic.{∥∥₁_map}
 use Rattle.star_schema.specs.declared.group.Aggregate.{Aggregate}
 use Rattle.star_schema.specs.declared.group.Aggregate.TheVariants.{Count}
@@ -14,58 +14,85 @@ use Rattle.star_group.specs.declared.batch.PutBatch.{PutBatch}
 use Rattle.star_group.specs.declared.keyed.key.KeyPart.{KeyPart}
 use Rattle.star_group.specs.declared.placed.span.Span.{Span}
 use Rattle.star_group.specs.Base.{HasAggregates, IsBase, IsRowOver, puts_with, row_found}
-use Rattle.star_group.specs.Batches.{HasRoomForRows, IsPutBatch, puts_after, put_in, word_in}
+use Rattle.star_group.specs.Batches.{HasRoomForRows, puts_after, put_in}
 use Rattle.star_group.specs.Cells.{held}
 use Rattle.star_group.specs.Held.{has_puts}
-use Rattle.star_group.specs.ByPlace.{AreAt, IsPlaced, IsPlacedWithRoom, cell_over, column, neutral}
-use Rattle.star_group.specs.Places.{is_at, is_outside, cell_place}
+use Rattle.star_group.specs.ByPlace.{AreAt, IsPlaced, IsPlacedWithRoom, aggregate_cells, cell_over, neutral}
+use Rattle.star_group.specs.Places.{is_at, is_outside, cell_place, offset_of}
 use Rattle.star_group.specs.Private.BasePut.{group_with}
-use Rattle.star_group.specs.Private.PlacedPut.{AreAtPlaces, TakesBatch, TakesPut}
-use Rattle.star_group.specs.Private.Taken.{AreTaken, AreWithin, CanTakeAll, after_rows, batch_lanes, column_after, lanes_of}
+use Rattle.star_group.specs.Private.PlacedPut.{AreAtPlaces, TakesBatch, TakesPlacedPut}
+use Rattle.star_group.specs.Private.Taken.{AreCellsTaken, AreWithin, CanTakeAll, after_rows, batch_lanes, column_after, lanes_of}
 use Rattle.star_program.specs.Puts.{Update, aggregate_at}
 use Rattle.star_group.specs.Stores.{Group, HasRoom, put_number}
 use Rattle.star_group.proofs.CutRows.{cut_wide}
 use Rattle.star_group.proofs.PlacedCells.{IsLane, can_take, column_at, length-after_rows, seen_at}
 use Rattle.star_group.proofs.PlacedLanes.{lane_number}
 use Rattle.star_group.proofs.SmallNumbers.{room_kept}
-use Rattle.star_group.proofs.SpanPlaces.{length-keys_of}
+use Rattle.star_group.proofs.SpanPlaces.{above_parts}
 
 -- rows with a place each, and a lane of numbers for each aggregate
-pub record AreRowsOf (d : Group) (spans : List Span) (u : ℕ → Update) (at : List ℕ) (lanes : ℕ → List ℤ) (rows : ℕ) : Type 0 where
+pub record AreRowsOf (d : Group) (spans : List Span) (u : ℕ → Update) (at : List ℕ)
+    (lanes : ℕ → List ℤ) (rows : ℕ) : Type 0 where
   pub places : (row : ℕ) → row < rows → cell_place spans (u row).keys ≡ Some (get_or at row 0)
   pub fit : (row : ℕ) → row < rows → length (u row).keys ≡ d.count
   pub numbers : (a : ℕ) → a < length d.aggregates → IsLane a u (lanes a) rows
   pub long : length at ≡ rows
 
-none_outside : (spans : List Span) (u : Update) (us : List Update) (p : ℕ) → cell_place spans u.keys ≡ Some p → filter (λ w. is_outside spans w.keys) (u ∷ us) ≡ filter (λ w. is_outside spans w.keys) us
-none_outside spans u us p e = ap (λ r. cond (is_none r) (u ∷ filter (λ w. is_outside spans w.keys) us) (filter (λ w. is_outside spans w.keys) us)) e
+none_outside : (spans : List Span) (u : Update) (us : List Update) (p : ℕ)
+    → cell_place spans u.keys ≡ Some p
+    → filter (λ w. is_outside spans w.keys) (u ∷ us) ≡ filter (λ w. is_outside spans w.keys) us
+none_outside spans u us p e =
+    ap (λ r. cond (is_none r) (u ∷ filter (λ w. is_outside spans w.keys) us)
+    (filter (λ w. is_outside spans w.keys) us)) e
 
-module _ (d : Group) (spans : List Span) (seen : List Bool) (cells : List ℤ) (es : List (List KeyPart × List (Option ℤ))) (all : List (Option ℤ)) (us : List Update) (placed : IsPlaced d spans seen cells es all us)
-    (u : ℕ → Update) (at : List ℕ) (lanes : ℕ → List ℤ) (rows : ℕ) (are : AreRowsOf d spans u at lanes rows) (long : length cells ≡ length d.aggregates * length seen) where
-  wide : (a : ℕ) → a < length d.aggregates → length (column d seen cells a) ≡ length seen
+module _ (d : Group) (spans : List Span) (seen : List Bool) (cells : List ℤ)
+    (es : List (List KeyPart × List (Option ℤ))) (all : List (Option ℤ)) (us : List Update)
+    (placed : IsPlaced d spans seen cells es all us)
+    (u : ℕ → Update) (at : List ℕ) (lanes : ℕ → List ℤ) (rows : ℕ)
+    (are : AreRowsOf d spans u at lanes rows)
+    (long : length cells ≡ length d.aggregates * length seen) where
+  wide : (a : ℕ) → a < length d.aggregates → length (aggregate_cells d seen cells a) ≡ length seen
   wide a h = cut_wide (length seen) (length d.aggregates) cells a long h
 
-  pub can_take_all : AreWithin at (length seen) → ((row : ℕ) → row < rows → HasRoom d (u row ∷ puts_after u us row)) → CanTakeAll d.aggregates (length seen) lanes at cells
+  pub can_take_all : AreWithin at (length seen)
+      → ((row : ℕ) → row < rows → HasRoom d (u row ∷ puts_after u us row))
+      → CanTakeAll d.aggregates (length seen) lanes at cells
   can_take_all within room a h =
-      can_take d a spans u at (lanes a) rows (are.numbers a h) are.places (column d seen cells a) us are.long h (λ row less. omega (arith, within row less, wide a h)) room (placed.cells_at a h)
+      can_take d a spans u at (lanes a) rows (are.numbers a h) are.places
+      (aggregate_cells d seen cells a) us are.long h
+      (λ row less. omega (arith, within row less, wide a h)) room (placed.cells_at a h)
 
-  same_outside : (n : ℕ) → n ≤ rows → filter (λ w. is_outside spans w.keys) (puts_after u us n) ≡ filter (λ w. is_outside spans w.keys) us
+  same_outside : (n : ℕ) → n ≤ rows
+      → filter (λ w. is_outside spans w.keys) (puts_after u us n)
+      ≡ filter (λ w. is_outside spans w.keys) us
   same_outside zero h = refl
-  same_outside (suc n) h = none_outside spans (u n) (puts_after u us n) (get_or at n 0) (are.places n (omega (arith, h))) ∙ same_outside n (omega (arith, h))
+  same_outside (suc n) h =
+      none_outside spans (u n) (puts_after u us n) (get_or at n 0) (are.places n (omega (arith, h)))
+      ∙ same_outside n (omega (arith, h))
 
   all_fit : (n : ℕ) → n ≤ rows → AllByRecursion (λ w. length w.keys ≡ d.count) (puts_after u us n)
   all_fit zero h = placed.fit
   all_fit (suc n) h = (are.fit n (omega (arith, h)), all_fit n (omega (arith, h)))
 
-  pub placed_after : (seen' : List Bool) (cells' : List ℤ) → seen' ≡ after_rows false (λ row was. true) at seen (length at) → AreTaken d.aggregates (length seen) lanes at cells cells' → IsPlaced d spans seen' cells' es all (puts_after u us rows)
+  pub placed_after : (seen' : List Bool) (cells' : List ℤ)
+      → seen' ≡ after_rows false (λ row was. true) at seen (length at)
+      → AreCellsTaken d.aggregates (length seen) lanes at cells cells'
+      → IsPlaced d spans seen' cells' es all (puts_after u us rows)
   placed_after seen' cells' marked taken =
-      let same : length seen' ≡ length seen = ap length marked ∙ length-after_rows false (λ row was. true) at seen (length at) in
+      let same : length seen' ≡ length seen =
+      ap length marked ∙ length-after_rows false (λ row was. true) at seen (length at) in
       record {
         fit = all_fit rows (omega arith);
-        seen_at = subst (λ s. AreAt false has_puts spans s (puts_after u us rows)) (sym (marked ∙ ap (after_rows false (λ row was. true) at seen) are.long)) (seen_at spans u at seen us rows are.places placed.seen_at);
+        seen_at = subst (λ s. AreAt false has_puts spans s (puts_after u us rows))
+            (sym (marked ∙ ap (after_rows false (λ row was. true) at seen) are.long))
+            (seen_at spans u at seen us rows are.places placed.seen_at);
         cells_at = λ a h. subst (λ c. AreAt (pos 0) (cell_over d a) spans c (puts_after u us rows))
-            (sym (ap (λ n. get_or (cut n (length d.aggregates) cells') a []) same ∙ taken.columns a h ∙ ap (column_after (aggregate_at d.aggregates a) (lanes a) at (column d seen cells a)) are.long))
-            (column_at d a spans u at (lanes a) rows (are.numbers a h) are.places (column d seen cells a) us rows (omega arith) (placed.cells_at a h));
+            (sym (ap (λ n. get_or (cut n (length d.aggregates) cells') a []) same
+            ∙ taken.columns a h ∙ ap
+            (column_after (aggregate_at d.aggregates a) (lanes a) at
+            (aggregate_cells d seen cells a)) are.long))
+            (column_at d a spans u at (lanes a) rows (are.numbers a h) are.places
+            (aggregate_cells d seen cells a) us rows (omega arith) (placed.cells_at a h));
         rest = subst (IsBase d es all) (sym (same_outside rows (omega arith))) placed.rest;
       }
 
@@ -77,13 +104,17 @@ first_lane zero (v ∷ vs) d = refl
 first_lane (suc a) [] d = refl
 first_lane (suc a) (v ∷ vs) d = first_lane a vs d
 
-pub one_row : (d : Group) (spans : List Span) (u : Update) (at : List ℕ) → length at ≡ 1 → cell_place spans u.keys ≡ Some (get_or at 0 0) → length u.keys ≡ d.count → ((a : ℕ) → is_i64 (put_number a u) ≡ true)
+pub one_row : (d : Group) (spans : List Span) (u : Update) (at : List ℕ) → length at ≡ 1
+    → cell_place spans u.keys ≡ Some (get_or at 0 0) → length u.keys ≡ d.count
+    → ((a : ℕ) → is_i64 (put_number a u) ≡ true)
     → AreRowsOf d spans (λ row. u) at (lanes_of u.values) 1
 one_row d spans u at one is fits narrow = record {
-  places = λ row h. let first : row ≡ 0 = omega (arith, h) in subst (λ n. cell_place spans u.keys ≡ Some (get_or at n 0)) (sym first) is;
+  places = λ row h. let first : row ≡ 0 = omega (arith, h) in
+      subst (λ n. cell_place spans u.keys ≡ Some (get_or at n 0)) (sym first) is;
   fit = λ row h. fits;
   numbers = λ a declared. record {
-    is = λ row h. let first : row ≡ 0 = omega (arith, h) in ap (λ n. get_or (lanes_of u.values a) n (pos 0)) first ∙ first_lane a u.values (pos 0);
+    is = λ row h. let first : row ≡ 0 = omega (arith, h) in
+        ap (λ n. get_or (lanes_of u.values a) n (pos 0)) first ∙ first_lane a u.values (pos 0);
     narrow = λ row h. narrow a;
   };
   long = one;
@@ -91,140 +122,256 @@ one_row d spans u at one is fits narrow = record {
 
 -- ---- a put without a place
 
-module _ (d : Group) (spans : List Span) (u : Update) (us : List Update) (outside : cell_place spans u.keys ≡ None) where
-  more_outside : filter (λ w. is_outside spans w.keys) (u ∷ us) ≡ u ∷ filter (λ w. is_outside spans w.keys) us
-  more_outside = ap (λ r. cond (is_none r) (u ∷ filter (λ w. is_outside spans w.keys) us) (filter (λ w. is_outside spans w.keys) us)) outside
+module _ (d : Group) (spans : List Span) (u : Update) (us : List Update)
+    (outside : cell_place spans u.keys ≡ None) where
+  more_outside : filter (λ w. is_outside spans w.keys) (u ∷ us)
+      ≡ u ∷ filter (λ w. is_outside spans w.keys) us
+  more_outside = ap (λ r. cond (is_none r) (u ∷ filter (λ w. is_outside spans w.keys) us)
+      (filter (λ w. is_outside spans w.keys) us)) outside
 
   pub room_outside : HasRoom d (u ∷ us) → HasRoom d (u ∷ filter (λ w. is_outside spans w.keys) us)
   room_outside room = subst (HasRoom d) more_outside (room_kept d (u ∷ us) (is_outside spans) room)
 
-  same_at : (p : ℕ) → filter (λ w. is_at spans p w.keys) (u ∷ us) ≡ filter (λ w. is_at spans p w.keys) us
-  same_at p = ap (λ r. cond (option_eq nat_eq r (Some p)) (u ∷ filter (λ w. is_at spans p w.keys) us) (filter (λ w. is_at spans p w.keys) us)) outside
+  same_at : (p : ℕ) → filter (λ w. is_at spans p w.keys) (u ∷ us)
+      ≡ filter (λ w. is_at spans p w.keys) us
+  same_at p = ap (λ r. cond (option_eq nat_eq r (Some p))
+      (u ∷ filter (λ w. is_at spans p w.keys) us) (filter (λ w. is_at spans p w.keys) us)) outside
 
-  pub placed_outside : (seen : List Bool) (cells : List ℤ) (es fs : List (List KeyPart × List (Option ℤ))) (all total : List (Option ℤ)) → IsPlaced d spans seen cells es all us → length u.keys ≡ d.count
-      → IsBase d fs total (u ∷ filter (λ w. is_outside spans w.keys) us) → IsPlaced d spans seen cells fs total (u ∷ us)
+  pub placed_outside : (seen : List Bool) (cells : List ℤ)
+      (es fs : List (List KeyPart × List (Option ℤ))) (all total : List (Option ℤ))
+      → IsPlaced d spans seen cells es all us → length u.keys ≡ d.count
+      → IsBase d fs total (u ∷ filter (λ w. is_outside spans w.keys) us)
+      → IsPlaced d spans seen cells fs total (u ∷ us)
   placed_outside seen cells es fs all total placed fits base = record {
     fit = (fits, placed.fit);
     seen_at = λ p h. placed.seen_at p h ∙ ap has_puts (sym (same_at p));
-    cells_at = λ a declared p h. placed.cells_at a declared p h ∙ ap (cell_over d a) (sym (same_at p));
+    cells_at = λ a declared p h.
+        placed.cells_at a declared p h ∙ ap (cell_over d a) (sym (same_at p));
     rest = subst (IsBase d fs total) (sym more_outside) base;
   }
 
 -- ---- a store's parts after a put
 
-pub rest_same : (d : Group) (spans : List Span) (seen : List Bool) (cells : List ℤ) (es fs : List (List KeyPart × List (Option ℤ))) (all total : List (Option ℤ)) (us : List Update)
-    → ((ws : List Update) → IsBase d es all ws → IsBase d fs total ws) → IsPlaced d spans seen cells es all us → IsPlaced d spans seen cells fs total us
-rest_same d spans seen cells es fs all total us stays placed = record { fit = placed.fit; seen_at = placed.seen_at; cells_at = placed.cells_at; rest = stays _ placed.rest }
+pub rest_same : (d : Group) (spans : List Span) (seen : List Bool) (cells : List ℤ)
+    (es fs : List (List KeyPart × List (Option ℤ))) (all total : List (Option ℤ)) (us : List Update)
+    → ((ws : List Update) → IsBase d es all ws → IsBase d fs total ws)
+    → IsPlaced d spans seen cells es all us → IsPlaced d spans seen cells fs total us
+rest_same d spans seen cells es fs all total us stays placed =
+    record {
+      fit = placed.fit;
+      seen_at = placed.seen_at;
+      cells_at = placed.cells_at;
+      rest =
+          stays _ placed.rest;
+    }
 
-module _ (d e : Group) (same : e ≡ d) (spans : List Span) (seen : List Bool) (cells : List ℤ) (es fs : List (List KeyPart × List (Option ℤ))) (all total : List (Option ℤ)) (u : Update) where
+module _ (d e : Group) (same : e ≡ d) (spans : List Span) (seen : List Bool) (cells : List ℤ)
+    (es fs : List (List KeyPart × List (Option ℤ))) (all total : List (Option ℤ)) (u : Update) where
   -- one put more without a place
-  pub outside_more : cell_place spans u.keys ≡ None → length u.keys ≡ d.count → ((ws : List Update) → IsBase d es all ws → IsBase e fs total (u ∷ ws)) → (us : List Update) → IsPlaced d spans seen cells es all us → IsPlaced e spans seen cells fs total (u ∷ us)
-  outside_more outside fits more us placed = subst (λ g. IsPlaced g spans seen cells fs total (u ∷ us)) (sym same)
-      (placed_outside d spans u us outside seen cells es fs all total placed fits (subst (λ g. IsBase g fs total (u ∷ filter (λ w. is_outside spans w.keys) us)) same (more _ placed.rest)))
+  pub outside_more : cell_place spans u.keys ≡ None → length u.keys ≡ d.count
+      → ((ws : List Update) → IsBase d es all ws → IsBase e fs total (u ∷ ws)) → (us : List Update)
+      → IsPlaced d spans seen cells es all us → IsPlaced e spans seen cells fs total (u ∷ us)
+  outside_more outside fits more us placed =
+      subst (λ g. IsPlaced g spans seen cells fs total (u ∷ us)) (sym same)
+      (placed_outside d spans u us outside seen cells es fs all total placed fits
+      (subst (λ g. IsBase g fs total (u ∷ filter (λ w. is_outside spans w.keys) us)) same
+      (more _ placed.rest)))
 
   -- one that is refused
-  pub outside_stays : ((ws : List Update) → IsBase d es all ws → IsBase e fs total ws) → (us : List Update) → IsPlaced d spans seen cells es all us → IsPlaced e spans seen cells fs total us
+  pub outside_stays : ((ws : List Update) → IsBase d es all ws → IsBase e fs total ws)
+      → (us : List Update) → IsPlaced d spans seen cells es all us
+      → IsPlaced e spans seen cells fs total us
   outside_stays stays us placed = subst (λ g. IsPlaced g spans seen cells fs total us) (sym same)
-      (rest_same d spans seen cells es fs all total us (λ ws base. subst (λ g. IsBase g fs total ws) same (stays ws base)) placed)
+      (rest_same d spans seen cells es fs all total us
+      (λ ws base. subst (λ g. IsBase g fs total ws) same (stays ws base)) placed)
 
-  pub outside_room : {T E : Type 0} (r : Result T E) → cell_place spans u.keys ≡ None → length u.keys ≡ d.count → (us : List Update) → IsPlaced d spans seen cells es all us → HasRoom d (u ∷ us) → IsPlacedWithRoom d spans seen cells es all
-      → OnOk r ((ws : List Update) → IsBase d es all ws → IsBase e fs total (u ∷ ws)) → OnErr r ((ws : List Update) → IsBase d es all ws → IsBase e fs total ws) → IsPlacedWithRoom e spans seen cells fs total
-  outside_room (Ok x) outside fits us placed room was more stays = ∣ (u ∷ us, outside_more outside fits more us placed, subst (λ g. HasRoom g (u ∷ us)) (sym same) room) ∣₁
-  outside_room (Err x) outside fits us placed room was more stays = ∥∥₁_map was (λ r. (r.0, outside_stays stays r.0 r.1, subst (λ g. HasRoom g r.0) (sym same) r.2))
+  pub outside_room : {T E : Type 0} (r : Result T E) → cell_place spans u.keys ≡ None
+      → length u.keys ≡ d.count → (us : List Update) → IsPlaced d spans seen cells es all us
+      → HasRoom d (u ∷ us) → IsPlacedWithRoom d spans seen cells es all
+      → OnOk r ((ws : List Update) → IsBase d es all ws → IsBase e fs total (u ∷ ws))
+      → OnErr r ((ws : List Update) → IsBase d es all ws → IsBase e fs total ws)
+      → IsPlacedWithRoom e spans seen cells fs total
+  outside_room (Ok x) outside fits us placed room was more stays =
+      ∣ (
+        u ∷ us,
+        outside_more outside fits more us placed,
+        subst (λ g. HasRoom g (u ∷ us)) (sym same) room,
+      ) ∣₁
+  outside_room (Err x) outside fits us placed room was more stays =
+      ∥∥₁_map was (λ r. (
+        r.0,
+        outside_stays stays r.0 r.1,
+        subst (λ g. HasRoom g r.0) (sym same) r.2,
+      ))
 
 -- one put more at a place
-pub takes_put : (shape : Shape) (count : ℕ) (gs hs : List Aggregate) (spans : List Span) (seen seen₀ seen' seen₁ : List Bool) (cells cells₀ cells' cells₁ : List ℤ) (keys : List KeyValue) (values : List ℤ) (place : ℕ) (es : List (List KeyPart × List (Option ℤ))) (all : List (Option ℤ)) (us : List Update)
-    → length keys ≡ count → gs ≡ hs → seen₀ ≡ seen → cells₀ ≡ cells → cell_place spans keys ≡ Some place → TakesPut gs values place seen₀ cells₀ seen' cells'
-    → seen₁ ≡ seen' → cells₁ ≡ cells' → IsPlaced (group_with shape count hs) spans seen cells es all us → IsPlaced (group_with shape count hs) spans seen₁ cells₁ es all (record { keys = keys; values = values } ∷ us)
-takes_put shape count gs hs spans seen seen₀ seen' seen₁ cells cells₀ cells' cells₁ keys values place es all us fits same marks numbers is takes written filled placed =
-    let d : group_with shape (length keys) gs ≡ group_with shape count hs = (λ i. group_with shape (fits i) (same i)) in
-    let before = subst (λ s. IsPlaced (group_with shape (length keys) gs) spans s cells₀ es all us) (sym marks)
+pub takes_put : (shape : Shape) (count : ℕ) (gs hs : List Aggregate) (spans : List Span)
+    (seen seen₀ seen' seen₁ : List Bool) (cells cells₀ cells' cells₁ : List ℤ)
+    (keys : List KeyValue) (values : List ℤ) (place : ℕ)
+    (es : List (List KeyPart × List (Option ℤ))) (all : List (Option ℤ)) (us : List Update)
+    → length keys ≡ count → gs ≡ hs → seen₀ ≡ seen → cells₀ ≡ cells
+    → cell_place spans keys ≡ Some place
+    → TakesPlacedPut gs values place seen₀ cells₀ seen' cells'
+    → seen₁ ≡ seen' → cells₁ ≡ cells'
+    → IsPlaced (group_with shape count hs) spans seen cells es all us
+    → IsPlaced (group_with shape count hs) spans seen₁ cells₁ es all
+    (record { keys = keys; values = values } ∷ us)
+takes_put shape count gs hs spans seen seen₀ seen' seen₁ cells cells₀ cells' cells₁ keys values
+    place es all us fits same marks numbers is takes written filled placed =
+    let d : group_with shape (length keys) gs ≡ group_with shape count hs =
+    (λ i. group_with shape (fits i) (same i)) in
+    let before = subst (λ s. IsPlaced (group_with shape (length keys) gs) spans s cells₀ es all us)
+    (sym marks)
     (subst (λ c. IsPlaced (group_with shape (length keys) gs) spans seen c es all us) (sym numbers)
     (subst (λ g. IsPlaced g spans seen cells es all us) (sym d) placed)) in
-    let more = subst (λ g. IsPlaced g spans seen' cells' es all (record { keys = keys; values = values } ∷ us)) d (takes shape spans keys is es all us before) in
-    subst (λ s. IsPlaced (group_with shape count hs) spans s cells₁ es all (record { keys = keys; values = values } ∷ us)) (sym written)
-    (subst (λ c. IsPlaced (group_with shape count hs) spans seen' c es all (record { keys = keys; values = values } ∷ us)) (sym filled) more)
+    let more = subst (λ g. IsPlaced g spans seen' cells' es all
+    (record { keys = keys; values = values } ∷ us)) d
+    (takes shape spans keys is es all us before) in
+    subst (λ s. IsPlaced (group_with shape count hs) spans s cells₁ es all
+    (record { keys = keys; values = values } ∷ us)) (sym written)
+    (subst (λ c. IsPlaced (group_with shape count hs) spans seen' c es all
+    (record { keys = keys; values = values } ∷ us)) (sym filled) more)
 
 -- ---- no puts
 
-pub placed_none : (d : Group) (spans : List Span) (seen : List Bool) (cells : List ℤ) (es : List (List KeyPart × List (Option ℤ))) (all : List (Option ℤ)) → seen ≡ replicate (length seen) false
-    → ((a : ℕ) → a < length d.aggregates → column d seen cells a ≡ replicate (length seen) (neutral (aggregate_at d.aggregates a))) → IsBase d es all [] → IsPlaced d spans seen cells es all []
+pub placed_none : (d : Group) (spans : List Span) (seen : List Bool) (cells : List ℤ)
+    (es : List (List KeyPart × List (Option ℤ))) (all : List (Option ℤ))
+    → seen ≡ replicate (length seen) false
+    → ((a : ℕ) → a < length d.aggregates
+    → aggregate_cells d seen cells a
+    ≡ replicate (length seen) (neutral (aggregate_at d.aggregates a))) → IsBase d es all []
+    → IsPlaced d spans seen cells es all []
 unfolding held
 placed_none d spans seen cells es all blank columns base = record {
   fit = tt;
-  seen_at = λ p h. ap (λ xs. get_or xs p false) blank ∙ get_or-replicate (length seen) p false false h;
+  seen_at = λ p h. ap (λ xs. get_or xs p false) blank
+      ∙ get_or-replicate (length seen) p false false h;
   cells_at = λ a declared p h.
-      let here : p < length seen = omega (arith, h, ap length (columns a declared), length-replicate (length seen) (neutral (aggregate_at d.aggregates a))) in
-      ap (λ xs. get_or xs p (pos 0)) (columns a declared) ∙ get_or-replicate (length seen) p (neutral (aggregate_at d.aggregates a)) (pos 0) here;
+      let here : p < length seen =
+      omega (
+        arith,
+        h,
+        ap length (columns a declared),
+        length-replicate (length seen) (neutral (aggregate_at d.aggregates a)),
+      ) in
+      ap (λ xs. get_or xs p (pos 0)) (columns a declared)
+      ∙ get_or-replicate (length seen) p (neutral (aggregate_at d.aggregates a)) (pos 0) here;
   rest = base;
 }
 
 -- ---- the same parts, lent
 
-module _ (shape : Shape) (count : ℕ) (hs gs : List Aggregate) (spans spans₀ : List Span) (seen seen₀ : List Bool) (cells cells₀ : List ℤ) (es : List (List KeyPart × List (Option ℤ))) (all : List (Option ℤ))
-    (keys : length spans₀ ≡ count) (same : gs ≡ hs) (ranges : spans₀ ≡ spans) (marks : seen₀ ≡ seen) (numbers : cells₀ ≡ cells) where
+module _ (shape : Shape) (count : ℕ) (hs gs : List Aggregate) (spans spans₀ : List Span)
+    (seen seen₀ : List Bool) (cells cells₀ : List ℤ) (es : List (List KeyPart × List (Option ℤ)))
+    (all : List (Option ℤ))
+    (keys : length spans₀ ≡ count) (same : gs ≡ hs) (ranges : spans₀ ≡ spans) (marks : seen₀ ≡ seen)
+    (numbers : cells₀ ≡ cells) where
   group_same : group_with shape (length spans₀) gs ≡ group_with shape count hs
   group_same i = group_with shape (keys i) (same i)
 
-  pub placed_parts : (us : List Update) → IsPlaced (group_with shape count hs) spans seen cells es all us → IsPlaced (group_with shape (length spans₀) gs) spans₀ seen₀ cells₀ es all us
+  pub placed_parts : (us : List Update)
+      → IsPlaced (group_with shape count hs) spans seen cells es all us
+      → IsPlaced (group_with shape (length spans₀) gs) spans₀ seen₀ cells₀ es all us
   placed_parts us placed =
       subst (λ g. IsPlaced g spans₀ seen₀ cells₀ es all us) (sym group_same)
       (subst (λ ss. IsPlaced (group_with shape count hs) ss seen₀ cells₀ es all us) (sym ranges)
       (subst (λ s. IsPlaced (group_with shape count hs) spans s cells₀ es all us) (sym marks)
-      (subst (λ c. IsPlaced (group_with shape count hs) spans seen c es all us) (sym numbers) placed)))
+      (subst (λ c. IsPlaced (group_with shape count hs) spans seen c es all us) (sym numbers)
+      placed)))
 
-  pub placed_with_room : IsPlacedWithRoom (group_with shape count hs) spans seen cells es all → IsPlacedWithRoom (group_with shape (length spans₀) gs) spans₀ seen₀ cells₀ es all
-  placed_with_room room = ∥∥₁_map room (λ r. (r.0, placed_parts r.0 r.1, subst (λ g. HasRoom g r.0) (sym group_same) r.2))
+  pub placed_with_room : IsPlacedWithRoom (group_with shape count hs) spans seen cells es all
+      → IsPlacedWithRoom (group_with shape (length spans₀) gs) spans₀ seen₀ cells₀ es all
+  placed_with_room room = ∥∥₁_map room
+      (λ r. (r.0, placed_parts r.0 r.1, subst (λ g. HasRoom g r.0) (sym group_same) r.2))
 
   -- with the rows and the total of all puts
-  pub base_of : (fs : List (List KeyPart × List (Option ℤ))) (total : List (Option ℤ)) (us : List Update) → IsPlaced (group_with shape count hs) spans seen cells es all us
-      → ((q : List (Option KeyValue)) → IsRowOver (group_with shape (length spans₀) gs) (puts_with q us) (row_found fs q)) → HasAggregates (group_with shape count hs) us total → IsBase (group_with shape count gs) fs total us
-  base_of fs total us placed rows sums = subst (λ g. IsBase g fs total us) (λ i. group_with shape count (sym same i)) (record {
-    fit = placed.fit;
-    rows = λ q. subst (λ g. IsRowOver g (puts_with q us) (row_found fs q)) group_same (rows q);
-    total = sums;
-  })
+  pub base_of : (fs : List (List KeyPart × List (Option ℤ))) (total : List (Option ℤ))
+      (us : List Update) → IsPlaced (group_with shape count hs) spans seen cells es all us
+      → ((q : List (Option KeyValue))
+      → IsRowOver (group_with shape (length spans₀) gs) (puts_with q us) (row_found fs q))
+      → HasAggregates (group_with shape count hs) us total
+      → IsBase (group_with shape count gs) fs total us
+  base_of fs total us placed rows sums =
+      subst (λ g. IsBase g fs total us) (λ i. group_with shape count (sym same i)) (record {
+        fit = placed.fit;
+        rows = λ q. subst (λ g. IsRowOver g (puts_with q us) (row_found fs q)) group_same (rows q);
+        total = sums;
+      })
 
-pub blank_columns : (d : Group) (gs : List Aggregate) (n : ℕ) (seen : List Bool) (cells : List ℤ) → gs ≡ d.aggregates → n ≡ length seen
-    → ((a : ℕ) → a < length gs → get_or (cut n (length gs) cells) a [] ≡ replicate n (neutral (get_or gs a Count)))
-    → (a : ℕ) → a < length d.aggregates → column d seen cells a ≡ replicate (length seen) (neutral (aggregate_at d.aggregates a))
+pub blank_columns : (d : Group) (gs : List Aggregate) (n : ℕ) (seen : List Bool) (cells : List ℤ)
+    → gs ≡ d.aggregates → n ≡ length seen
+    → ((a : ℕ) → a < length gs
+    → get_or (cut n (length gs) cells) a [] ≡ replicate n (neutral (get_or gs a Count)))
+    → (a : ℕ) → a < length d.aggregates
+    → aggregate_cells d seen cells a
+    ≡ replicate (length seen) (neutral (aggregate_at d.aggregates a))
 blank_columns d gs n seen cells same many blank a h =
-    (λ i. get_or (cut (sym many i) (length (sym same i)) cells) a []) ∙ blank a (omega (arith, h, ap length same)) ∙ (λ i. replicate (many i) (neutral (get_or (same i) a Count)))
+    (λ i. get_or (cut (sym many i) (length (sym same i)) cells) a [])
+    ∙ blank a (omega (arith, h, ap length same))
+    ∙ (λ i. replicate (many i) (neutral (get_or (same i) a Count)))
 
 -- ---- the rows of a batch
 
-pub batch_rows : (d : Group) (spans : List Span) (b : PutBatch) (at : List ℕ) → length at ≡ b.rows → AreAtPlaces spans b at → length b.keys.now ≡ d.count → IsPutBatch b
-    → ((a : ℕ) → a < length d.aggregates → (row : ℕ) → row < b.rows → is_i64 (put_number a (put_in b row)) ≡ true) → AreRowsOf d spans (put_in b) at (batch_lanes b) b.rows
-batch_rows d spans b at long are fits is narrow = record {
-  places = are;
-  fit = λ row h.
-      let words = map (word_in b.lanes.now row) b.keys.now in
-      let wide = length-map b.keys.now (word_in b.lanes.now row) in
-      length-keys_of b.declared.now.keys words (omega (arith, wide, is.keys)) ∙ wide ∙ fits;
+-- as many keys have places as there are ranges
+placed_long : (ss : List Span) (ks : List KeyValue) (p : ℕ) → cell_place ss ks ≡ Some p
+    → length ks ≡ length ss
+placed_long [] [] p e = refl
+placed_long [] (k ∷ ks) p e = absurd (let no : ⊥ = cc e in no)
+placed_long (s ∷ ss) [] p e = absurd (let no : ⊥ = cc e in no)
+placed_long (s ∷ ss) (k ∷ ks) p e = let parts =
+    above_parts (offset_of s k) (s.last + 1) (cell_place ss ks) p e in
+    ap suc (placed_long ss ks parts.2.behind parts.2.is_rest)
+
+pub batch_rows : (d : Group) (spans : List Span) (b : PutBatch) (put : ℕ → Update) (at : List ℕ)
+    → length at ≡ b.rows → AreAtPlaces spans b at put → length spans ≡ d.count
+    → ((a : ℕ) → a < length d.aggregates → (row : ℕ) → row < b.rows
+    → is_i64 (put_number a (put_in b row)) ≡ true)
+    → AreRowsOf d spans put at (batch_lanes b) b.rows
+batch_rows d spans b put at long are fits narrow = record {
+  places = are.keys;
+  fit = λ row h. placed_long spans (put row).keys (get_or at row 0) (are.keys row h) ∙ fits;
   numbers = λ a declared. record {
-    is = λ row h. lane_number (λ r. put_number a (put_in b r)) b.rows row h;
-    narrow = λ row h. narrow a declared row h;
+    is = λ row h. lane_number (λ r. put_number a (put_in b r)) b.rows row h
+        ∙ ap (λ vs. get_or vs a (pos 0)) (sym (are.values row h));
+    narrow = λ row h. ap (λ vs. is_i64 (get_or vs a (pos 0))) (are.values row h)
+        ∙ narrow a declared row h;
   };
   long = long;
 }
 
-pub takes_batch : (shape : Shape) (count : ℕ) (gs hs : List Aggregate) (spans : List Span) (seen seen₀ seen' seen₁ : List Bool) (cells cells₀ cells' cells₁ : List ℤ) (b : PutBatch) (at : List ℕ) (es : List (List KeyPart × List (Option ℤ))) (all : List (Option ℤ)) (us : List Update)
-    → length b.keys.now ≡ count → gs ≡ hs → seen₀ ≡ seen → cells₀ ≡ cells → AreAtPlaces spans b at → TakesBatch gs b at seen₀ cells₀ seen' cells'
-    → seen₁ ≡ seen' → cells₁ ≡ cells' → IsPlaced (group_with shape count hs) spans seen cells es all us → IsPlaced (group_with shape count hs) spans seen₁ cells₁ es all (puts_after (put_in b) us b.rows)
-takes_batch shape count gs hs spans seen seen₀ seen' seen₁ cells cells₀ cells' cells₁ b at es all us fits same marks numbers are takes written filled placed =
-    let d : group_with shape (length b.keys.now) gs ≡ group_with shape count hs = (λ i. group_with shape (fits i) (same i)) in
-    let before = subst (λ s. IsPlaced (group_with shape (length b.keys.now) gs) spans s cells₀ es all us) (sym marks)
-    (subst (λ c. IsPlaced (group_with shape (length b.keys.now) gs) spans seen c es all us) (sym numbers)
+pub takes_batch : (shape : Shape) (count : ℕ) (gs hs : List Aggregate) (spans : List Span)
+    (seen seen₀ seen' seen₁ : List Bool) (cells cells₀ cells' cells₁ : List ℤ) (b : PutBatch)
+    (u : ℕ → Update) (at : List ℕ) (es : List (List KeyPart × List (Option ℤ)))
+    (all : List (Option ℤ)) (us : List Update)
+    → length spans ≡ count → gs ≡ hs → seen₀ ≡ seen → cells₀ ≡ cells → AreAtPlaces spans b at u
+    → TakesBatch gs b at seen₀ cells₀ seen' cells'
+    → seen₁ ≡ seen' → cells₁ ≡ cells'
+    → IsPlaced (group_with shape count hs) spans seen cells es all us
+    → IsPlaced (group_with shape count hs) spans seen₁ cells₁ es all (puts_after u us b.rows)
+takes_batch shape count gs hs spans seen seen₀ seen' seen₁ cells cells₀ cells' cells₁ b u at es all
+    us fits same marks numbers are takes written filled placed =
+    let d : group_with shape (length spans) gs ≡ group_with shape count hs =
+    (λ i. group_with shape (fits i) (same i)) in
+    let before = subst (λ s. IsPlaced (group_with shape (length spans) gs) spans s cells₀ es all us)
+    (sym marks)
+    (subst (λ c. IsPlaced (group_with shape (length spans) gs) spans seen c es all us) (sym numbers)
     (subst (λ g. IsPlaced g spans seen cells es all us) (sym d) placed)) in
-    let more = subst (λ g. IsPlaced g spans seen' cells' es all (puts_after (put_in b) us b.rows)) d (takes shape spans are es all us before) in
-    subst (λ s. IsPlaced (group_with shape count hs) spans s cells₁ es all (puts_after (put_in b) us b.rows)) (sym written)
-    (subst (λ c. IsPlaced (group_with shape count hs) spans seen' c es all (puts_after (put_in b) us b.rows)) (sym filled) more)
+    let more = subst (λ g. IsPlaced g spans seen' cells' es all (puts_after u us b.rows)) d
+    (takes shape spans u are es all us before) in
+    subst (λ s. IsPlaced (group_with shape count hs) spans s cells₁ es all (puts_after u us b.rows))
+    (sym written)
+    (subst (λ c. IsPlaced (group_with shape count hs) spans seen' c es all (puts_after u us b.rows))
+    (sym filled) more)
 
 -- there is room where some rows, or none, were put
-pub batch_room : (d : Group) (u : ℕ → Update) (rows : ℕ) (us : List Update) (Old New : List Update → Type 0) → ((ws : List Update) → Old ws → New (puts_after u ws rows)) → Old us → HasRoomForRows d u us rows
-    → ∥ ((ws : List Update) × Old ws × HasRoom d ws) ∥₁ → ∥ ((ws : List Update) × New ws × HasRoom d ws) ∥₁
+pub batch_room : (d : Group) (u : ℕ → Update) (rows : ℕ) (us : List Update)
+    (Old New : List Update → Type 0) → ((ws : List Update) → Old ws → New (puts_after u ws rows))
+    → Old us → HasRoomForRows d u us rows
+    → ∥ ((ws : List Update) × Old ws × HasRoom d ws) ∥₁
+    → ∥ ((ws : List Update) × New ws × HasRoom d ws) ∥₁
 batch_room d u zero us Old New takes old room was = ∥∥₁_map was (λ r. (r.0, takes r.0 r.1, r.2))
-batch_room d u (suc n) us Old New takes old room was = ∣ (puts_after u us (suc n), takes us old, room n (omega arith)) ∣₁
+batch_room d u (suc n) us Old New takes old room was =
+    ∣ (puts_after u us (suc n), takes us old, room n (omega arith)) ∣₁
 
 pub err_any : {T E P : Type 0} (r : Result T E) → P → OnErr r P
 err_any (Ok x) p = tt

@@ -19,7 +19,7 @@ use Rattle.star_group.specs.Base.{HasAggregates, IsRowOver, key_view, puts_with,
 use Rattle.star_group.specs.Cells.{held}
 use Rattle.star_group.specs.Held.{has_puts}
 use Rattle.star_group.specs.OwnKeys.{key_eq, padded}
-use Rattle.star_group.specs.ByPlace.{IsPlaced, IsPlacedWithRoom, column, neutral}
+use Rattle.star_group.specs.ByPlace.{IsPlaced, IsPlacedWithRoom, aggregate_cells, neutral}
 use Rattle.star_group.specs.Places.{is_at, is_outside, cell_place, places}
 use Rattle.star_group.specs.Private.BasePut.{group_with}
 use Rattle.star_group.specs.Private.Merged.{IsMerged, IsMergedAt, MergeStays, RowsStay, merged}
@@ -43,25 +43,31 @@ below_place n (Some p) = nat_lt p n
 abbrev pub is_below : List Span → ℕ → List KeyValue → Bool
 is_below spans n keys = below_place n (cell_place spans keys)
 
-below_more : (n p : ℕ) → (nat_lt p (suc n) ≡ (nat_lt p n || nat_eq p n)) × ((nat_lt p n && nat_eq p n) ≡ false)
+below_more : (n p : ℕ) → (nat_lt p (suc n) ≡ (nat_lt p n || nat_eq p n))
+    × ((nat_lt p n && nat_eq p n) ≡ false)
 below_more n p = (grind (arith, nat_tests), grind (arith, nat_tests))
 
 -- one place more
-pub one_place : (spans : List Span) (n : ℕ) (keys : List KeyValue) → (is_below spans (suc n) keys ≡ (is_below spans n keys || is_at spans n keys)) × ((is_below spans n keys && is_at spans n keys) ≡ false)
+pub one_place : (spans : List Span) (n : ℕ) (keys : List KeyValue)
+    → (is_below spans (suc n) keys ≡ (is_below spans n keys || is_at spans n keys))
+    × ((is_below spans n keys && is_at spans n keys) ≡ false)
 one_place spans n keys = by (cell_place spans keys)
   where
-    by : (r : Option ℕ) → (below_place (suc n) r ≡ (below_place n r || option_eq nat_eq r (Some n))) × ((below_place n r && option_eq nat_eq r (Some n)) ≡ false)
+    by : (r : Option ℕ) → (below_place (suc n) r ≡ (below_place n r || option_eq nat_eq r (Some n)))
+        × ((below_place n r && option_eq nat_eq r (Some n)) ≡ false)
     by None = (refl, refl)
     by (Some p) = below_more n p
 
-pub none_below : (spans : List Span) (keys : List KeyValue) → is_below spans 0 keys ≡ is_outside spans keys
+pub none_below : (spans : List Span) (keys : List KeyValue)
+    → is_below spans 0 keys ≡ is_outside spans keys
 none_below spans keys = by (cell_place spans keys)
   where
     by : (r : Option ℕ) → below_place 0 r ≡ is_none r
     by None = refl
     by (Some p) = grind (arith, nat_tests)
 
-pub all_below : (spans : List Span) (keys : List KeyValue) (n : ℕ) → n ≡ places spans → is_below spans n keys ≡ true
+pub all_below : (spans : List Span) (keys : List KeyValue) (n : ℕ) → n ≡ places spans
+    → is_below spans n keys ≡ true
 all_below spans keys n same = by (cell_place spans keys) refl
   where
     by : (r : Option ℕ) → cell_place spans keys ≡ r → below_place n r ≡ true
@@ -75,22 +81,34 @@ all_filter t (x ∷ xs) h = (λ i. cond (h x i) (x ∷ all_filter t xs h i) (all
 abbrev pub puts_below : List Span → ℕ → List Update → List Update
 puts_below spans n us = filter (λ w. is_below spans n w.keys) us
 
-pub all_puts : (spans : List Span) (n : ℕ) (us : List Update) → n ≡ places spans → puts_below spans n us ≡ us
-all_puts spans n us same = all_filter (λ w. is_below spans n w.keys) us (λ w. all_below spans w.keys n same)
+pub all_puts : (spans : List Span) (n : ℕ) (us : List Update) → n ≡ places spans
+    → puts_below spans n us ≡ us
+all_puts spans n us same =
+    all_filter (λ w. is_below spans n w.keys) us (λ w. all_below spans w.keys n same)
 
-pub split_at : (spans : List Span) (n : ℕ) (us : List Update) → AreSplit (λ w. is_below spans n w.keys) (λ w. is_at spans n w.keys) (λ w. is_below spans (suc n) w.keys) us
-split_at spans n us = of_each (λ w. (is_below spans (suc n) w.keys ≡ (is_below spans n w.keys || is_at spans n w.keys)) × ((is_below spans n w.keys && is_at spans n w.keys) ≡ false)) us (λ w c. one_place spans n w.keys)
+pub split_at : (spans : List Span) (n : ℕ) (us : List Update)
+    → AreSplit (λ w. is_below spans n w.keys) (λ w. is_at spans n w.keys)
+    (λ w. is_below spans (suc n) w.keys) us
+split_at spans n us = of_each
+    (λ w. (is_below spans (suc n) w.keys ≡ (is_below spans n w.keys || is_at spans n w.keys))
+    × ((is_below spans n w.keys && is_at spans n w.keys) ≡ false)) us
+    (λ w c. one_place spans n w.keys)
 
 -- no puts at a place
-none_at : (spans : List Span) (n : ℕ) (us : List Update) → puts_there spans n us ≡ [] → AllByRecursion (λ w. is_at spans n w.keys ≡ false) us
+none_at : (spans : List Span) (n : ℕ) (us : List Update) → puts_there spans n us ≡ []
+    → AllByRecursion (λ w. is_at spans n w.keys ≡ false) us
 none_at spans n [] e = tt
 none_at spans n (u ∷ us) e = by (is_at spans n u.keys) refl e (λ f. none_at spans n us f)
   where
-    by : (b : Bool) → is_at spans n u.keys ≡ b → cond b (u ∷ puts_there spans n us) (puts_there spans n us) ≡ [] → (puts_there spans n us ≡ [] → AllByRecursion (λ w. is_at spans n w.keys ≡ false) us) → AllByRecursion (λ w. is_at spans n w.keys ≡ false) (u ∷ us)
+    by : (b : Bool) → is_at spans n u.keys ≡ b
+        → cond b (u ∷ puts_there spans n us) (puts_there spans n us) ≡ []
+        → (puts_there spans n us ≡ [] → AllByRecursion (λ w. is_at spans n w.keys ≡ false) us)
+        → AllByRecursion (λ w. is_at spans n w.keys ≡ false) (u ∷ us)
     by true is f later = absurd (let no : ⊥ = cc f in no)
     by false is f later = (is, later f)
 
-each_more : {A : Type 0} (P Q : A → Type 0) → ((x : A) → P x → Q x) → (xs : List A) → AllByRecursion P xs → AllByRecursion Q xs
+each_more : {A : Type 0} (P Q : A → Type 0) → ((x : A) → P x → Q x) → (xs : List A)
+    → AllByRecursion P xs → AllByRecursion Q xs
 each_more P Q f [] h = tt
 each_more P Q f (x ∷ xs) h = (f x h.0, each_more P Q f xs h.1)
 
@@ -100,22 +118,30 @@ or-no false b h = h
 
 -- ---- the row at a place
 
-some_cell : (g : Aggregate) (a : ℕ) (ws : List Update) → has_puts ws ≡ true → Some (unwrap_or (held g (numbers_for a ws)) (neutral g)) ≡ held g (numbers_for a ws)
+some_cell : (g : Aggregate) (a : ℕ) (ws : List Update) → has_puts ws ≡ true
+    → Some (unwrap_or (held g (numbers_for a ws)) (neutral g)) ≡ held g (numbers_for a ws)
 unfolding held
 some_cell g a [] h = absurd (true≢false (sym h))
 some_cell g a (w ∷ ws) h = refl
 
 -- what a row has of the cells at a place
 abbrev pub IsRowAt : Group → List Bool → List ℤ → ℕ → List (Option ℤ) → Type 0
-IsRowAt d seen cells n row = (a : ℕ) → a < length d.aggregates → get_or row a None ≡ Some (get_or (column d seen cells a) n (pos 0))
+IsRowAt d seen cells n row =
+    (a : ℕ) → a < length d.aggregates
+    → get_or row a None ≡ Some (get_or (aggregate_cells d seen cells a) n (pos 0))
 
-module _ (d : Group) (spans : List Span) (seen : List Bool) (cells : List ℤ) (es : List (List KeyPart × List (Option ℤ))) (all : List (Option ℤ)) (us : List Update) (is : IsPlaced d spans seen cells es all us) (n : ℕ) (here : n < length seen)
-    (wide : (a : ℕ) → a < length d.aggregates → length (column d seen cells a) ≡ length seen) where
-  pub row_there : (row : List (Option ℤ)) → get_or seen n false ≡ true → IsRowAt d seen cells n row → IsRowOver d (puts_there spans n us) (Some row)
+module _ (d : Group) (spans : List Span) (seen : List Bool) (cells : List ℤ)
+    (es : List (List KeyPart × List (Option ℤ))) (all : List (Option ℤ)) (us : List Update)
+    (is : IsPlaced d spans seen cells es all us) (n : ℕ) (here : n < length seen)
+    (wide : (a : ℕ) → a < length d.aggregates
+    → length (aggregate_cells d seen cells a) ≡ length seen) where
+  pub row_there : (row : List (Option ℤ)) → get_or seen n false ≡ true → IsRowAt d seen cells n row
+      → IsRowOver d (puts_there spans n us) (Some row)
   row_there row marked at =
       let some = sym (is.seen_at n here) ∙ marked in (
         some,
-        λ a h. at a h ∙ ap Some (is.cells_at a h n (omega (arith, here, wide a h))) ∙ some_cell (aggregate_at d.aggregates a) a (puts_there spans n us) some,
+        λ a h. at a h ∙ ap Some (is.cells_at a h n (omega (arith, here, wide a h)))
+            ∙ some_cell (aggregate_at d.aggregates a) a (puts_there spans n us) some,
       )
 
   pub none_there : get_or seen n false ≡ false → puts_there spans n us ≡ []
@@ -124,21 +150,33 @@ module _ (d : Group) (spans : List Span) (seen : List Bool) (cells : List ℤ) (
 -- ---- the total
 
 module _ (d : Group) (spans : List Span) (n : ℕ) (us : List Update) where
-  pub total_more : (total row new : List (Option ℤ)) → HasAggregates d (puts_below spans n us) total → HasAggregates d (puts_there spans n us) row → IsMerged d.aggregates total row new → HasAggregates d (puts_below spans (suc n) us) new
+  pub total_more : (total row new : List (Option ℤ)) → HasAggregates d (puts_below spans n us) total
+      → HasAggregates d (puts_there spans n us) row → IsMerged d.aggregates total row new
+      → HasAggregates d (puts_below spans (suc n) us) new
   total_more total row new was adds is a h =
       is a h ∙ (λ i. merged (aggregate_at d.aggregates a) (was a h i) (adds a h i))
-      ∙ sym (held_parts (aggregate_at d.aggregates a) a (λ w. is_below spans n w.keys) (λ w. is_at spans n w.keys) (λ w. is_below spans (suc n) w.keys) us (split_at spans n us))
+      ∙ sym (held_parts (aggregate_at d.aggregates a) a (λ w. is_below spans n w.keys)
+      (λ w. is_at spans n w.keys) (λ w. is_below spans (suc n) w.keys) us (split_at spans n us))
 
-  pub total_stays : (total row : List (Option ℤ)) → HasRoom d us → HasAggregates d (puts_below spans n us) total → HasAggregates d (puts_there spans n us) row → MergeStays d.aggregates total row
+  pub total_stays : (total row : List (Option ℤ)) → HasRoom d us
+      → HasAggregates d (puts_below spans n us) total → HasAggregates d (puts_there spans n us) row
+      → MergeStays d.aggregates total row
   total_stays total row room was adds a h =
-      ap (leaves (aggregate_at d.aggregates a)) ((λ i. merged (aggregate_at d.aggregates a) (was a h i) (adds a h i))
-      ∙ sym (held_parts (aggregate_at d.aggregates a) a (λ w. is_below spans n w.keys) (λ w. is_at spans n w.keys) (λ w. is_below spans (suc n) w.keys) us (split_at spans n us)))
+      ap (leaves (aggregate_at d.aggregates a))
+      ((λ i. merged (aggregate_at d.aggregates a) (was a h i) (adds a h i))
+      ∙ sym (held_parts (aggregate_at d.aggregates a) a (λ w. is_below spans n w.keys)
+      (λ w. is_at spans n w.keys) (λ w. is_below spans (suc n) w.keys) us
+      (split_at spans n us)))
       ∙ held_stays d us room (is_below spans (suc n)) a h
 
   pub same_below : puts_there spans n us ≡ [] → puts_below spans (suc n) us ≡ puts_below spans n us
-  same_below none = filter_same (λ w. is_below spans (suc n) w.keys) (λ w. is_below spans n w.keys) us
-      (each_more (λ w. is_at spans n w.keys ≡ false) (λ w. is_below spans (suc n) w.keys ≡ is_below spans n w.keys)
-      (λ w apart. (one_place spans n w.keys).0 ∙ or-no (is_below spans n w.keys) (is_at spans n w.keys) apart) us (none_at spans n us none))
+  same_below none = filter_same (λ w. is_below spans (suc n) w.keys) (λ w. is_below spans n w.keys)
+      us
+      (each_more (λ w. is_at spans n w.keys ≡ false)
+      (λ w. is_below spans (suc n) w.keys ≡ is_below spans n w.keys)
+      (λ w apart. (one_place spans n w.keys).0
+      ∙ or-no (is_below spans n w.keys) (is_at spans n w.keys) apart) us
+      (none_at spans n us none))
 
 -- ---- the rows
 
@@ -150,77 +188,124 @@ and-true : (b : Bool) → (b && true) ≡ b
 and-true true = refl
 and-true false = refl
 
-filter_twice : {A : Type 0} (p r : A → Bool) (xs : List A) → filter r (filter p xs) ≡ filter (λ x. r x && p x) xs
+filter_twice : {A : Type 0} (p r : A → Bool) (xs : List A)
+    → filter r (filter p xs) ≡ filter (λ x. r x && p x) xs
 filter_twice p r [] = refl
 filter_twice p r (x ∷ xs) = by (p x) (filter_twice p r xs)
   where
-    by : (b : Bool) → filter r (filter p xs) ≡ filter (λ x. r x && p x) xs → filter r (cond b (x ∷ filter p xs) (filter p xs)) ≡ cond (r x && b) (x ∷ filter (λ x. r x && p x) xs) (filter (λ x. r x && p x) xs)
+    by : (b : Bool) → filter r (filter p xs) ≡ filter (λ x. r x && p x) xs
+        → filter r (cond b (x ∷ filter p xs) (filter p xs))
+        ≡ cond (r x && b) (x ∷ filter (λ x. r x && p x) xs) (filter (λ x. r x && p x) xs)
     by true rest = (λ i. cond (sym (and-true (r x)) i) (x ∷ rest i) (rest i))
-    by false rest = rest ∙ ap (λ b. cond b (x ∷ filter (λ x. r x && p x) xs) (filter (λ x. r x && p x) xs)) (sym (and-false (r x)))
+    by false rest = rest ∙ ap
+        (λ b. cond b (x ∷ filter (λ x. r x && p x) xs) (filter (λ x. r x && p x) xs))
+        (sym (and-false (r x)))
 
 module _ (d : Group) (spans : List Span) (us : List Update) where
-  pub rows_first : (es : List (List KeyPart × List (Option ℤ))) → ((q : List (Option KeyValue)) → IsRowOver d (puts_with q (filter (λ w. is_outside spans w.keys) us)) (row_found es q)) → AreOver d us (in_row spans 0) es
+  pub rows_first : (es : List (List KeyPart × List (Option ℤ)))
+      → ((q : List (Option KeyValue))
+      → IsRowOver d (puts_with q (filter (λ w. is_outside spans w.keys) us)) (row_found es q))
+      → AreOver d us (in_row spans 0) es
   rows_first es rows q = subst (λ ws. IsRowOver d ws (row_found es q))
       (filter_twice (λ w. is_outside spans w.keys) (λ w. key_eq q (padded 6 w.keys)) us
-      ∙ filter_same (λ w. key_eq q (padded 6 w.keys) && is_outside spans w.keys) (λ w. in_row spans 0 q w.keys) us
-      (of_each (λ w. (key_eq q (padded 6 w.keys) && is_outside spans w.keys) ≡ in_row spans 0 q w.keys) us (λ w c. ap (λ b. key_eq q (padded 6 w.keys) && b) (sym (none_below spans w.keys)))))
+      ∙ filter_same (λ w. key_eq q (padded 6 w.keys) && is_outside spans w.keys)
+      (λ w. in_row spans 0 q w.keys) us
+      (of_each (λ w. (key_eq q (padded 6 w.keys) && is_outside spans w.keys)
+      ≡ in_row spans 0 q w.keys) us
+      (λ w c. ap (λ b. key_eq q (padded 6 w.keys) && b) (sym (none_below spans w.keys)))))
       (rows q)
 
-  pub rows_last : (n : ℕ) → n ≡ places spans → (es : List (List KeyPart × List (Option ℤ))) → AreOver d us (in_row spans n) es → (q : List (Option KeyValue)) → IsRowOver d (puts_with q us) (row_found es q)
+  pub rows_last : (n : ℕ) → n ≡ places spans → (es : List (List KeyPart × List (Option ℤ)))
+      → AreOver d us (in_row spans n) es → (q : List (Option KeyValue))
+      → IsRowOver d (puts_with q us) (row_found es q)
   rows_last n same es over q = subst (λ ws. IsRowOver d ws (row_found es q))
       (filter_same (λ w. in_row spans n q w.keys) (λ w. key_eq q (padded 6 w.keys)) us
       (of_each (λ w. in_row spans n q w.keys ≡ key_eq q (padded 6 w.keys)) us
-      (λ w c. ap (λ b. key_eq q (padded 6 w.keys) && b) (all_below spans w.keys n same) ∙ and-true (key_eq q (padded 6 w.keys)))))
+      (λ w c. ap (λ b. key_eq q (padded 6 w.keys) && b) (all_below spans w.keys n same)
+      ∙ and-true (key_eq q (padded 6 w.keys)))))
       (over q)
 
   module _ (n : ℕ) where
     -- a place without puts
-    pub rows_same : puts_there spans n us ≡ [] → (es : List (List KeyPart × List (Option ℤ))) → AreOver d us (in_row spans n) es → AreOver d us (in_row spans (suc n)) es
+    pub rows_same : puts_there spans n us ≡ [] → (es : List (List KeyPart × List (Option ℤ)))
+        → AreOver d us (in_row spans n) es → AreOver d us (in_row spans (suc n)) es
     rows_same none es over q = subst (λ ws. IsRowOver d ws (row_found es q))
         (sym (filter_same (λ w. in_row spans (suc n) q w.keys) (λ w. in_row spans n q w.keys) us
-        (each_more (λ w. is_at spans n w.keys ≡ false) (λ w. in_row spans (suc n) q w.keys ≡ in_row spans n q w.keys)
-        (λ w apart. ap (λ b. key_eq q (padded 6 w.keys) && b) ((one_place spans n w.keys).0 ∙ or-no (is_below spans n w.keys) (is_at spans n w.keys) apart)) us (none_at spans n us none))))
+        (each_more (λ w. is_at spans n w.keys ≡ false)
+        (λ w. in_row spans (suc n) q w.keys ≡ in_row spans n q w.keys)
+        (λ w apart. ap (λ b. key_eq q (padded 6 w.keys) && b)
+        ((one_place spans n w.keys).0
+        ∙ or-no (is_below spans n w.keys) (is_at spans n w.keys) apart)) us
+        (none_at spans n us none))))
         (over q)
 
-    parts : (k b a c : Bool) → c ≡ (b || a) → (b && a) ≡ false → (a ≡ true → k ≡ true) → ((k && c) ≡ ((k && b) || a)) × (((k && b) && a) ≡ false)
+    parts : (k b a c : Bool) → c ≡ (b || a) → (b && a) ≡ false → (a ≡ true → k ≡ true)
+        → ((k && c) ≡ ((k && b) || a)) × (((k && b) && a) ≡ false)
     parts k true true c e never own = absurd (true≢false never)
     parts true b false c e never own = (e, never)
     parts false b false c e never own = (refl, refl)
-    parts k false true c e never own = subst (λ j. ((j && c) ≡ ((j && false) || true)) × (((j && false) && true) ≡ false)) (sym (own refl)) (e, refl)
+    parts k false true c e never own =
+        subst (λ j. ((j && c) ≡ ((j && false) || true)) × (((j && false) && true) ≡ false))
+        (sym (own refl)) (e, refl)
 
-    module _ (key : List KeyPart) (own : (keys : List KeyValue) → is_at spans n keys ≡ true → padded 6 keys ≡ key_view key) (row : List (Option ℤ)) (adds : IsRowOver d (puts_there spans n us) (Some row)) where
-      split_row : (q : List (Option KeyValue)) → q ≡ key_view key → AreSplit (λ w. in_row spans n q w.keys) (λ w. is_at spans n w.keys) (λ w. in_row spans (suc n) q w.keys) us
-      split_row q is = of_each (λ w. (in_row spans (suc n) q w.keys ≡ (in_row spans n q w.keys || is_at spans n w.keys)) × ((in_row spans n q w.keys && is_at spans n w.keys) ≡ false)) us
+    module _ (key : List KeyPart)
+        (own : (keys : List KeyValue) → is_at spans n keys ≡ true → padded 6 keys ≡ key_view key)
+        (row : List (Option ℤ)) (adds : IsRowOver d (puts_there spans n us) (Some row)) where
+      split_row : (q : List (Option KeyValue)) → q ≡ key_view key
+          → AreSplit (λ w. in_row spans n q w.keys) (λ w. is_at spans n w.keys)
+          (λ w. in_row spans (suc n) q w.keys) us
+      split_row q is = of_each
+          (λ w. (in_row spans (suc n) q w.keys ≡ (in_row spans n q w.keys || is_at spans n w.keys))
+          × ((in_row spans n q w.keys && is_at spans n w.keys) ≡ false)) us
           (λ w c. let one = one_place spans n w.keys in
-          parts (key_eq q (padded 6 w.keys)) (is_below spans n w.keys) (is_at spans n w.keys) (is_below spans (suc n) w.keys) one.0 one.1
+          parts (key_eq q (padded 6 w.keys)) (is_below spans n w.keys) (is_at spans n w.keys)
+          (is_below spans (suc n) w.keys) one.0 one.1
           (λ at. (key_decides q (padded 6 w.keys)).1 (is ∙ sym (own w.keys at))))
 
-      pub row_stays : HasRoom d us → (es : List (List KeyPart × List (Option ℤ))) → AreOver d us (in_row spans n) es → RowsStay d.aggregates (row_found es (key_view key)) row
+      pub row_stays : HasRoom d us → (es : List (List KeyPart × List (Option ℤ)))
+          → AreOver d us (in_row spans n) es
+          → RowsStay d.aggregates (row_found es (key_view key)) row
       row_stays room es over = by (row_found es (key_view key)) (over (key_view key))
         where
-          by : (found : Option (List (Option ℤ))) → IsRowOver d (filter (λ w. in_row spans n (key_view key) w.keys) us) found → RowsStay d.aggregates found row
+          by : (found : Option (List (Option ℤ)))
+              → IsRowOver d (filter (λ w. in_row spans n (key_view key) w.keys) us) found
+              → RowsStay d.aggregates found row
           by None was = tt
           by (Some held_row) was = λ a h.
-              ap (leaves (aggregate_at d.aggregates a)) ((λ i. merged (aggregate_at d.aggregates a) (was.1 a h i) (adds.1 a h i))
-              ∙ sym (held_parts (aggregate_at d.aggregates a) a (λ w. in_row spans n (key_view key) w.keys) (λ w. is_at spans n w.keys) (λ w. in_row spans (suc n) (key_view key) w.keys) us (split_row (key_view key) refl)))
+              ap (leaves (aggregate_at d.aggregates a))
+              ((λ i. merged (aggregate_at d.aggregates a) (was.1 a h i) (adds.1 a h i))
+              ∙ sym (held_parts (aggregate_at d.aggregates a) a
+              (λ w. in_row spans n (key_view key) w.keys) (λ w. is_at spans n w.keys)
+              (λ w. in_row spans (suc n) (key_view key) w.keys) us
+              (split_row (key_view key) refl)))
               ∙ held_stays d us room (in_row spans (suc n) (key_view key)) a h
 
       apart : (k b a c : Bool) → c ≡ (b || a) → (a ≡ true → k ≡ false) → (k && c) ≡ (k && b)
       apart k b true c e other = subst (λ j. (j && c) ≡ (j && b)) (sym (other refl)) refl
       apart k b false c e other = ap (λ x. k && x) (e ∙ or-no b false refl)
 
-      pub rows_more : (es fs : List (List KeyPart × List (Option ℤ))) → IsMergedAt d.aggregates (key_view key) row es fs → AreOver d us (in_row spans n) es → AreOver d us (in_row spans (suc n)) fs
+      pub rows_more : (es fs : List (List KeyPart × List (Option ℤ)))
+          → IsMergedAt d.aggregates (key_view key) row es fs → AreOver d us (in_row spans n) es
+          → AreOver d us (in_row spans (suc n)) fs
       rows_more es fs at over q = by (key_eq q (key_view key)) refl
         where
-          by : (b : Bool) → key_eq q (key_view key) ≡ b → IsRowOver d (filter (λ w. in_row spans (suc n) q w.keys) us) (row_found fs q)
+          by : (b : Bool) → key_eq q (key_view key) ≡ b
+              → IsRowOver d (filter (λ w. in_row spans (suc n) q w.keys) us) (row_found fs q)
           by true same =
               let is : q ≡ key_view key = (key_decides q (key_view key)).0 same in
-              over_parts d us (λ w. in_row spans n q w.keys) (λ w. is_at spans n w.keys) (λ w. in_row spans (suc n) q w.keys) (row_found es q) (row_found fs q) row (split_row q is) (over q) adds (own_row d.aggregates (key_view key) row es fs at q is)
-          by false other = subst (IsRowOver d (filter (λ w. in_row spans (suc n) q w.keys) us)) (sym (other_row d.aggregates (key_view key) row es fs at q other))
+              over_parts d us (λ w. in_row spans n q w.keys) (λ w. is_at spans n w.keys)
+              (λ w. in_row spans (suc n) q w.keys) (row_found es q) (row_found fs q) row
+              (split_row q is) (over q) adds
+              (own_row d.aggregates (key_view key) row es fs at q is)
+          by false other = subst (IsRowOver d (filter (λ w. in_row spans (suc n) q w.keys) us))
+              (sym (other_row d.aggregates (key_view key) row es fs at q other))
               (subst (λ ws. IsRowOver d ws (row_found es q))
-              (sym (filter_same (λ w. in_row spans (suc n) q w.keys) (λ w. in_row spans n q w.keys) us
+              (sym (filter_same (λ w. in_row spans (suc n) q w.keys) (λ w. in_row spans n q w.keys)
+              us
               (of_each (λ w. in_row spans (suc n) q w.keys ≡ in_row spans n q w.keys) us
-              (λ w c. apart (key_eq q (padded 6 w.keys)) (is_below spans n w.keys) (is_at spans n w.keys) (is_below spans (suc n) w.keys) (one_place spans n w.keys).0
+              (λ w c. apart (key_eq q (padded 6 w.keys)) (is_below spans n w.keys)
+              (is_at spans n w.keys) (is_below spans (suc n) w.keys)
+              (one_place spans n w.keys).0
               (λ there. ap (key_eq q) (own w.keys there) ∙ other)))))
               (over q))
 
@@ -230,79 +315,132 @@ at_is : (r : Option ℕ) (n : ℕ) → option_eq nat_eq r (Some n) ≡ true → 
 at_is None n e = absurd (true≢false (sym e))
 at_is (Some p) n e = ap Some (eqb-true p n e)
 
-pub own_place : (spans : List Span) (n : ℕ) (keys : List KeyValue) → is_at spans n keys ≡ true → cell_place spans keys ≡ Some n
+pub own_place : (spans : List Span) (n : ℕ) (keys : List KeyValue) → is_at spans n keys ≡ true
+    → cell_place spans keys ≡ Some n
 own_place spans n keys e = at_is (cell_place spans keys) n e
 
 -- ---- the rows of the first places merged in, one after another
 
-abbrev pub IsFilled : List Aggregate → List Span → List Bool → List ℤ → List (List KeyPart × List (Option ℤ)) → ℕ → List (List KeyPart × List (Option ℤ)) → Type 0
-IsFilled gs spans seen cells es n fs = (shape : Shape) (total : List (Option ℤ)) (puts : List Update)
+abbrev pub IsFilled : List Aggregate → List Span → List Bool → List ℤ
+    → List (List KeyPart × List (Option ℤ)) → ℕ → List (List KeyPart × List (Option ℤ)) → Type 0
+IsFilled gs spans seen cells es n fs =
+    (shape : Shape) (total : List (Option ℤ)) (puts : List Update)
     → IsPlaced (group_with shape (length spans) gs) spans seen cells es total puts
     → AreOver (group_with shape (length spans) gs) puts (in_row spans n) fs
 
-module _ (gs : List Aggregate) (spans : List Span) (seen : List Bool) (cells : List ℤ) (es : List (List KeyPart × List (Option ℤ))) where
+module _ (gs : List Aggregate) (spans : List Span) (seen : List Bool) (cells : List ℤ)
+    (es : List (List KeyPart × List (Option ℤ))) where
   pub fill_start : IsFilled gs spans seen cells es 0 es
-  fill_start shape total puts is = rows_first (group_with shape (length spans) gs) spans puts es is.rest.rows
+  fill_start shape total puts is =
+      rows_first (group_with shape (length spans) gs) spans puts es is.rest.rows
 
-  pub fill_end : (n : ℕ) → n ≡ places spans → (fs : List (List KeyPart × List (Option ℤ))) → IsFilled gs spans seen cells es n fs → (shape : Shape) (total : List (Option ℤ)) (puts : List Update)
-      → IsPlaced (group_with shape (length spans) gs) spans seen cells es total puts → (q : List (Option KeyValue)) → IsRowOver (group_with shape (length spans) gs) (puts_with q puts) (row_found fs q)
-  fill_end n same fs filled shape total puts is = rows_last (group_with shape (length spans) gs) spans puts n same fs (filled shape total puts is)
+  pub fill_end : (n : ℕ) → n ≡ places spans → (fs : List (List KeyPart × List (Option ℤ)))
+      → IsFilled gs spans seen cells es n fs
+      → (shape : Shape) (total : List (Option ℤ)) (puts : List Update)
+      → IsPlaced (group_with shape (length spans) gs) spans seen cells es total puts
+      → (q : List (Option KeyValue))
+      → IsRowOver (group_with shape (length spans) gs) (puts_with q puts) (row_found fs q)
+  fill_end n same fs filled shape total puts is =
+      rows_last (group_with shape (length spans) gs) spans puts n same fs
+      (filled shape total puts is)
 
-  module _ (long : length cells ≡ length gs * length seen) (n : ℕ) (here : n < length seen) (fs : List (List KeyPart × List (Option ℤ))) (filled : IsFilled gs spans seen cells es n fs) where
-    wide : (shape : Shape) (a : ℕ) → a < length gs → length (column (group_with shape (length spans) gs) seen cells a) ≡ length seen
+  module _ (long : length cells ≡ length gs * length seen) (n : ℕ) (here : n < length seen)
+      (fs : List (List KeyPart × List (Option ℤ)))
+      (filled : IsFilled gs spans seen cells es n fs) where
+    wide : (shape : Shape) (a : ℕ) → a < length gs
+        → length (aggregate_cells (group_with shape (length spans) gs) seen cells a) ≡ length seen
     wide shape a h = cut_wide (length seen) (length gs) cells a long h
 
     pub fill_skip : get_or seen n false ≡ false → IsFilled gs spans seen cells es (suc n) fs
     fill_skip marked shape total puts is =
         let d = group_with shape (length spans) gs in
-        rows_same d spans puts n (none_there d spans seen cells es total puts is n here (wide shape) marked) fs (filled shape total puts is)
+        rows_same d spans puts n
+        (none_there d spans seen cells es total puts is n here (wide shape) marked) fs
+        (filled shape total puts is)
 
-    module _ (key : List KeyPart) (own : (keys : List KeyValue) → cell_place spans keys ≡ Some n → key_view key ≡ padded 6 keys) (row : List (Option ℤ)) (marked : get_or seen n false ≡ true)
-        (at : (a : ℕ) → a < length gs → get_or row a None ≡ Some (get_or (get_or (cut (length seen) (length gs) cells) a []) n (pos 0))) where
+    module _ (key : List KeyPart)
+        (own : (keys : List KeyValue) → cell_place spans keys ≡ Some n
+        → key_view key ≡ padded 6 keys) (row : List (Option ℤ))
+        (marked : get_or seen n false ≡ true)
+        (at : (a : ℕ) → a < length gs
+        → get_or row a None ≡ Some
+        (get_or (get_or (cut (length seen) (length gs) cells) a []) n (pos 0))) where
       owned : (keys : List KeyValue) → is_at spans n keys ≡ true → padded 6 keys ≡ key_view key
       owned keys e = sym (own keys (own_place spans n keys e))
 
-      pub fill_more : (hs : List (List KeyPart × List (Option ℤ))) → IsMergedAt gs (key_view key) row fs hs → IsFilled gs spans seen cells es (suc n) hs
+      pub fill_more : (hs : List (List KeyPart × List (Option ℤ)))
+          → IsMergedAt gs (key_view key) row fs hs → IsFilled gs spans seen cells es (suc n) hs
       fill_more hs merged shape total puts is =
           let d = group_with shape (length spans) gs in
-          rows_more d spans puts n key owned row (row_there d spans seen cells es total puts is n here (wide shape) row marked at) fs hs merged (filled shape total puts is)
+          rows_more d spans puts n key owned row
+          (row_there d spans seen cells es total puts is n here (wide shape) row marked at) fs
+          hs merged (filled shape total puts is)
 
-      pub fill_stays : (shape : Shape) (total : List (Option ℤ)) → IsPlacedWithRoom (group_with shape (length spans) gs) spans seen cells es total → RowsStay gs (row_found fs (key_view key)) row
-      fill_stays shape total room = ∥∥₁_elim room (stay_prop gs (row_found fs (key_view key)) row) by
+      pub fill_stays : (shape : Shape) (total : List (Option ℤ))
+          → IsPlacedWithRoom (group_with shape (length spans) gs) spans seen cells es total
+          → RowsStay gs (row_found fs (key_view key)) row
+      fill_stays shape total room =
+          ∥∥₁_elim room (stay_prop gs (row_found fs (key_view key)) row) by
         where
-          by : (puts : List Update) × IsPlaced (group_with shape (length spans) gs) spans seen cells es total puts × HasRoom (group_with shape (length spans) gs) puts → RowsStay gs (row_found fs (key_view key)) row
+          by : (puts : List Update)
+              × IsPlaced (group_with shape (length spans) gs) spans seen cells es total puts
+              × HasRoom (group_with shape (length spans) gs) puts
+              → RowsStay gs (row_found fs (key_view key)) row
           by r =
               let d = group_with shape (length spans) gs in
-              row_stays d spans r.0 n key owned row (row_there d spans seen cells es total r.0 r.1 n here (wide shape) row marked at) r.2 fs (filled shape total r.0 r.1)
+              row_stays d spans r.0 n key owned row
+              (row_there d spans seen cells es total r.0 r.1 n here (wide shape) row marked at)
+              r.2 fs (filled shape total r.0 r.1)
 
 -- ---- the total, with the rows of the first places merged in
 
-abbrev pub IsSummed : Group → List Span → List Bool → List ℤ → List (List KeyPart × List (Option ℤ)) → List (Option ℤ) → ℕ → List (Option ℤ) → Type 0
-IsSummed d spans seen cells es all n total = (puts : List Update) → IsPlaced d spans seen cells es all puts → HasAggregates d (puts_below spans n puts) total
+abbrev pub IsSummed : Group → List Span → List Bool → List ℤ → List (List KeyPart × List (Option ℤ))
+    → List (Option ℤ) → ℕ → List (Option ℤ) → Type 0
+IsSummed d spans seen cells es all n total =
+    (puts : List Update) → IsPlaced d spans seen cells es all puts
+    → HasAggregates d (puts_below spans n puts) total
 
-module _ (d : Group) (spans : List Span) (seen : List Bool) (cells : List ℤ) (es : List (List KeyPart × List (Option ℤ))) (all : List (Option ℤ)) where
+module _ (d : Group) (spans : List Span) (seen : List Bool) (cells : List ℤ)
+    (es : List (List KeyPart × List (Option ℤ))) (all : List (Option ℤ)) where
   pub sum_start : IsSummed d spans seen cells es all 0 all
   sum_start puts is = subst (λ ws. HasAggregates d ws all)
       (filter_same (λ w. is_outside spans w.keys) (λ w. is_below spans 0 w.keys) puts
-      (of_each (λ w. is_outside spans w.keys ≡ is_below spans 0 w.keys) puts (λ w c. sym (none_below spans w.keys))))
+      (of_each (λ w. is_outside spans w.keys ≡ is_below spans 0 w.keys) puts
+      (λ w c. sym (none_below spans w.keys))))
       is.rest.total
 
-  pub sum_end : (n : ℕ) → n ≡ places spans → (total : List (Option ℤ)) → IsSummed d spans seen cells es all n total → (puts : List Update) → IsPlaced d spans seen cells es all puts → HasAggregates d puts total
-  sum_end n same total summed puts is = subst (λ ws. HasAggregates d ws total) (all_puts spans n puts same) (summed puts is)
+  pub sum_end : (n : ℕ) → n ≡ places spans → (total : List (Option ℤ))
+      → IsSummed d spans seen cells es all n total → (puts : List Update)
+      → IsPlaced d spans seen cells es all puts → HasAggregates d puts total
+  sum_end n same total summed puts is =
+      subst (λ ws. HasAggregates d ws total) (all_puts spans n puts same) (summed puts is)
 
-  module _ (long : length cells ≡ length d.aggregates * length seen) (n : ℕ) (here : n < length seen) (total : List (Option ℤ)) (summed : IsSummed d spans seen cells es all n total) where
-    each_wide : (a : ℕ) → a < length d.aggregates → length (column d seen cells a) ≡ length seen
+  module _ (long : length cells ≡ length d.aggregates * length seen) (n : ℕ)
+      (here : n < length seen) (total : List (Option ℤ))
+      (summed : IsSummed d spans seen cells es all n total) where
+    each_wide : (a : ℕ) → a < length d.aggregates
+        → length (aggregate_cells d seen cells a) ≡ length seen
     each_wide a h = cut_wide (length seen) (length d.aggregates) cells a long h
 
     pub sum_skip : get_or seen n false ≡ false → IsSummed d spans seen cells es all (suc n) total
-    sum_skip marked puts is = subst (λ ws. HasAggregates d ws total) (sym (same_below d spans n puts (none_there d spans seen cells es all puts is n here each_wide marked))) (summed puts is)
+    sum_skip marked puts is =
+        subst (λ ws. HasAggregates d ws total)
+        (sym (same_below d spans n puts
+        (none_there d spans seen cells es all puts is n here each_wide marked))) (summed puts is)
 
-    module _ (row : List (Option ℤ)) (marked : get_or seen n false ≡ true) (at : IsRowAt d seen cells n row) where
-      pub sum_more : (new : List (Option ℤ)) → IsMerged d.aggregates total row new → IsSummed d spans seen cells es all (suc n) new
-      sum_more new merges puts is = total_more d spans n puts total row new (summed puts is) (row_there d spans seen cells es all puts is n here each_wide row marked at).1 merges
+    module _ (row : List (Option ℤ)) (marked : get_or seen n false ≡ true)
+        (at : IsRowAt d seen cells n row) where
+      pub sum_more : (new : List (Option ℤ)) → IsMerged d.aggregates total row new
+          → IsSummed d spans seen cells es all (suc n) new
+      sum_more new merges puts is =
+          total_more d spans n puts total row new (summed puts is)
+          (row_there d spans seen cells es all puts is n here each_wide row marked at).1 merges
 
       pub sum_stays : IsPlacedWithRoom d spans seen cells es all → MergeStays d.aggregates total row
-      sum_stays room = ∥∥₁_elim room (let prop : IsProp (MergeStays d.aggregates total row) = hlevel Bool-set in prop) by
+      sum_stays room = ∥∥₁_elim room
+          (let prop : IsProp (MergeStays d.aggregates total row) = hlevel Bool-set in prop) by
         where
-          by : (puts : List Update) × IsPlaced d spans seen cells es all puts × HasRoom d puts → MergeStays d.aggregates total row
-          by r = total_stays d spans n r.0 total row r.2 (summed r.0 r.1) (row_there d spans seen cells es all r.0 r.1 n here each_wide row marked at).1
+          by : (puts : List Update) × IsPlaced d spans seen cells es all puts × HasRoom d puts
+              → MergeStays d.aggregates total row
+          by r = total_stays d spans n r.0 total row r.2 (summed r.0 r.1)
+              (row_there d spans seen cells es all r.0 r.1 n here each_wide row marked at).1

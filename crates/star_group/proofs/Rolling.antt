@@ -1,5 +1,6 @@
 -- The rows with one more place that may be ALL.
-use Rattle.std.proofs.Common.{◌≡◌, ℕ, zero, suc, ◌+◌, ◌-◌, ◌<◌, ◌≤◌, Bool, true, false, not, ◌&&◌, ◌||◌, ℤ, List, [], ◌∷◌, ◌++◌, Option, Some, None, length, get_or, set, slice_get, map, take, drop, ap, sym, ◌∙◌, subst, refl, true≢false, arith, MatchBool}
+use Rattle.std.proofs.Common.{◌≡◌, ℕ, zero, suc, ◌+◌, ◌-◌, ◌<◌, ◌≤◌, Bool, true, false, not, ◌&&◌, ◌||◌, ℤ, List, [], ◌∷◌, ◌++◌, Option, Some}
+use Rattle.std.proofs.Common.{None, length, get_or, set, slice_get, map, take, drop, ap, sym, ◌∙◌, subst, refl, true≢false, arith, MatchBool}
 use Rattle.std.specs.List.{filter, list_any, Contains, AllByRecursion}
 use Rattle.std.proofs.lemmas.List.{append_cancel_left}
 use Rattle.std.proofs.lemmas.List.Folds.{Any-from_list_any, list_any-append, list_any-from_Any}
@@ -45,7 +46,8 @@ module _ (place count : ℕ) (ks : List KeyValue) (within : place < count) (few 
   wide : place < length (padded 6 ks)
   wide = omega (arith, length-padded 6 ks)
 
-  pub keys_more : keys_from (place + 1) count ks ++ map (hide place) (keys_from (place + 1) count ks) ≡ keys_from place count ks
+  pub keys_more : keys_from (place + 1) count ks
+      ++ map (hide place) (keys_from (place + 1) count ks) ≡ keys_from place count ks
   keys_more =
       let later : count - place ≡ suc (count - suc place) = omega arith in
       let next : place + 1 ≡ suc place = omega arith in
@@ -56,14 +58,22 @@ module _ (place count : ℕ) (ks : List KeyValue) (within : place < count) (few 
     pub rest : List (Option KeyValue)
     pub is : k ≡ take (suc place) (padded 6 ks) ++ rest
 
-  begins : (k : List (Option KeyValue)) → list_any (key_eq k) (keys_from (place + 1) count ks) ≡ true → Begins k
+  begins : (k : List (Option KeyValue))
+      → list_any (key_eq k) (keys_from (place + 1) count ks) ≡ true → Begins k
   begins k h =
       let next : place + 1 ≡ suc place = omega arith in
       let some = some_at (key_eq k) (keys_from (place + 1) count ks) h in
-      let at = mapped (λ rest. take (place + 1) (padded 6 ks) ++ rest) (vary (count - (place + 1)) (drop (place + 1) (padded 6 ks))) some.0 some.1 some.2 in
-      record { rest = at.0; is = (key_decides k some.1).0 some.3 ∙ sym at.2 ∙ ap (λ n. take n (padded 6 ks) ++ at.0) next }
+      let at = mapped (λ rest. take (place + 1) (padded 6 ks) ++ rest)
+      (vary (count - (place + 1)) (drop (place + 1) (padded 6 ks))) some.0 some.1 some.2 in
+      record {
+        rest = at.0;
+        is =
+            (key_decides k some.1).0 some.3 ∙ sym at.2
+            ∙ ap (λ n. take n (padded 6 ks) ++ at.0) next;
+      }
 
-  hidden_is : (k : List (Option KeyValue)) (b : Begins k) → hide place k ≡ take place (padded 6 ks) ++ None ∷ b.rest
+  hidden_is : (k : List (Option KeyValue)) (b : Begins k)
+      → hide place k ≡ take place (padded 6 ks) ++ None ∷ b.rest
   hidden_is k b = ap (hide place) b.is ∙ set_there (padded 6 ks) place None b.rest wide
 
 -- a hidden key and the one that is shown in its place, behind keys that are shown
@@ -74,24 +84,39 @@ record Apart (count : ℕ) (hides shows : List (Option KeyValue)) : Type 0 where
   pub hidden_key : take count hides ≡ map Some shown ++ (None ∷ rest)
   pub shown_key : take count shows ≡ map Some shown ++ (Some key ∷ rest)
 
-apart_at : (n count place : ℕ) (ks : List KeyValue) (rest : List (Option KeyValue)) → place < length ks → length ks ≤ n → place < count
+apart_at : (n count place : ℕ) (ks : List KeyValue) (rest : List (Option KeyValue))
+    → place < length ks → length ks ≤ n → place < count
     → Apart count (take place (padded n ks) ++ None ∷ rest) (take (suc place) (padded n ks) ++ rest)
 unfolding padded
 apart_at n count place [] rest h few within = absurd (omega (arith, h))
 apart_at zero count place (k ∷ ks) rest h few within = absurd (omega (arith, few))
 apart_at (suc n) zero place (k ∷ ks) rest h few within = absurd (omega (arith, within))
-apart_at (suc n) (suc count) zero (k ∷ ks) rest h few within = record { shown = []; key = k; rest = take count rest; hidden_key = refl; shown_key = refl }
+apart_at (suc n) (suc count) zero (k ∷ ks) rest h few within =
+    record { shown = []; key = k; rest = take count rest; hidden_key = refl; shown_key = refl }
 apart_at (suc n) (suc count) (suc place) (k ∷ ks) rest h few within =
-    let a = apart_at n count place ks rest (omega (arith, h)) (omega (arith, few)) (omega (arith, within)) in
-    record { shown = k ∷ a.shown; key = a.key; rest = a.rest; hidden_key = ap (λ q. Some k ∷ q) a.hidden_key; shown_key = ap (λ q. Some k ∷ q) a.shown_key }
+    let a = apart_at n count place ks rest (omega (arith, h)) (omega (arith, few))
+    (omega (arith, within)) in
+    record {
+      shown = k ∷ a.shown;
+      key = a.key;
+      rest = a.rest;
+      hidden_key =
+          ap (λ q. Some k ∷ q) a.hidden_key;
+      shown_key = ap (λ q. Some k ∷ q) a.shown_key;
+    }
 
 -- where the coarser key is a grouping, so is the key
-finer_key : (s : Shape) (place count : ℕ) (ks : List KeyValue) (within : place < count) (few : count ≤ 6) → length ks ≡ count → (k : List (Option KeyValue)) (b : Begins place count ks within few k)
+finer_key : (s : Shape) (place count : ℕ) (ks : List KeyValue) (within : place < count)
+    (few : count ≤ 6) → length ks ≡ count
+    → (k : List (Option KeyValue)) (b : Begins place count ks within few k)
     → is_grouping s (take count (hide place k)) ≡ true → is_grouping s (take count k) ≡ true
 finer_key s place count ks within few fits k b h =
-    let a = apart_at 6 count place ks b.rest (omega (arith, within, fits)) (omega (arith, few, fits)) within in
-    let hides : take count (hide place k) ≡ map Some a.shown ++ (None ∷ a.rest) = ap (take count) (hidden_is place count ks within few k b) ∙ a.hidden_key in
-    ap (is_grouping s) (ap (take count) b.is ∙ a.shown_key) ∙ finer s a.shown a.key a.rest (sym (ap (is_grouping s) hides) ∙ h)
+    let a = apart_at 6 count place ks b.rest (omega (arith, within, fits))
+    (omega (arith, few, fits)) within in
+    let hides : take count (hide place k) ≡ map Some a.shown ++ (None ∷ a.rest) =
+    ap (take count) (hidden_is place count ks within few k b) ∙ a.hidden_key in
+    ap (is_grouping s) (ap (take count) b.is ∙ a.shown_key)
+    ∙ finer s a.shown a.key a.rest (sym (ap (is_grouping s) hides) ∙ h)
 
 hide_all : (n place : ℕ) → set (padded n []) place None ≡ padded n []
 unfolding padded
@@ -100,71 +125,108 @@ hide_all (suc n) zero = refl
 hide_all (suc n) (suc place) = ap (λ q. None ∷ q) (hide_all n place)
 
 -- where a row has the coarser key, one has the key
-finer_row : (s : Shape) (place count : ℕ) (ks : List KeyValue) (within : place < count) (few : count ≤ 6) → length ks ≡ count → (k : List (Option KeyValue)) (b : Begins place count ks within few k)
+finer_row : (s : Shape) (place count : ℕ) (ks : List KeyValue) (within : place < count)
+    (few : count ≤ 6) → length ks ≡ count
+    → (k : List (Option KeyValue)) (b : Begins place count ks within few k)
     → is_row_key s count (hide place k) ≡ true → is_row_key s count k ≡ true
 finer_row s place count ks within few fits k b h = by (key_eq k (padded 6 [])) refl
   where
-    both : (not (key_eq (hide place k) (padded 6 [])) ≡ true) × (is_grouping s (take count (hide place k)) ≡ true)
-    both = and_parts (not (key_eq (hide place k) (padded 6 []))) (is_grouping s (take count (hide place k))) h
+    both : (not (key_eq (hide place k) (padded 6 [])) ≡ true)
+        × (is_grouping s (take count (hide place k)) ≡ true)
+    both = and_parts (not (key_eq (hide place k) (padded 6 [])))
+        (is_grouping s (take count (hide place k))) h
 
     by : (c : Bool) → key_eq k (padded 6 []) ≡ c → is_row_key s count k ≡ true
-    by false other = ap (λ c. not c && is_grouping s (take count k)) other ∙ finer_key s place count ks within few fits k b both.1
+    by false other = ap (λ c. not c && is_grouping s (take count k)) other
+        ∙ finer_key s place count ks within few fits k b both.1
     by true all =
-        let hides : hide place k ≡ padded 6 [] = ap (hide place) ((key_decides k (padded 6 [])).0 all) ∙ hide_all 6 place in
-        absurd (true≢false (sym both.0 ∙ ap not ((key_decides (hide place k) (padded 6 [])).1 hides)))
+        let hides : hide place k ≡ padded 6 [] =
+        ap (hide place) ((key_decides k (padded 6 [])).0 all) ∙ hide_all 6 place in
+        absurd (true≢false (sym both.0
+        ∙ ap not ((key_decides (hide place k) (padded 6 [])).1 hides)))
 
 -- the keys of a put's rows, with one place more that may be hidden
-pub row_keys_more : (s : Shape) (place count : ℕ) (ks : List KeyValue) → place < count → count ≤ 6 → length ks ≡ count → (xs ys : List (List (Option KeyValue)))
-    → xs ≡ filter (is_row_key s count) (keys_from (place + 1) count ks) → ys ≡ xs ++ filter (is_row_key s count) (map (hide place) xs)
+pub row_keys_more : (s : Shape) (place count : ℕ) (ks : List KeyValue) → place < count → count ≤ 6
+    → length ks ≡ count → (xs ys : List (List (Option KeyValue)))
+    → xs ≡ filter (is_row_key s count) (keys_from (place + 1) count ks)
+    → ys ≡ xs ++ filter (is_row_key s count) (map (hide place) xs)
     → ys ≡ filter (is_row_key s count) (keys_from place count ks)
 row_keys_more s place count ks within few fits xs ys e f =
     let own : List (List (Option KeyValue)) = keys_from (place + 1) count ks in
     let G : List (Option KeyValue) → Bool = is_row_key s count in
     let left = kept_before G (hide place) own
     (of_each (λ k. G (hide place k) ≡ true → G k ≡ true) own
-    (λ k c h. finer_row s place count ks within few fits k (begins place count ks within few k (list_any-from_Contains key_equiv k own c)) h)) in
+    (λ k c h. finer_row s place count ks within few fits k
+    (begins place count ks within few k (list_any-from_Contains key_equiv k own c)) h)) in
     f ∙ (λ i. e i ++ filter G (map (hide place) (e i))) ∙ ap (λ l. filter G own ++ l) (sym left)
-    ∙ sym (filter-append G own (map (hide place) own)) ∙ ap (filter G) (keys_more place count ks within few)
+    ∙ sym (filter-append G own (map (hide place) own))
+    ∙ ap (filter G) (keys_more place count ks within few)
 
-shown_key : (n : ℕ) (ks : List KeyValue) (p : ℕ) → p < length ks → length ks ≤ n → get_or (padded n ks) p None ≡ None → ⊥
+shown_key : (n : ℕ) (ks : List KeyValue) (p : ℕ) → p < length ks → length ks ≤ n
+    → get_or (padded n ks) p None ≡ None → ⊥
 unfolding padded
 shown_key n [] p h few e = omega (arith, h)
 shown_key zero (k ∷ ks) p h few e = omega (arith, few)
 shown_key (suc n) (k ∷ ks) zero h few e = cc e
-shown_key (suc n) (k ∷ ks) (suc p) h few e = shown_key n ks p (omega (arith, h)) (omega (arith, few)) e
+shown_key (suc n) (k ∷ ks) (suc p) h few e =
+    shown_key n ks p (omega (arith, h)) (omega (arith, few)) e
 
-in_keys : (s : Shape) (place count : ℕ) (q : List (Option KeyValue)) (ks : List KeyValue) → is_among s place count q ks ≡ true → list_any (key_eq q) (keys_from place count ks) ≡ true
-in_keys s place count q ks h = (and_parts (is_grouping s (take count q)) (list_any (key_eq q) (keys_from place count ks)) h).1
+in_keys : (s : Shape) (place count : ℕ) (q : List (Option KeyValue)) (ks : List KeyValue)
+    → is_among s place count q ks ≡ true → list_any (key_eq q) (keys_from place count ks) ≡ true
+in_keys s place count q ks h =
+    (and_parts (is_grouping s (take count q)) (list_any (key_eq q) (keys_from place count ks)) h).1
 
-pub keys_apart : (s : Shape) (us : List Update) (place count : ℕ) → place < count → count ≤ 6 → AllByRecursion (λ u. length u.keys ≡ count) us → AreApart us (λ q ks. is_among s (place + 1) count q ks) (hide place)
+pub keys_apart : (s : Shape) (us : List Update) (place count : ℕ) → place < count → count ≤ 6
+    → AllByRecursion (λ u. length u.keys ≡ count) us
+    → AreApart us (λ q ks. is_among s (place + 1) count q ks) (hide place)
 keys_apart s us place count within few fit = record {
-  differ = λ u c k l in_k in_l same. differ u c k l (in_keys s (place + 1) count k u.keys in_k) (in_keys s (place + 1) count l u.keys in_l) same;
-  new = λ u c k in_k in_hidden. new u c k (in_keys s (place + 1) count k u.keys in_k) (in_keys s (place + 1) count (hide place k) u.keys in_hidden);
+  differ = λ u c k l in_k in_l same.
+      differ u c k l (in_keys s (place + 1) count k u.keys in_k)
+      (in_keys s (place + 1) count l u.keys in_l) same;
+  new = λ u c k in_k in_hidden.
+      new u c k (in_keys s (place + 1) count k u.keys in_k)
+      (in_keys s (place + 1) count (hide place k) u.keys in_hidden);
 }
   where
-    differ : (u : Update) → Contains us u → (k l : List (Option KeyValue)) → list_any (key_eq k) (keys_from (place + 1) count u.keys) ≡ true → list_any (key_eq l) (keys_from (place + 1) count u.keys) ≡ true → hide place k ≡ hide place l → k ≡ l
+    differ : (u : Update) → Contains us u → (k l : List (Option KeyValue))
+        → list_any (key_eq k) (keys_from (place + 1) count u.keys) ≡ true
+        → list_any (key_eq l) (keys_from (place + 1) count u.keys) ≡ true
+        → hide place k ≡ hide place l → k ≡ l
     differ u c k l in_k in_l same =
         let b = begins place count u.keys within few k in_k in
         let d = begins place count u.keys within few l in_l in
-        let both : take place (padded 6 u.keys) ++ (None ∷ b.rest) ≡ take place (padded 6 u.keys) ++ (None ∷ d.rest) = sym (hidden_is place count u.keys within few k b) ∙ same ∙ hidden_is place count u.keys within few l d in
-        let tails : None ∷ b.rest ≡ None ∷ d.rest = append_cancel_left (take place (padded 6 u.keys)) (None ∷ b.rest) (None ∷ d.rest) both in
+        let both : take place (padded 6 u.keys) ++ (None ∷ b.rest)
+        ≡ take place (padded 6 u.keys) ++ (None ∷ d.rest) =
+        sym (hidden_is place count u.keys within few k b) ∙ same
+        ∙ hidden_is place count u.keys within few l d in
+        let tails : None ∷ b.rest ≡ None ∷ d.rest =
+        append_cancel_left (take place (padded 6 u.keys)) (None ∷ b.rest) (None ∷ d.rest)
+        both in
         let rests : b.rest ≡ d.rest = cc tails in
         b.is ∙ ap (λ r. take (suc place) (padded 6 u.keys) ++ r) rests ∙ sym d.is
 
-    new : (u : Update) → Contains us u → (k : List (Option KeyValue)) → list_any (key_eq k) (keys_from (place + 1) count u.keys) ≡ true → list_any (key_eq (hide place k)) (keys_from (place + 1) count u.keys) ≡ true → ⊥
+    new : (u : Update) → Contains us u → (k : List (Option KeyValue))
+        → list_any (key_eq k) (keys_from (place + 1) count u.keys) ≡ true
+        → list_any (key_eq (hide place k)) (keys_from (place + 1) count u.keys) ≡ true → ⊥
     new u c k in_k in_hidden =
         let b = begins place count u.keys within few k in_k in
         let d = begins place count u.keys within few (hide place k) in_hidden in
         let fits : length u.keys ≡ count = at_each (λ w. length w.keys ≡ count) us u fit c in
-        let both : take place (padded 6 u.keys) ++ (None ∷ b.rest) ≡ take place (padded 6 u.keys) ++ (get_or (padded 6 u.keys) place None ∷ d.rest) =
-        sym (hidden_is place count u.keys within few k b) ∙ d.is ∙ one_more (padded 6 u.keys) place None d.rest (wide place count u.keys within few) in
-        let tails : None ∷ b.rest ≡ get_or (padded 6 u.keys) place None ∷ d.rest = append_cancel_left (take place (padded 6 u.keys)) (None ∷ b.rest) (get_or (padded 6 u.keys) place None ∷ d.rest) both in
+        let both : take place (padded 6 u.keys) ++ (None ∷ b.rest)
+        ≡ take place (padded 6 u.keys) ++ (get_or (padded 6 u.keys) place None ∷ d.rest) =
+        sym (hidden_is place count u.keys within few k b) ∙ d.is
+        ∙ one_more (padded 6 u.keys) place None d.rest (wide place count u.keys within few) in
+        let tails : None ∷ b.rest ≡ get_or (padded 6 u.keys) place None ∷ d.rest =
+        append_cancel_left (take place (padded 6 u.keys)) (None ∷ b.rest)
+        (get_or (padded 6 u.keys) place None ∷ d.rest) both in
         let none : get_or (padded 6 u.keys) place None ≡ None = cc tails in
         shown_key 6 u.keys place (omega (arith, within, fits)) (omega (arith, few, fits)) none
 
 -- a hidden key and a shown one behind it are no grouping of a rollup
-gap : (n count p : ℕ) (ks : List KeyValue) (rest : List (Option KeyValue)) → suc p < length ks → length ks ≤ n → suc p < count
-    → is_grouping Rollup (take count (take p (padded n ks) ++ (None ∷ get_or (padded n ks) (suc p) None ∷ rest))) ≡ false
+gap : (n count p : ℕ) (ks : List KeyValue) (rest : List (Option KeyValue)) → suc p < length ks
+    → length ks ≤ n → suc p < count
+    → is_grouping Rollup (take count
+    (take p (padded n ks) ++ (None ∷ get_or (padded n ks) (suc p) None ∷ rest))) ≡ false
 unfolding padded
 gap n count p [] rest h few within = absurd (omega (arith, h))
 gap zero count p (k ∷ ks) rest h few within = absurd (omega (arith, few))
@@ -173,11 +235,13 @@ gap (suc n) (suc zero) zero (k ∷ ks) rest h few within = absurd (omega (arith,
 gap (suc n) (suc (suc count)) zero (k ∷ []) rest h few within = absurd (omega (arith, h))
 gap (suc zero) (suc (suc count)) zero (k ∷ j ∷ ks) rest h few within = absurd (omega (arith, few))
 gap (suc (suc n)) (suc (suc count)) zero (k ∷ j ∷ ks) rest h few within = refl
-gap (suc n) (suc count) (suc p) (k ∷ ks) rest h few within = gap n count p ks rest (omega (arith, h)) (omega (arith, few)) (omega (arith, within))
+gap (suc n) (suc count) (suc p) (k ∷ ks) rest h few within =
+    gap n count p ks rest (omega (arith, h)) (omega (arith, few)) (omega (arith, within))
 
 -- ---- all rows merged in
 
-module _ (d : Group) (us : List Update) (place : ℕ) (within : place < d.count) (few : d.count ≤ 6) (es : List (List KeyPart × List (Option ℤ))) (rolled : IsRolledUp d (place + 1) es us) where
+module _ (d : Group) (us : List Update) (place : ℕ) (within : place < d.count) (few : d.count ≤ 6)
+    (es : List (List KeyPart × List (Option ℤ))) (rolled : IsRolledUp d (place + 1) es us) where
   abbrev In : List (Option KeyValue) → List KeyValue → Bool
   In q ks = is_among d.shape (place + 1) d.count q ks
 
@@ -185,13 +249,19 @@ module _ (d : Group) (us : List Update) (place : ℕ) (within : place < d.count)
   Made q = is_grouping d.shape (take d.count q)
 
   -- a put's row is there
-  there : (u : Update) → Contains us u → (k : List (Option KeyValue)) → In k u.keys ≡ true → (i : ℕ) × (e : List KeyPart × List (Option ℤ)) × (slice_get es i ≡ Some e) × (k ≡ key_view e.0)
+  there : (u : Update) → Contains us u → (k : List (Option KeyValue)) → In k u.keys ≡ true
+      → (i : ℕ) × (e : List KeyPart × List (Option ℤ)) × (slice_get es i ≡ Some e)
+      × (k ≡ key_view e.0)
   there u c k in_row = by (row_found es k) refl (rolled.rows k)
     where
       some : has_puts (filter (λ w. In k w.keys) us) ≡ true
-      some = any_filter (λ w. In k w.keys) us ∙ list_any-from_Any (λ w. In k w.keys) us (c.0, u, c.1, c.2, in_row)
+      some = any_filter (λ w. In k w.keys) us
+          ∙ list_any-from_Any (λ w. In k w.keys) us (c.0, u, c.1, c.2, in_row)
 
-      by : (found : Option (List (Option ℤ))) → row_found es k ≡ found → IsRowOver d (filter (λ w. In k w.keys) us) found → (i : ℕ) × (e : List KeyPart × List (Option ℤ)) × (slice_get es i ≡ Some e) × (k ≡ key_view e.0)
+      by : (found : Option (List (Option ℤ))) → row_found es k ≡ found
+          → IsRowOver d (filter (λ w. In k w.keys) us) found
+          → (i : ℕ) × (e : List KeyPart × List (Option ℤ)) × (slice_get es i ≡ Some e)
+          × (k ≡ key_view e.0)
       by None e is = absurd (true≢false (sym some ∙ is))
       by (Some row) e is =
           let at = place_from_lookup (λ parts. key_eq k (key_view parts)) es row e in
@@ -200,68 +270,101 @@ module _ (d : Group) (us : List Update) (place : ℕ) (within : place < d.count)
   fits_at : (u : Update) → Contains us u → length u.keys ≡ d.count
   fits_at u c = at_each (λ w. length w.keys ≡ d.count) us u rolled.fit c
 
-  now_in : (q : List (Option KeyValue)) (u : Update) → Contains us u → so_far In Made (hide place) es (length es) q u.keys ≡ is_among d.shape place d.count q u.keys
+  now_in : (q : List (Option KeyValue)) (u : Update) → Contains us u
+      → so_far In Made (hide place) es (length es) q u.keys
+      ≡ is_among d.shape place d.count q u.keys
   now_in q u c =
       ap (λ fs. In q u.keys || list_any (comes In Made (hide place) q u.keys) fs) (take-length es)
       ∙ ap (λ b. In q u.keys || b) (bool_same _ _ forth back)
-      ∙ sym (and-or_distrib_left (Made q) (list_any (key_eq q) own) (list_any (key_eq q) (map (hide place) own)))
+      ∙ sym (and-or_distrib_left (Made q) (list_any (key_eq q) own)
+      (list_any (key_eq q) (map (hide place) own)))
       ∙ ap (λ b. Made q && b) (sym (list_any-append (key_eq q) own (map (hide place) own))
       ∙ ap (list_any (key_eq q)) (keys_more place d.count u.keys within few))
     where
       own : List (List (Option KeyValue))
       own = keys_from (place + 1) d.count u.keys
 
-      forth : list_any (comes In Made (hide place) q u.keys) es ≡ true → (Made q && list_any (key_eq q) (map (hide place) own)) ≡ true
+      forth : list_any (comes In Made (hide place) q u.keys) es ≡ true
+          → (Made q && list_any (key_eq q) (map (hide place) own)) ≡ true
       forth h =
           let some = some_at (comes In Made (hide place) q u.keys) es h in
-          let made = and_parts (Made (hide place (key_view some.1.0))) (key_eq q (hide place (key_view some.1.0)) && In (key_view some.1.0) u.keys) some.3 in
-          let both = and_parts (key_eq q (hide place (key_view some.1.0))) (In (key_view some.1.0) u.keys) made.1 in
-          let mine = some_at (key_eq (key_view some.1.0)) own (in_keys d.shape (place + 1) d.count (key_view some.1.0) u.keys both.1) in
-          let is : q ≡ hide place (key_view some.1.0) = (key_decides q (hide place (key_view some.1.0))).0 both.0 in
+          let made = and_parts (Made (hide place (key_view some.1.0)))
+          (key_eq q (hide place (key_view some.1.0)) && In (key_view some.1.0) u.keys) some.3 in
+          let both = and_parts (key_eq q (hide place (key_view some.1.0)))
+          (In (key_view some.1.0) u.keys) made.1 in
+          let mine = some_at (key_eq (key_view some.1.0)) own
+          (in_keys d.shape (place + 1) d.count (key_view some.1.0) u.keys both.1) in
+          let is : q ≡ hide place (key_view some.1.0) =
+          (key_decides q (hide place (key_view some.1.0))).0 both.0 in
           ap (λ b. b && list_any (key_eq q) (map (hide place) own)) (ap Made is ∙ made.0)
           ∙ any_mapped (hide place) (key_eq q) own
-          ∙ any_passes_from_place (λ k. key_eq q (hide place k)) own mine.0 mine.1 mine.2 (ap (λ k. key_eq q (hide place k)) (sym ((key_decides (key_view some.1.0) mine.1).0 mine.3)) ∙ both.0)
+          ∙ any_passes_from_place (λ k. key_eq q (hide place k)) own mine.0 mine.1 mine.2
+          (ap (λ k. key_eq q (hide place k))
+          (sym ((key_decides (key_view some.1.0) mine.1).0 mine.3)) ∙ both.0)
 
-      back : (Made q && list_any (key_eq q) (map (hide place) own)) ≡ true → list_any (comes In Made (hide place) q u.keys) es ≡ true
+      back : (Made q && list_any (key_eq q) (map (hide place) own)) ≡ true
+          → list_any (comes In Made (hide place) q u.keys) es ≡ true
       back h =
           let parts = and_parts (Made q) (list_any (key_eq q) (map (hide place) own)) h in
-          let mine = some_at (λ k. key_eq q (hide place k)) own (sym (any_mapped (hide place) (key_eq q) own) ∙ parts.1) in
-          let among : list_any (key_eq mine.1) own ≡ true = any_passes_from_place (key_eq mine.1) own mine.0 mine.1 mine.2 (key_equiv.refl mine.1) in
+          let mine = some_at (λ k. key_eq q (hide place k)) own
+          (sym (any_mapped (hide place) (key_eq q) own) ∙ parts.1) in
+          let among : list_any (key_eq mine.1) own ≡ true =
+          any_passes_from_place (key_eq mine.1) own mine.0 mine.1 mine.2
+          (key_equiv.refl mine.1) in
           let is : q ≡ hide place mine.1 = (key_decides q (hide place mine.1)).0 mine.3 in
           let made : Made (hide place mine.1) ≡ true = ap Made (sym is) ∙ parts.0 in
           let in_row : In mine.1 u.keys ≡ true =
-          ap (λ b. b && list_any (key_eq mine.1) own) (finer_key d.shape place d.count u.keys within few (fits_at u c) mine.1 (begins place d.count u.keys within few mine.1 among) made) ∙ among in
+          ap (λ b. b && list_any (key_eq mine.1) own)
+          (finer_key d.shape place d.count u.keys within few (fits_at u c) mine.1
+          (begins place d.count u.keys within few mine.1 among) made) ∙ among in
           let at = there u c mine.1 in_row in
           any_passes_from_place (comes In Made (hide place) q u.keys) es at.0 at.1 at.2
           (ap (λ k. Made (hide place k) && (key_eq q (hide place k) && In k u.keys)) (sym at.3)
           ∙ ap (λ b. b && (key_eq q (hide place mine.1) && In mine.1 u.keys)) made
           ∙ ap (λ b. b && In mine.1 u.keys) mine.3 ∙ in_row)
 
-  pub all_merged : (fs : List (List KeyPart × List (Option ℤ))) → AreOver d us (so_far In Made (hide place) es (length es)) fs → IsRolledUp d place fs us
+  pub all_merged : (fs : List (List KeyPart × List (Option ℤ)))
+      → AreOver d us (so_far In Made (hide place) es (length es)) fs → IsRolledUp d place fs us
   all_merged fs over = record {
     fit = rolled.fit;
     rows = λ q. subst (λ ps. IsRowOver d ps (row_found fs q))
-        (filter_same (λ u. so_far In Made (hide place) es (length es) q u.keys) (λ u. is_among d.shape place d.count q u.keys) us (of_each (λ u. so_far In Made (hide place) es (length es) q u.keys ≡ is_among d.shape place d.count q u.keys) us (now_in q)))
+        (filter_same (λ u. so_far In Made (hide place) es (length es) q u.keys)
+        (λ u. is_among d.shape place d.count q u.keys) us
+        (of_each (λ u. so_far In Made (hide place) es (length es) q u.keys
+        ≡ is_among d.shape place d.count q u.keys) us (now_in q)))
         (over q);
   }
 
   -- each row is over its puts
-  pub row_over : IsOnceAt es → (j : ℕ) (e : List KeyPart × List (Option ℤ)) → slice_get es j ≡ Some e → IsRowOver d (filter (λ u. In (key_view e.0) u.keys) us) (Some e.1)
-  row_over once j e at = subst (IsRowOver d (filter (λ u. In (key_view e.0) u.keys) us)) (row_there es once j e at) (rolled.rows (key_view e.0))
+  pub row_over : IsOnceAt es → (j : ℕ) (e : List KeyPart × List (Option ℤ))
+      → slice_get es j ≡ Some e → IsRowOver d (filter (λ u. In (key_view e.0) u.keys) us) (Some e.1)
+  row_over once j e at = subst (IsRowOver d (filter (λ u. In (key_view e.0) u.keys) us))
+      (row_there es once j e at) (rolled.rows (key_view e.0))
 
   -- in a rollup no row has a coarser key with ALL one place before: the key at this place is shown
-  pub shows_next : IsOnceAt es → (p : ℕ) → p + 1 ≡ place → (j : ℕ) (e : List KeyPart × List (Option ℤ)) → slice_get es j ≡ Some e → is_grouping Rollup (take d.count (hide p (key_view e.0))) ≡ false
+  pub shows_next : IsOnceAt es → (p : ℕ) → p + 1 ≡ place
+      → (j : ℕ) (e : List KeyPart × List (Option ℤ)) → slice_get es j ≡ Some e
+      → is_grouping Rollup (take d.count (hide p (key_view e.0))) ≡ false
   shows_next once p next j e at =
-      let some = Any-from_list_any (λ u. In (key_view e.0) u.keys) us (sym (any_filter (λ u. In (key_view e.0) u.keys) us) ∙ (row_over once j e at).0) in
+      let some = Any-from_list_any (λ u. In (key_view e.0) u.keys) us
+      (sym (any_filter (λ u. In (key_view e.0) u.keys) us) ∙ (row_over once j e at).0) in
       let ks = some.1.keys in
-      let fits : length ks ≡ d.count = at_each (λ w. length w.keys ≡ d.count) us some.1 rolled.fit (some.0, some.2, some.3) in
-      let b = begins place d.count ks within few (key_view e.0) (in_keys d.shape (place + 1) d.count (key_view e.0) ks some.4) in
+      let fits : length ks ≡ d.count =
+      at_each (λ w. length w.keys ≡ d.count) us some.1 rolled.fit (some.0, some.2, some.3) in
+      let b = begins place d.count ks within few (key_view e.0)
+      (in_keys d.shape (place + 1) d.count (key_view e.0) ks some.4) in
       let same : place ≡ suc p = omega (arith, next) in
-      let long : suc p < length (padded 6 ks) = omega (arith, length-padded 6 ks, within, few, same) in
-      let hidden : hide p (key_view e.0) ≡ take p (padded 6 ks) ++ (None ∷ get_or (padded 6 ks) (suc p) None ∷ b.rest) =
-      ap (hide p) (b.is ∙ ap (λ n. take (suc n) (padded 6 ks) ++ b.rest) same ∙ one_more (padded 6 ks) (suc p) None b.rest long)
-      ∙ set_there (padded 6 ks) p None (get_or (padded 6 ks) (suc p) None ∷ b.rest) (omega (arith, long)) in
-      ap (λ k. is_grouping Rollup (take d.count k)) hidden ∙ gap 6 d.count p ks b.rest (omega (arith, within, same, fits)) (omega (arith, few, fits)) (omega (arith, within, same))
+      let long : suc p < length (padded 6 ks) =
+      omega (arith, length-padded 6 ks, within, few, same) in
+      let hidden : hide p (key_view e.0)
+      ≡ take p (padded 6 ks) ++ (None ∷ get_or (padded 6 ks) (suc p) None ∷ b.rest) =
+      ap (hide p) (b.is ∙ ap (λ n. take (suc n) (padded 6 ks) ++ b.rest) same
+      ∙ one_more (padded 6 ks) (suc p) None b.rest long)
+      ∙ set_there (padded 6 ks) p None (get_or (padded 6 ks) (suc p) None ∷ b.rest)
+      (omega (arith, long)) in
+      ap (λ k. is_grouping Rollup (take d.count k)) hidden
+      ∙ gap 6 d.count p ks b.rest (omega (arith, within, same, fits)) (omega (arith, few, fits))
+      (omega (arith, within, same))
 
 -- ---- the turns of a pass
 
@@ -269,48 +372,72 @@ abbrev IsMade : Shape → ℕ → List (Option KeyValue) → Bool
 IsMade shape count q = is_grouping shape (take count q)
 
 -- the first j rows are merged in
-abbrev pub IsMergedSoFar : Shape → ℕ → List Aggregate → ℕ → List (List KeyPart × List (Option ℤ)) → ℕ → List (List KeyPart × List (Option ℤ)) → Type 0
+abbrev pub IsMergedSoFar : Shape → ℕ → List Aggregate → ℕ → List (List KeyPart × List (Option ℤ))
+    → ℕ → List (List KeyPart × List (Option ℤ)) → Type 0
 IsMergedSoFar shape count gs place es j rows = (puts : List Update) → place + 1 ≤ count → count ≤ 6
     → IsRolledUp (group_with shape count gs) (place + 1) es puts
-    → AreOver (group_with shape count gs) puts (so_far (is_among shape (place + 1) count) (IsMade shape count) (hide place) es j) rows
+    → AreOver (group_with shape count gs) puts
+    (so_far (is_among shape (place + 1) count) (IsMade shape count) (hide place) es j) rows
 
-pub stay_prop : (gs : List Aggregate) (found : Option (List (Option ℤ))) (more : List (Option ℤ)) → IsProp (RowsStay gs found more)
+pub stay_prop : (gs : List Aggregate) (found : Option (List (Option ℤ))) (more : List (Option ℤ))
+    → IsProp (RowsStay gs found more)
 stay_prop gs None more = hlevel
 stay_prop gs (Some held) more = hlevel Bool-set
 
-module _ (shape : Shape) (count : ℕ) (gs : List Aggregate) (place : ℕ) (es : List (List KeyPart × List (Option ℤ))) (once : IsOnceAt es) where
+module _ (shape : Shape) (count : ℕ) (gs : List Aggregate) (place : ℕ)
+    (es : List (List KeyPart × List (Option ℤ))) (once : IsOnceAt es) where
   abbrev d : Group
   d = group_with shape count gs
 
   -- the first rows, where none has a coarser key that is a grouping
-  pub none_before : (from : ℕ) → from ≤ length es → NoneCoarser shape count place from es → (rows : List (List KeyPart × List (Option ℤ))) → es ≡ rows → IsMergedSoFar shape count gs place es from rows
+  pub none_before : (from : ℕ) → from ≤ length es → NoneCoarser shape count place from es
+      → (rows : List (List KeyPart × List (Option ℤ))) → es ≡ rows
+      → IsMergedSoFar shape count gs place es from rows
   none_before zero within none rows same = λ puts below few rolled.
-      none_yet (is_among shape (place + 1) count) (IsMade shape count) (hide place) es d puts rows (subst (λ xs. AreOver d puts (is_among shape (place + 1) count) xs) same rolled.rows)
+      none_yet (is_among shape (place + 1) count) (IsMade shape count) (hide place) es d puts rows
+      (subst (λ xs. AreOver d puts (is_among shape (place + 1) count) xs) same rolled.rows)
   none_before (suc j) within none rows same =
       let here : j < length es = omega (arith, within) in
       let next : j + 1 ≡ suc j = omega arith in
-      let before = none_before j (omega (arith, within)) (λ number h. none number (omega (arith, h))) rows same in
+      let before = none_before j (omega (arith, within))
+      (λ number h. none number (omega (arith, h))) rows same in
       subst (λ n. IsMergedSoFar shape count gs place es n rows) next (λ puts below few rolled.
-      left_out puts (is_among shape (place + 1) count) (IsMade shape count) (hide place) es (keys_apart shape puts place count (omega (arith, below)) few rolled.fit) once j (get_or es j ([], [])) (slice_get-get_or es j ([], []) here) d
+      left_out puts (is_among shape (place + 1) count) (IsMade shape count) (hide place) es
+      (keys_apart shape puts place count (omega (arith, below)) few rolled.fit) once j
+      (get_or es j ([], [])) (slice_get-get_or es j ([], []) here) d
       (none j (omega arith)) rows (before puts below few rolled))
 
-  pub rolls_up : (before after : List (List KeyPart × List (Option ℤ))) → es ≡ before → IsMergedSoFar shape count gs place es (length es) after → RollsUp shape count gs (place + 1) before place after
+  pub rolls_up : (before after : List (List KeyPart × List (Option ℤ))) → es ≡ before
+      → IsMergedSoFar shape count gs place es (length es) after
+      → RollsUp shape count gs (place + 1) before place after
   rolls_up before after same over puts below few rolled =
       let here = subst (λ xs. IsRolledUp d (place + 1) xs puts) (sym same) rolled in
       all_merged d puts place (omega (arith, below)) few es here after (over puts below few here)
 
-  module _ (j : ℕ) (e : List KeyPart × List (Option ℤ)) (at : slice_get es j ≡ Some e) (before : List (List KeyPart × List (Option ℤ))) (key : List KeyPart) (is_key : key_view key ≡ set (key_view e.0) place None) (over : IsMergedSoFar shape count gs place es j before) where
-    pub turn_stays : ∥ IsRolledUpWithRoom shape count gs (place + 1) es ∥₁ → is_grouping shape (take count (key_view key)) ≡ true → RowsStay gs (row_found before (key_view key)) e.1
+  module _ (j : ℕ) (e : List KeyPart × List (Option ℤ)) (at : slice_get es j ≡ Some e)
+      (before : List (List KeyPart × List (Option ℤ))) (key : List KeyPart)
+      (is_key : key_view key ≡ set (key_view e.0) place None)
+      (over : IsMergedSoFar shape count gs place es j before) where
+    pub turn_stays : ∥ IsRolledUpWithRoom shape count gs (place + 1) es ∥₁
+        → is_grouping shape (take count (key_view key)) ≡ true
+        → RowsStay gs (row_found before (key_view key)) e.1
     turn_stays room grouping = ∥∥₁_elim room (stay_prop gs (row_found before (key_view key)) e.1) by
       where
-        by : IsRolledUpWithRoom shape count gs (place + 1) es → RowsStay gs (row_found before (key_view key)) e.1
+        by : IsRolledUpWithRoom shape count gs (place + 1) es
+            → RowsStay gs (row_found before (key_view key)) e.1
         by r =
             let within : place < count = omega (arith, r.below) in
-            stays_one r.puts (is_among shape (place + 1) count) (IsMade shape count) (hide place) es (keys_apart shape r.puts place count within r.few r.rows.fit) once j e at d (ap (IsMade shape count) (sym is_key) ∙ grouping)
-            (row_over d r.puts place within r.few es r.rows once j e at) before key is_key r.room (over r.puts r.below r.few r.rows)
+            stays_one r.puts (is_among shape (place + 1) count) (IsMade shape count) (hide place) es
+            (keys_apart shape r.puts place count within r.few r.rows.fit) once j e at d
+            (ap (IsMade shape count) (sym is_key) ∙ grouping)
+            (row_over d r.puts place within r.few es r.rows once j e at) before key is_key r.room
+            (over r.puts r.below r.few r.rows)
 
-    pub turn_merges : (after : List (List KeyPart × List (Option ℤ))) → IsMergedWhere shape count gs (key_view key) e.1 before after → IsMergedSoFar shape count gs place es (j + 1) after
-    turn_merges after merges puts below few rolled = by (is_grouping shape (take count (key_view key))) refl merges
+    pub turn_merges : (after : List (List KeyPart × List (Option ℤ)))
+        → IsMergedWhere shape count gs (key_view key) e.1 before after
+        → IsMergedSoFar shape count gs place es (j + 1) after
+    turn_merges after merges puts below few rolled =
+        by (is_grouping shape (take count (key_view key))) refl merges
       where
         within : place < count
         within = omega (arith, below)
@@ -318,28 +445,47 @@ module _ (shape : Shape) (count : ℕ) (gs : List Aggregate) (place : ℕ) (es :
         apart : AreApart puts (is_among shape (place + 1) count) (hide place)
         apart = keys_apart shape puts place count within few rolled.fit
 
-        by : (b : Bool) → is_grouping shape (take count (key_view key)) ≡ b → MatchBool b (IsMergedAt gs (key_view key) e.1 before after) (after ≡ before)
-            → AreOver d puts (so_far (is_among shape (place + 1) count) (IsMade shape count) (hide place) es (j + 1)) after
+        by : (b : Bool) → is_grouping shape (take count (key_view key)) ≡ b
+            → MatchBool b (IsMergedAt gs (key_view key) e.1 before after) (after ≡ before)
+            → AreOver d puts (so_far (is_among shape (place + 1) count) (IsMade shape count)
+            (hide place) es (j + 1)) after
         by true grouping merged =
-            merged_one puts (is_among shape (place + 1) count) (IsMade shape count) (hide place) es apart once j e at d (ap (IsMade shape count) (sym is_key) ∙ grouping)
-            (row_over d puts place within few es rolled once j e at) before after key is_key merged (over puts below few rolled)
-        by false other same = subst (AreOver d puts (so_far (is_among shape (place + 1) count) (IsMade shape count) (hide place) es (j + 1))) (sym same)
-            (left_out puts (is_among shape (place + 1) count) (IsMade shape count) (hide place) es apart once j e at d (ap (IsMade shape count) (sym is_key) ∙ other) before (over puts below few rolled))
+            merged_one puts (is_among shape (place + 1) count) (IsMade shape count) (hide place) es
+            apart once j e at d (ap (IsMade shape count) (sym is_key) ∙ grouping)
+            (row_over d puts place within few es rolled once j e at) before after key is_key merged
+            (over puts below few rolled)
+        by false other same = subst
+            (AreOver d puts (so_far (is_among shape (place + 1) count) (IsMade shape count)
+            (hide place) es (j + 1))) (sym same)
+            (left_out puts (is_among shape (place + 1) count) (IsMade shape count) (hide place) es
+            apart once j e at d (ap (IsMade shape count) (sym is_key) ∙ other) before
+            (over puts below few rolled))
 
 -- ---- the passes
 
 -- after the pass before, where the rows that were there have their keys still
-pub next_none : (shape : Shape) (count : ℕ) (gs : List Aggregate) (place : ℕ) (es fs : List (List KeyPart × List (Option ℤ))) → IsOnceAt es → place < count → ∥ IsRolledUpWithRoom shape count gs (place + 1) es ∥₁
-    → ((number : ℕ) → number < length es → (get_or fs number ([], [])).0 ≡ (get_or es number ([], [])).0)
+pub next_none : (shape : Shape) (count : ℕ) (gs : List Aggregate) (place : ℕ)
+    (es fs : List (List KeyPart × List (Option ℤ))) → IsOnceAt es → place < count
+    → ∥ IsRolledUpWithRoom shape count gs (place + 1) es ∥₁
+    → ((number : ℕ) → number < length es
+    → (get_or fs number ([], [])).0 ≡ (get_or es number ([], [])).0)
     → (p : ℕ) → p + 1 ≡ place → NoneCoarser shape count p (first_finer shape (length es)) fs
-next_none Plain count gs place es fs once within room keys p next number h = absurd (omega (arith, h))
-next_none Cube count gs place es fs once within room keys p next number h = absurd (omega (arith, h))
+next_none Plain count gs place es fs once within room keys p next number h =
+    absurd (omega (arith, h))
+next_none Cube count gs place es fs once within room keys p next number h =
+    absurd (omega (arith, h))
 next_none Rollup count gs place es fs once within room keys p next number h =
     ap (λ key. is_grouping Rollup (take count (hide p (key_view key)))) (keys number h)
-    ∙ ∥∥₁_elim room (let prop : IsProp (is_grouping Rollup (take count (hide p (key_view (get_or es number ([], [])).0))) ≡ false) = hlevel Bool-set in prop) (λ r.
-    shows_next (group_with Rollup count gs) r.puts place within r.few es r.rows once p next number (get_or es number ([], [])) (slice_get-get_or es number ([], []) h))
+    ∙ ∥∥₁_elim room (let prop :
+    IsProp (is_grouping Rollup (take count (hide p (key_view (get_or es number ([], [])).0)))
+    ≡ false) = hlevel Bool-set in prop) (λ r.
+    shows_next (group_with Rollup count gs) r.puts place within r.few es r.rows once p next number
+    (get_or es number ([], [])) (slice_get-get_or es number ([], []) h))
 
-pub room_there : (shape : Shape) (count : ℕ) (gs : List Aggregate) (place : ℕ) (es fs : List (List KeyPart × List (Option ℤ))) → place ≤ count → RollsUp shape count gs count es place fs → ∥ IsRolledUpWithRoom shape count gs count es ∥₁ → ∥ IsRolledUpWithRoom shape count gs place fs ∥₁
+pub room_there : (shape : Shape) (count : ℕ) (gs : List Aggregate) (place : ℕ)
+    (es fs : List (List KeyPart × List (Option ℤ))) → place ≤ count
+    → RollsUp shape count gs count es place fs → ∥ IsRolledUpWithRoom shape count gs count es ∥₁
+    → ∥ IsRolledUpWithRoom shape count gs place fs ∥₁
 room_there shape count gs place es fs below rolls room = ∥∥₁_map room by
   where
     by : IsRolledUpWithRoom shape count gs count es → IsRolledUpWithRoom shape count gs place fs

@@ -26,7 +26,8 @@ all_of (v ∷ vs) = v +ℤ all_of vs
 
 some_sum : (v : ℤ) (vs : List ℤ) → joined (λ x y. x +ℤ y) (v ∷ vs) ≡ Some (all_of (v ∷ vs))
 some_sum v [] = ap Some (let e : v ≡ v +ℤ pos 0 = omega (arith, ints) in e)
-some_sum v (w ∷ ws) = joined_more (λ x y. x +ℤ y) v (w ∷ ws) ∙ ap (more (λ x y. x +ℤ y) v) (some_sum w ws)
+some_sum v (w ∷ ws) = joined_more (λ x y. x +ℤ y) v (w ∷ ws)
+    ∙ ap (more (λ x y. x +ℤ y) v) (some_sum w ws)
 
 sum_is : (vs : List ℤ) (z : ℤ) → joined (λ x y. x +ℤ y) vs ≡ Some z → z ≡ all_of vs
 sum_is [] z e = absurd (let no : ⊥ = cc e in no)
@@ -34,7 +35,8 @@ sum_is (v ∷ vs) z e = cc (some_sum v vs, e)
 
 -- ---- the sums of the key lists that pass a test
 
-bounded : (zs : List ℤ) → (all_of zs ≤ℤ pos (above_zero zs)) × (pos 0 ≤ℤ (all_of zs +ℤ pos (below_zero zs)))
+bounded : (zs : List ℤ) → (all_of zs ≤ℤ pos (above_zero zs))
+    × (pos 0 ≤ℤ (all_of zs +ℤ pos (below_zero zs)))
 unfolding above_zero below_zero
 bounded [] = (omega (arith, ints), omega (arith, ints))
 bounded (pos n ∷ zs) = let r = bounded zs in (omega (arith, ints, r.0), omega (arith, ints, r.1))
@@ -55,15 +57,19 @@ unfolding above_zero below_zero
 fewer_without (pos n) vs ws h = record { above = omega arith; below = h.below }
 fewer_without (negsuc n) vs ws h = record { above = h.above; below = omega arith }
 
-fewer_kept : (p : Update → Bool) (place : ℕ) (es : List Update) → Fewer (numbers_for place (filter p es)) (numbers_for place es)
+fewer_kept : (p : Update → Bool) (place : ℕ) (es : List Update)
+    → Fewer (numbers_for place (filter p es)) (numbers_for place es)
 fewer_kept p place [] = record { above = omega arith; below = omega arith }
 fewer_kept p place (e ∷ es) = by (p e) (fewer_kept p place es)
   where
-    by : (b : Bool) → Fewer (numbers_for place (filter p es)) (numbers_for place es) → Fewer (numbers_for place (cond b (e ∷ filter p es) (filter p es))) (put_number place e ∷ numbers_for place es)
+    by : (b : Bool) → Fewer (numbers_for place (filter p es)) (numbers_for place es)
+        → Fewer (numbers_for place (cond b (e ∷ filter p es) (filter p es)))
+        (put_number place e ∷ numbers_for place es)
     by true h = fewer_with (put_number place e) _ _ h
     by false h = fewer_without (put_number place e) _ _ h
 
-fits_between : (z : ℤ) (m n : ℕ) → z ≤ℤ pos m → pos 0 ≤ℤ (z +ℤ pos n) → m < 2 ^ 127 → n ≤ 2 ^ 127 → is_i128 z ≡ true
+fits_between : (z : ℤ) (m n : ℕ) → z ≤ℤ pos m → pos 0 ≤ℤ (z +ℤ pos n) → m < 2 ^ 127 → n ≤ 2 ^ 127
+    → is_i128 z ≡ true
 unfolding is_i128
 fits_between (pos k) m n a b h l = lt-ltb k (2 ^ 127) (omega (arith, ints))
 fits_between (negsuc k) m n a b h l = lt-ltb k (2 ^ 127) (omega (arith, ints))
@@ -76,8 +82,11 @@ count_small n h = lt-ltb n (2 ^ 63) h
 
 -- ---- the puts whose key lists pass a test
 
-module _ (d : Group) (us : List Update) (room : HasRoom d us) (p : List KeyValue → Bool) (place : ℕ) (declared : place < length d.aggregates) where
-  sum_fits : aggregate_at d.aggregates place ≡ Sum → (z : ℤ) → joined (λ x y. x +ℤ y) (numbers_for place (filter (λ w. p w.keys) us)) ≡ Some z → is_i128 z ≡ true
+module _ (d : Group) (us : List Update) (room : HasRoom d us) (p : List KeyValue → Bool) (place : ℕ)
+    (declared : place < length d.aggregates) where
+  sum_fits : aggregate_at d.aggregates place ≡ Sum → (z : ℤ)
+      → joined (λ x y. x +ℤ y) (numbers_for place (filter (λ w. p w.keys) us)) ≡ Some z
+      → is_i128 z ≡ true
   sum_fits same z e =
       let es = made d us in
       let zs = numbers_for place (filter (λ w. p w.keys) es) in
@@ -85,15 +94,27 @@ module _ (d : Group) (us : List Update) (room : HasRoom d us) (p : List KeyValue
       let up = room.sums es (made_content d us) place declared same in
       let less = fewer_kept (λ w. p w.keys) place es in
       let r = bounded zs in
-      ap is_i128 (sum_is zs z whole) ∙ fits_between (all_of zs) _ _ r.0 r.1 (omega (arith, less.above, up.above)) (omega (arith, less.below, up.below))
+      ap is_i128 (sum_is zs z whole)
+      ∙ fits_between (all_of zs) _ _ r.0 r.1 (omega (arith, less.above, up.above))
+      (omega (arith, less.below, up.below))
 
-  stays_at : (g : Aggregate) → aggregate_at d.aggregates place ≡ g → leaves g (aggregate g (numbers_for place (filter (λ w. p w.keys) us))) ≡ false
-  stays_at Sum same = by (joined (λ x y. x +ℤ y) (numbers_for place (filter (λ w. p w.keys) us))) refl
+  stays_at : (g : Aggregate) → aggregate_at d.aggregates place ≡ g
+      → leaves g (aggregate g (numbers_for place (filter (λ w. p w.keys) us))) ≡ false
+  stays_at Sum same = by (joined (λ x y. x +ℤ y) (numbers_for place (filter (λ w. p w.keys) us)))
+      refl
     where
-      by : (r : Option ℤ) → joined (λ x y. x +ℤ y) (numbers_for place (filter (λ w. p w.keys) us)) ≡ r → leaves Sum r ≡ false
+      by : (r : Option ℤ) → joined (λ x y. x +ℤ y) (numbers_for place (filter (λ w. p w.keys) us))
+          ≡ r → leaves Sum r ≡ false
       by None e = refl
       by (Some z) e = ap not (sum_fits same z e)
-  stays_at Count same = ap not (count_small _ (omega (arith, length-numbers place (filter (λ w. p w.keys) us), length-filter (λ (w : Update). p w.keys) us, count_by-le-length (λ (w : Update). p w.keys) us, room.counts place declared same)))
+  stays_at Count same = ap not
+      (count_small _ (omega (
+        arith,
+        length-numbers place (filter (λ w. p w.keys) us),
+        length-filter (λ (w : Update). p w.keys) us,
+        count_by-le-length (λ (w : Update). p w.keys) us,
+        room.counts place declared same,
+      )))
   stays_at Min same = by (aggregate Min (numbers_for place (filter (λ w. p w.keys) us)))
     where
       by : (r : Option ℤ) → leaves Min r ≡ false
@@ -106,18 +127,27 @@ module _ (d : Group) (us : List Update) (room : HasRoom d us) (p : List KeyValue
       by (Some z) = refl
 
 -- what is held of them doesn't leave its bits
-pub held_stays : (d : Group) (us : List Update) → HasRoom d us → (p : List KeyValue → Bool) (place : ℕ) → place < length d.aggregates → leaves (aggregate_at d.aggregates place) (held (aggregate_at d.aggregates place) (numbers_for place (filter (λ w. p w.keys) us))) ≡ false
+pub held_stays : (d : Group) (us : List Update) → HasRoom d us
+    → (p : List KeyValue → Bool) (place : ℕ) → place < length d.aggregates
+    → leaves (aggregate_at d.aggregates place)
+    (held (aggregate_at d.aggregates place) (numbers_for place (filter (λ w. p w.keys) us))) ≡ false
 unfolding held
-held_stays d us room p place declared = by (aggregate_at d.aggregates place) (numbers_for place (filter (λ w. p w.keys) us)) (stays_at d us room p place declared (aggregate_at d.aggregates place) refl)
+held_stays d us room p place declared =
+    by (aggregate_at d.aggregates place) (numbers_for place (filter (λ w. p w.keys) us))
+    (stays_at d us room p place declared (aggregate_at d.aggregates place) refl)
   where
-    by : (g : Aggregate) (vs : List ℤ) → leaves g (aggregate g vs) ≡ false → leaves g (held g vs) ≡ false
+    by : (g : Aggregate) (vs : List ℤ) → leaves g (aggregate g vs) ≡ false
+        → leaves g (held g vs) ≡ false
     by Sum [] h = refl
     by Count [] h = refl
     by Min [] h = refl
     by Max [] h = refl
     by g (v ∷ vs) h = ap (leaves g) (some_aggregate g v vs) ∙ h
 
-pub room_stays : (d : Group) (us : List Update) (u : Update) → HasRoom d (u ∷ us) → overflows d.shape d.aggregates us u ≡ false
+pub room_stays : (d : Group) (us : List Update) (u : Update) → HasRoom d (u ∷ us)
+    → overflows d.shape d.aggregates us u ≡ false
 room_stays d us u room = false_from_ne_true (overflows d.shape d.aggregates us u) (λ over.
     let l = overflow_somewhere (declared d) us u over in
-    true≢false (sym l.leaves_there ∙ stays_at d (u ∷ us) room (belongs key_value_cmp l.group) l.place l.declared (aggregate_at d.aggregates l.place) refl))
+    true≢false (sym l.leaves_there
+    ∙ stays_at d (u ∷ us) room (belongs key_value_cmp l.group) l.place l.declared
+    (aggregate_at d.aggregates l.place) refl))

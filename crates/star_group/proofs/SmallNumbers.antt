@@ -30,50 +30,80 @@ abbrev size_of : (ℤ → ℕ) → Option ℤ → ℕ
 size_of size None = 0
 size_of size (Some z) = size z
 
-module _ (size : ℤ → ℕ) (less : (x y : ℤ) → size (x +ℤ y) ≤ size x + size y) (number : Update → ℤ) where
-  sum_less : (t : Update → Bool) (us : List Update) → size_of size (over (λ x y. x +ℤ y) number t us) ≤ weight size number t us
+module _ (size : ℤ → ℕ) (less : (x y : ℤ) → size (x +ℤ y) ≤ size x + size y)
+    (number : Update → ℤ) where
+  sum_less : (t : Update → Bool) (us : List Update)
+      → size_of size (over (λ x y. x +ℤ y) number t us) ≤ weight size number t us
   sum_less t [] = omega arith
-  sum_less t (u ∷ us) = subst (λ r. size_of size r ≤ weight size number t (u ∷ us)) (sym (over_more (λ x y. x +ℤ y) number t u us)) (by (t u) (over (λ x y. x +ℤ y) number t us) (sum_less t us))
+  sum_less t (u ∷ us) = subst (λ r. size_of size r ≤ weight size number t (u ∷ us))
+      (sym (over_more (λ x y. x +ℤ y) number t u us))
+      (by (t u) (over (λ x y. x +ℤ y) number t us) (sum_less t us))
     where
-      by : (b : Bool) (r : Option ℤ) → size_of size r ≤ weight size number t us → size_of size (cond b (more (λ x y. x +ℤ y) (number u) r) r) ≤ cond b (size (number u)) 0 + weight size number t us
+      by : (b : Bool) (r : Option ℤ) → size_of size r ≤ weight size number t us
+          → size_of size (cond b (more (λ x y. x +ℤ y) (number u) r) r)
+          ≤ cond b (size (number u)) 0 + weight size number t us
       by true None h = omega arith
       by true (Some y) h = omega (arith, h, less (number u) y)
       by false r h = omega (arith, h)
 
-  apart : (a b c : Update → Bool) (us : List Update) → ((u : Update) → c u ≡ (a u || b u)) → ((u : Update) → (a u && b u) ≡ false) → weight size number c us ≡ weight size number a us + weight size number b us
+  apart : (a b c : Update → Bool) (us : List Update) → ((u : Update) → c u ≡ (a u || b u))
+      → ((u : Update) → (a u && b u) ≡ false)
+      → weight size number c us ≡ weight size number a us + weight size number b us
   apart a b c [] either no_both = refl
-  apart a b c (u ∷ us) either no_both = ap (λ t. cond t (size (number u)) 0 + weight size number c us) (either u) ∙ by (a u) (b u) (no_both u) (apart a b c us either no_both)
+  apart a b c (u ∷ us) either no_both =
+      ap (λ t. cond t (size (number u)) 0 + weight size number c us) (either u)
+      ∙ by (a u) (b u) (no_both u) (apart a b c us either no_both)
     where
-      by : (x y : Bool) → (x && y) ≡ false → weight size number c us ≡ weight size number a us + weight size number b us
-          → cond (x || y) (size (number u)) 0 + weight size number c us ≡ (cond x (size (number u)) 0 + weight size number a us) + (cond y (size (number u)) 0 + weight size number b us)
+      by : (x y : Bool) → (x && y) ≡ false
+          → weight size number c us ≡ weight size number a us + weight size number b us
+          → cond (x || y) (size (number u)) 0 + weight size number c us
+          ≡ (cond x (size (number u)) 0 + weight size number a us)
+          + (cond y (size (number u)) 0 + weight size number b us)
       by true true never e = absurd (true≢false never)
       by true false never e = omega (arith, e)
       by false true never e = omega (arith, e)
       by false false never e = omega (arith, e)
 
-  at_most : (t : Update → Bool) (us : List Update) → weight size number t us ≤ weight size number (λ u. true) us
+  at_most : (t : Update → Bool) (us : List Update)
+      → weight size number t us ≤ weight size number (λ u. true) us
   at_most t [] = omega arith
   at_most t (u ∷ us) = by (t u) (at_most t us)
     where
-      by : (b : Bool) → weight size number t us ≤ weight size number (λ w. true) us → cond b (size (number u)) 0 + weight size number t us ≤ size (number u) + weight size number (λ w. true) us
+      by : (b : Bool) → weight size number t us ≤ weight size number (λ w. true) us
+          → cond b (size (number u)) 0 + weight size number t us
+          ≤ size (number u) + weight size number (λ w. true) us
       by true h = omega (arith, h)
       by false h = omega (arith, h)
 
   -- entries that have the sums of their key lists
-  by_key_lists : (us es : List Update) → IsDistinct same_keys (key_lists es) → AllByRecursion (λ e. over (λ x y. x +ℤ y) number (λ u. same_keys e.keys u.keys) us ≡ Some (number e)) es
-      → weight size number (λ e. true) es ≤ weight size number (λ u. list_any (same_keys u.keys) (key_lists es)) us
+  by_key_lists : (us es : List Update) → IsDistinct same_keys (key_lists es)
+      → AllByRecursion (λ e. over (λ x y. x +ℤ y) number (λ u. same_keys e.keys u.keys) us
+      ≡ Some (number e)) es
+      → weight size number (λ e. true) es
+      ≤ weight size number (λ u. list_any (same_keys u.keys) (key_lists es)) us
   by_key_lists us [] once each = omega arith
   by_key_lists us (e ∷ es) once each =
       let first = IsDistinct-head same_keys e.keys (key_lists es) once in
-      let here = subst (λ r. size_of size r ≤ weight size number (λ u. same_keys e.keys u.keys) us) each.0 (sum_less (λ u. same_keys e.keys u.keys) us) in
+      let here = subst (λ r. size_of size r ≤ weight size number (λ u. same_keys e.keys u.keys) us)
+      each.0 (sum_less (λ u. same_keys e.keys u.keys) us) in
       let rest = by_key_lists us es (IsDistinct-tail same_keys e.keys (key_lists es) once) each.1 in
-      let parts = apart (λ u. same_keys e.keys u.keys) (λ u. list_any (same_keys u.keys) (key_lists es)) (λ u. list_any (same_keys u.keys) (key_lists (e ∷ es))) us
-      (λ u. flipped e.keys (key_lists es) first u.keys) (λ u. no_two e.keys (key_lists es) first u.keys) in
+      let parts = apart (λ u. same_keys e.keys u.keys)
+      (λ u. list_any (same_keys u.keys) (key_lists es))
+      (λ u. list_any (same_keys u.keys) (key_lists (e ∷ es))) us
+      (λ u. flipped e.keys (key_lists es) first u.keys)
+      (λ u. no_two e.keys (key_lists es) first u.keys) in
       omega (arith, here, rest, parts)
 
-  pub entries_less : (us es : List Update) → IsDistinct same_keys (key_lists es) → AllByRecursion (λ e. over (λ x y. x +ℤ y) number (λ u. same_keys e.keys u.keys) us ≡ Some (number e)) es
+  pub entries_less : (us es : List Update) → IsDistinct same_keys (key_lists es)
+      → AllByRecursion (λ e. over (λ x y. x +ℤ y) number (λ u. same_keys e.keys u.keys) us
+      ≡ Some (number e)) es
       → weight size number (λ e. true) es ≤ weight size number (λ u. true) us
-  entries_less us es once each = omega (arith, by_key_lists us es once each, at_most (λ u. list_any (same_keys u.keys) (key_lists es)) us)
+  entries_less us es once each =
+      omega (
+        arith,
+        by_key_lists us es once each,
+        at_most (λ u. list_any (same_keys u.keys) (key_lists es)) us,
+      )
 
 -- ---- above zero, and below
 
@@ -102,74 +132,138 @@ below_sum x y (pos c) e = omega arith
 abbrev AreSides : List ℤ → ℕ → ℕ → Type 0
 AreSides zs up down = (above_zero zs ≡ up) × (below_zero zs ≡ down)
 
-one_more : (z : ℤ) (zs : List ℤ) (up down : ℕ) → AreSides zs up down → AreSides (z ∷ zs) (above z + up) (below z + down)
+one_more : (z : ℤ) (zs : List ℤ) (up down : ℕ) → AreSides zs up down
+    → AreSides (z ∷ zs) (above z + up) (below z + down)
 unfolding above_zero below_zero
 one_more (pos n) zs up down e = (ap (λ m. n + m) e.0, omega (arith, e.1))
 one_more (negsuc n) zs up down e = (omega (arith, e.0), omega (arith, e.1))
 
-sides : (place : ℕ) (us : List Update) → AreSides (numbers_for place us) (weight above (put_number place) (λ u. true) us) (weight below (put_number place) (λ u. true) us)
+sides : (place : ℕ) (us : List Update)
+    → AreSides (numbers_for place us) (weight above (put_number place) (λ u. true) us)
+    (weight below (put_number place) (λ u. true) us)
 unfolding above_zero below_zero
 sides place [] = (refl, refl)
 sides place (u ∷ us) = one_more (put_number place u) (numbers_for place us) _ _ (sides place us)
 
-pub small_room : (d : Group) (us : List Update) → ((place : ℕ) → place < length d.aggregates → aggregate_at d.aggregates place ≡ Sum → AddUp (numbers_for place us)) → length us < 2 ^ 63 → HasRoom d us
+pub small_room : (d : Group) (us : List Update)
+    → ((place : ℕ) → place < length d.aggregates → aggregate_at d.aggregates place ≡ Sum
+    → AddUp (numbers_for place us)) → length us < 2 ^ 63 → HasRoom d us
 small_room d us small few = record { sums = sums; counts = λ place h same. few }
   where
-    sums : (es : List Update) → IsContent d us es → (place : ℕ) → place < length d.aggregates → aggregate_at d.aggregates place ≡ Sum → AddUp (numbers_for place es)
+    sums : (es : List Update) → IsContent d us es → (place : ℕ) → place < length d.aggregates
+        → aggregate_at d.aggregates place ≡ Sum → AddUp (numbers_for place es)
     sums es is place h same =
         let each = told d us es is place h Sum same in
         let up = small place h same in
         record {
-          above = omega (arith, (sides place es).0, (sides place us).0, up.above, entries_less above (λ x y. above_sum x y (x +ℤ y) refl) (put_number place) us es is.once each);
-          below = omega (arith, (sides place es).1, (sides place us).1, up.below, entries_less below (λ x y. below_sum x y (x +ℤ y) refl) (put_number place) us es is.once each);
+          above = omega (
+            arith,
+            (sides place es).0,
+            (sides place us).0,
+            up.above,
+            entries_less above (λ x y. above_sum x y (x +ℤ y) refl) (put_number place) us es
+                is.once each,
+          );
+          below = omega (
+            arith,
+            (sides place es).1,
+            (sides place us).1,
+            up.below,
+            entries_less below (λ x y. below_sum x y (x +ℤ y) refl) (put_number place) us es
+                is.once each,
+          );
         }
 
 -- ---- the puts whose key lists pass a test
 
-kept_of : (p : List KeyValue → Bool) (keys : List KeyValue) (us : List Update) (b : Bool) → p keys ≡ b → puts_of keys (filter (λ u. p u.keys) us) ≡ cond b (puts_of keys us) []
+kept_of : (p : List KeyValue → Bool) (keys : List KeyValue) (us : List Update) (b : Bool)
+    → p keys ≡ b → puts_of keys (filter (λ u. p u.keys) us) ≡ cond b (puts_of keys us) []
 kept_of p keys [] true is = refl
 kept_of p keys [] false is = refl
-kept_of p keys (u ∷ us) b is = by (same_keys keys u.keys) (p u.keys) refl refl (kept_of p keys us b is)
+kept_of p keys (u ∷ us) b is =
+    by (same_keys keys u.keys) (p u.keys) refl refl (kept_of p keys us b is)
   where
-    by : (c e : Bool) → same_keys keys u.keys ≡ c → p u.keys ≡ e → puts_of keys (filter (λ w. p w.keys) us) ≡ cond b (puts_of keys us) []
-        → puts_of keys (cond e (u ∷ filter (λ w. p w.keys) us) (filter (λ w. p w.keys) us)) ≡ cond b (cond c (u ∷ puts_of keys us) (puts_of keys us)) []
-    by true true own passes rest = ap (λ c. cond c (u ∷ puts_of keys (filter (λ w. p w.keys) us)) (puts_of keys (filter (λ w. p w.keys) us))) own
+    by : (c e : Bool) → same_keys keys u.keys ≡ c → p u.keys ≡ e
+        → puts_of keys (filter (λ w. p w.keys) us) ≡ cond b (puts_of keys us) []
+        → puts_of keys (cond e (u ∷ filter (λ w. p w.keys) us) (filter (λ w. p w.keys) us))
+        ≡ cond b (cond c (u ∷ puts_of keys us) (puts_of keys us)) []
+    by true true own passes rest =
+        ap (λ c. cond c (u ∷ puts_of keys (filter (λ w. p w.keys) us))
+        (puts_of keys (filter (λ w. p w.keys) us))) own
         ∙ ap (λ ws. u ∷ ws) (rest ∙ ap (λ c. cond c (puts_of keys us) []) here)
         ∙ sym (ap (λ c. cond c (u ∷ puts_of keys us) []) here)
       where
         here : b ≡ true
         here = sym is ∙ ap p ((keys_decide keys u.keys).0 own) ∙ passes
-    by true false own passes rest = rest ∙ ap (λ c. cond c (puts_of keys us) []) here ∙ sym (ap (λ c. cond c (u ∷ puts_of keys us) []) here)
+    by true false own passes rest =
+        rest ∙ ap (λ c. cond c (puts_of keys us) []) here
+        ∙ sym (ap (λ c. cond c (u ∷ puts_of keys us) []) here)
       where
         here : b ≡ false
         here = sym is ∙ ap p ((keys_decide keys u.keys).0 own) ∙ passes
-    by false true own passes rest = ap (λ c. cond c (u ∷ puts_of keys (filter (λ w. p w.keys) us)) (puts_of keys (filter (λ w. p w.keys) us))) own ∙ rest
+    by false true own passes rest =
+        ap (λ c. cond c (u ∷ puts_of keys (filter (λ w. p w.keys) us))
+        (puts_of keys (filter (λ w. p w.keys) us))) own ∙ rest
     by false false own passes rest = rest
 
 -- where there is room for some puts, there is room for those whose key lists pass
-pub room_kept : (d : Group) (us : List Update) (p : List KeyValue → Bool) → HasRoom d us → HasRoom d (filter (λ u. p u.keys) us)
+pub room_kept : (d : Group) (us : List Update) (p : List KeyValue → Bool) → HasRoom d us
+    → HasRoom d (filter (λ u. p u.keys) us)
 room_kept d us p room = record {
   sums = sums_kept;
-  counts = λ place h same. omega (arith, room.counts place h same, length-filter (λ (u : Update). p u.keys) us, count_by-le-length (λ (u : Update). p u.keys) us);
+  counts = λ place h same.
+      omega (
+        arith,
+        room.counts place h same,
+        length-filter (λ (u : Update). p u.keys) us,
+        count_by-le-length (λ (u : Update). p u.keys) us,
+      );
 }
   where
-    sums_kept : (es : List Update) → IsContent d (filter (λ u. p u.keys) us) es → (place : ℕ) → place < length d.aggregates → aggregate_at d.aggregates place ≡ Sum → AddUp (numbers_for place es)
+    sums_kept : (es : List Update) → IsContent d (filter (λ u. p u.keys) us) es → (place : ℕ)
+        → place < length d.aggregates → aggregate_at d.aggregates place ≡ Sum
+        → AddUp (numbers_for place es)
     sums_kept es is place h same =
         let up = room.sums (made d us) (made_content d us) place h same in
         record {
-          above = omega (arith, (sides place es).0, (sides place (made d us)).0, up.above, entries_less above (λ x y. above_sum x y (x +ℤ y) refl) (put_number place) (made d us) es is.once each);
-          below = omega (arith, (sides place es).1, (sides place (made d us)).1, up.below, entries_less below (λ x y. below_sum x y (x +ℤ y) refl) (put_number place) (made d us) es is.once each);
+          above = omega (
+            arith,
+            (sides place es).0,
+            (sides place (made d us)).0,
+            up.above,
+            entries_less above (λ x y. above_sum x y (x +ℤ y) refl) (put_number place) (made d us)
+                es is.once each,
+          );
+          below = omega (
+            arith,
+            (sides place es).1,
+            (sides place (made d us)).1,
+            up.below,
+            entries_less below (λ x y. below_sum x y (x +ℤ y) refl) (put_number place) (made d us)
+                es is.once each,
+          );
         }
       where
-        found : (e : Update) → joined (λ x y. x +ℤ y) (numbers_for place (puts_of e.keys (filter (λ u. p u.keys) us))) ≡ Some (put_number place e)
-            → over (λ x y. x +ℤ y) (put_number place) (λ u. same_keys e.keys u.keys) (made d us) ≡ Some (put_number place e)
-        found e told = sums d us (made d us) (made_content d us) place h (same_keys e.keys) same ∙ by (p e.keys) refl
+        found : (e : Update) → joined (λ x y. x +ℤ y)
+            (numbers_for place (puts_of e.keys (filter (λ u. p u.keys) us)))
+            ≡ Some (put_number place e)
+            → over (λ x y. x +ℤ y) (put_number place) (λ u. same_keys e.keys u.keys) (made d us)
+            ≡ Some (put_number place e)
+        found e told = sums d us (made d us) (made_content d us) place h (same_keys e.keys) same
+            ∙ by (p e.keys) refl
           where
-            by : (b : Bool) → p e.keys ≡ b → joined (λ x y. x +ℤ y) (numbers_for place (puts_of e.keys us)) ≡ Some (put_number place e)
-            by true passes = ap (λ ws. joined (λ x y. x +ℤ y) (numbers_for place ws)) (sym (kept_of p e.keys us true passes)) ∙ told
-            by false fails = absurd (let none : Some (put_number place e) ≡ None = sym told ∙ ap (λ ws. joined (λ x y. x +ℤ y) (numbers_for place ws)) (kept_of p e.keys us false fails) in let no : ⊥ = cc none in no)
+            by : (b : Bool) → p e.keys ≡ b
+                → joined (λ x y. x +ℤ y) (numbers_for place (puts_of e.keys us))
+                ≡ Some (put_number place e)
+            by true passes = ap (λ ws. joined (λ x y. x +ℤ y) (numbers_for place ws))
+                (sym (kept_of p e.keys us true passes)) ∙ told
+            by false fails = absurd (let none : Some (put_number place e) ≡ None =
+                sym told ∙ ap (λ ws. joined (λ x y. x +ℤ y) (numbers_for place ws))
+                (kept_of p e.keys us false fails) in let no : ⊥ = cc none in no)
 
-        each : AllByRecursion (λ e. over (λ x y. x +ℤ y) (put_number place) (λ u. same_keys e.keys u.keys) (made d us) ≡ Some (put_number place e)) es
+        each : AllByRecursion (λ e.
+            over (λ x y. x +ℤ y) (put_number place) (λ u. same_keys e.keys u.keys) (made d us)
+            ≡ Some (put_number place e)) es
         each = all_more _ _ found es (told d (filter (λ u. p u.keys) us) es is place h Sum same)
 
 -- ---- few numbers of 64 bits
@@ -180,23 +274,29 @@ unfolding is_i64
 narrow_sides (pos n) h = let l = ltb-true n (2 ^ 63) h in (omega (arith, l), omega arith)
 narrow_sides (negsuc n) h = let l = ltb-true n (2 ^ 63) h in (omega arith, omega (arith, l))
 
-narrow_at : (place : ℕ) (vs : List ℤ) → All (λ z. is_i64 z ≡ true) vs → is_i64 (slice_index_or vs place (pos 0)) ≡ true
+narrow_at : (place : ℕ) (vs : List ℤ) → All (λ z. is_i64 z ≡ true) vs
+    → is_i64 (slice_index_or vs place (pos 0)) ≡ true
 unfolding is_i64
 narrow_at place [] all = refl
 narrow_at zero (v ∷ vs) all = All-head (λ z. is_i64 z ≡ true) v vs all
 narrow_at (suc place) (v ∷ vs) all = narrow_at place vs (All-tail (λ z. is_i64 z ≡ true) v vs all)
 
 few_sides : (place : ℕ) (us : List Update) → All (λ u. All (λ z. is_i64 z ≡ true) u.values) us
-    → (above_zero (numbers_for place us) ≤ length us * 2 ^ 63) × (below_zero (numbers_for place us) ≤ length us * 2 ^ 63)
+    → (above_zero (numbers_for place us) ≤ length us * 2 ^ 63)
+    × (below_zero (numbers_for place us) ≤ length us * 2 ^ 63)
 unfolding above_zero below_zero
 few_sides place [] all = (omega arith, omega arith)
 few_sides place (u ∷ us) all =
-    let here = narrow_sides (put_number place u) (narrow_at place u.values (All-head (λ (u : Update). All (λ z. is_i64 z ≡ true) u.values) u us all)) in
-    let rest = few_sides place us (All-tail (λ (u : Update). All (λ z. is_i64 z ≡ true) u.values) u us all) in
+    let here = narrow_sides (put_number place u)
+    (narrow_at place u.values
+    (All-head (λ (u : Update). All (λ z. is_i64 z ≡ true) u.values) u us all)) in
+    let rest = few_sides place us
+    (All-tail (λ (u : Update). All (λ z. is_i64 z ≡ true) u.values) u us all) in
     let sides = one_more (put_number place u) (numbers_for place us) _ _ (refl, refl) in
     (omega (arith, here.0, rest.0, sides.0), omega (arith, here.1, rest.1, sides.1))
 
-pub few_room : (d : Group) (us : List Update) → All (λ u. All (λ z. is_i64 z ≡ true) u.values) us → length us < 2 ^ 63 → HasRoom d us
+pub few_room : (d : Group) (us : List Update) → All (λ u. All (λ z. is_i64 z ≡ true) u.values) us
+    → length us < 2 ^ 63 → HasRoom d us
 few_room d us all few =
     small_room d us
     (λ place h same. let sides = few_sides place us all in

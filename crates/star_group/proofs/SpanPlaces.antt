@@ -1,5 +1,6 @@
 -- Places of key lists: how many there are, and those of the last keys.
-use Rattle.std.proofs.Common.{◌≡◌, ℕ, zero, suc, ◌+◌, ◌*◌, ◌/◌, ◌%◌, ◌<◌, ◌≤◌, ◌^◌, Bool, true, false, ℤ, pos, negsuc, ◌-ℤ◌, List, [], ◌∷◌, Option, Some, None, IfSome, MatchOption, nat_lt, cond, ◌++◌, map, length, take, drop, drop-cons, get_or, refl, ap, sym, ◌∙◌, arith}
+use Rattle.std.proofs.Common.{◌≡◌, ℕ, zero, suc, ◌+◌, ◌*◌, ◌/◌, ◌%◌, ◌<◌, ◌≤◌, ◌^◌, Bool, true, false, ℤ, pos, negsuc, ◌-ℤ◌, List, [], ◌∷◌, Option, Some}
+use Rattle.std.proofs.Common.{None, IfSome, MatchOption, nat_lt, cond, ◌++◌, map, length, take, drop, drop-cons, get_or, refl, ap, sym, ◌∙◌, arith}
 use Rattle.std.proofs.Math.Nat.{mul-div-le, mul-le-mul_left, mul_assoc}
 use Rattle.std.proofs.lemmas.Bool.{ltb-false}
 use Rattle.std.proofs.lemmas.Nat.{div-mul-add, div-add-mod'}
@@ -39,12 +40,15 @@ pub record IsAbove (offset size : ℕ) (rest : Option ℕ) (place : ℕ) : Type 
   pub is_rest : rest ≡ Some behind
   pub is : place ≡ offset + size * behind
 
-above_parts : (o : Option ℕ) (size : ℕ) (r : Option ℕ) (p : ℕ) → above o size r ≡ Some p → (n : ℕ) × (o ≡ Some n) × IsAbove n size r p
-above_parts (Some n) size (Some q) p e = (n, refl, record { behind = q; is_rest = refl; is = (let f : p ≡ n + size * q = cc e in f) })
+pub above_parts : (o : Option ℕ) (size : ℕ) (r : Option ℕ) (p : ℕ) → above o size r ≡ Some p
+    → (n : ℕ) × (o ≡ Some n) × IsAbove n size r p
+above_parts (Some n) size (Some q) p e =
+    (n, refl, record { behind = q; is_rest = refl; is = (let f : p ≡ n + size * q = cc e in f) })
 above_parts (Some n) size None p e = absurd (let no : ⊥ = cc e in no)
 above_parts None size r p e = absurd (let no : ⊥ = cc e in no)
 
-pub within : (ss : List Span) (ks : List KeyValue) (p : ℕ) → cell_place ss ks ≡ Some p → p < places ss
+pub within : (ss : List Span) (ks : List KeyValue) (p : ℕ) → cell_place ss ks ≡ Some p
+    → p < places ss
 within [] [] p e = let is : 0 ≡ p = cc e in omega (arith, is)
 within [] (k ∷ ks) p e = absurd (let no : ⊥ = cc e in no)
 within (s ∷ ss) [] p e = absurd (let no : ⊥ = cc e in no)
@@ -53,10 +57,12 @@ within (s ∷ ss) (k ∷ ks) p e =
     let q = parts.2.behind in
     let few = offset_last s k parts.0 parts.1 in
     let less = within ss ks q parts.2.is_rest in
-    let most = mul-le-mul_left (s.last + 1) (let l : q + 1 ≤ places ss = omega (arith, less) in l) in
+    let most = mul-le-mul_left (s.last + 1)
+    (let l : q + 1 ≤ places ss = omega (arith, less) in l) in
     omega (arith, few, most, parts.2.is)
 
-pub if_within : (ss : List Span) (ks : List KeyValue) (r : Option ℕ) → r ≡ cell_place ss ks → IfSome r (λ p. p < places ss)
+pub if_within : (ss : List Span) (ks : List KeyValue) (r : Option ℕ) → r ≡ cell_place ss ks
+    → IfSome r (λ p. p < places ss)
 if_within ss ks None e = tt
 if_within ss ks (Some p) e = within ss ks p (sym e)
 
@@ -65,23 +71,29 @@ fewer ss zero = omega arith
 fewer [] (suc i) = omega arith
 fewer (s ∷ ss) (suc i) = omega (arith, fewer ss i)
 
-pub small : (ss : List Span) (ks : List KeyValue) (i j most : ℕ) → places ss ≤ most → MatchOption (cell_place (drop i ss) (drop j ks)) (Unit {0}) (λ p. p < most)
+pub small : (ss : List Span) (ks : List KeyValue) (i j most : ℕ) → places ss ≤ most
+    → MatchOption (cell_place (drop i ss) (drop j ks)) (Unit {0}) (λ p. p < most)
 small ss ks i j most h = by (cell_place (drop i ss) (drop j ks)) refl
   where
-    by : (r : Option ℕ) → cell_place (drop i ss) (drop j ks) ≡ r → MatchOption r (Unit {0}) (λ p. p < most)
+    by : (r : Option ℕ) → cell_place (drop i ss) (drop j ks) ≡ r
+        → MatchOption r (Unit {0}) (λ p. p < most)
     by None e = tt
     by (Some p) e = omega (arith, h, fewer ss i, within (drop i ss) (drop j ks) p e)
 
 -- ---- one key more in front
 
-pub more : (ss : List Span) (ks : List KeyValue) (i : ℕ) (s : Span) (k : KeyValue) → i < length ss → i < length ks
-    → cell_place (drop i ss) (drop i ks) ≡ above (offset_of (get_or ss i s) (get_or ks i k)) ((get_or ss i s).last + 1) (cell_place (drop (suc i) ss) (drop (suc i) ks))
+pub more : (ss : List Span) (ks : List KeyValue) (i : ℕ) (s : Span) (k : KeyValue) → i < length ss
+    → i < length ks
+    → cell_place (drop i ss) (drop i ks)
+    ≡ above (offset_of (get_or ss i s) (get_or ks i k)) ((get_or ss i s).last + 1)
+    (cell_place (drop (suc i) ss) (drop (suc i) ks))
 more [] ks i s k h l = absurd (omega (arith, h))
 more (t ∷ ss) [] i s k h l = absurd (omega (arith, l))
 more (t ∷ ss) (j ∷ ks) zero s k h l = refl
 more (t ∷ ss) (j ∷ ks) (suc i) s k h l = more ss ks i s k (omega (arith, h)) (omega (arith, l))
 
-pub none_left : (ss : List Span) (ks : List KeyValue) → length ks ≡ length ss → cell_place (drop (length ss) ss) (drop (length ss) ks) ≡ Some 0
+pub none_left : (ss : List Span) (ks : List KeyValue) → length ks ≡ length ss
+    → cell_place (drop (length ss) ss) (drop (length ss) ks) ≡ Some 0
 none_left [] [] e = refl
 none_left [] (k ∷ ks) e = absurd (omega (arith, e))
 none_left (s ∷ ss) [] e = absurd (omega (arith, e))
@@ -96,7 +108,8 @@ pub record HasFirst (s : Span) (ss : List Span) (p : ℕ) (ks : List KeyValue) :
   pub offset : offset_of s key ≡ Some (p % (s.last + 1))
   pub behind : cell_place ss keys ≡ Some (p / (s.last + 1))
 
-pub first_of : (s : Span) (ss : List Span) (ks : List KeyValue) (p : ℕ) → cell_place (s ∷ ss) ks ≡ Some p → HasFirst s ss p ks
+pub first_of : (s : Span) (ss : List Span) (ks : List KeyValue) (p : ℕ)
+    → cell_place (s ∷ ss) ks ≡ Some p → HasFirst s ss p ks
 first_of s ss [] p e = absurd (let no : ⊥ = cc e in no)
 first_of s ss (k ∷ ks) p e =
     let parts = above_parts (offset_of s k) (s.last + 1) (cell_place ss ks) p e in
@@ -105,23 +118,37 @@ first_of s ss (k ∷ ks) p e =
     let few : parts.0 < size = omega (arith, offset_last s k parts.0 parts.1) in
     let turned : p ≡ q * size + parts.0 = omega (arith, parts.2.is) in
     let over : p / size ≡ q = ap (λ n. n / size) turned ∙ div-mul-add q size parts.0 few in
-    let left : p % size ≡ parts.0 = omega (arith, turned, div-add-mod' p size, ap (λ n. n * size) over) in
-    record { key = k; keys = ks; are = refl; offset = parts.1 ∙ ap Some (sym left); behind = parts.2.is_rest ∙ ap Some (sym over) }
+    let left : p % size ≡ parts.0 =
+    omega (arith, turned, div-add-mod' p size, ap (λ n. n * size) over) in
+    record {
+      key = k;
+      keys = ks;
+      are = refl;
+      offset = parts.1 ∙ ap Some (sym left);
+      behind =
+          parts.2.is_rest ∙ ap Some (sym over);
+    }
 
-pub next_place : (ss : List Span) (i : ℕ) (s : Span) (ks : List KeyValue) (p : ℕ) → i < length ss → s ≡ get_or ss i s → cell_place (drop i ss) (drop i ks) ≡ Some p
+pub next_place : (ss : List Span) (i : ℕ) (s : Span) (ks : List KeyValue) (p : ℕ) → i < length ss
+    → s ≡ get_or ss i s → cell_place (drop i ss) (drop i ks) ≡ Some p
     → HasFirst s (drop (suc i) ss) p (drop i ks)
 next_place ss i s ks p h is e =
-    let here : drop i ss ≡ s ∷ drop (suc i) ss = drop-cons ss i s h ∙ ap (λ t. t ∷ drop (suc i) ss) (sym is) in
+    let here : drop i ss ≡ s ∷ drop (suc i) ss =
+    drop-cons ss i s h ∙ ap (λ t. t ∷ drop (suc i) ss) (sym is) in
     first_of s (drop (suc i) ss) (drop i ks) p (ap (λ ts. cell_place ts (drop i ks)) (sym here) ∙ e)
 
 -- what is behind the first key
-pub behind_first : (ks : List KeyValue) (i : ℕ) (k : KeyValue) (rest : List KeyValue) → drop i ks ≡ k ∷ rest → (drop (suc i) ks ≡ rest) × (take (suc i) ks ≡ take i ks ++ (k ∷ []))
+pub behind_first : (ks : List KeyValue) (i : ℕ) (k : KeyValue) (rest : List KeyValue)
+    → drop i ks ≡ k ∷ rest → (drop (suc i) ks ≡ rest) × (take (suc i) ks ≡ take i ks ++ (k ∷ []))
 behind_first [] zero k rest e = absurd (let no : ⊥ = cc e in no)
 behind_first [] (suc i) k rest e = absurd (let no : ⊥ = cc e in no)
-behind_first (j ∷ ks) zero k rest e = ((let f : ks ≡ rest = cc e in f), ap (λ x. x ∷ []) (let f : j ≡ k = cc e in f))
-behind_first (j ∷ ks) (suc i) k rest e = let r = behind_first ks i k rest e in (r.0, ap (λ x. j ∷ x) r.1)
+behind_first (j ∷ ks) zero k rest e =
+    ((let f : ks ≡ rest = cc e in f), ap (λ x. x ∷ []) (let f : j ≡ k = cc e in f))
+behind_first (j ∷ ks) (suc i) k rest e = let r = behind_first ks i k rest e in
+    (r.0, ap (λ x. j ∷ x) r.1)
 
-pub all_kept : (ss : List Span) (ks : List KeyValue) (p : ℕ) → cell_place (drop (length ss) ss) (drop (length ss) ks) ≡ Some p → take (length ss) ks ≡ ks
+pub all_kept : (ss : List Span) (ks : List KeyValue) (p : ℕ)
+    → cell_place (drop (length ss) ss) (drop (length ss) ks) ≡ Some p → take (length ss) ks ≡ ks
 all_kept [] [] p e = refl
 all_kept [] (k ∷ ks) p e = absurd (let no : ⊥ = cc e in no)
 all_kept (s ∷ ss) [] p e = refl
@@ -131,9 +158,12 @@ all_kept (s ∷ ss) (k ∷ ks) p e = ap (λ x. k ∷ x) (all_kept ss ks p e)
 
 pub places_more : (ss : List Span) (s : Span) → places (ss ++ s ∷ []) ≡ places ss * (s.last + 1)
 places_more [] s = omega arith
-places_more (t ∷ ss) s = ap (λ n. (t.last + 1) * n) (places_more ss s) ∙ sym (mul_assoc (t.last + 1) (places ss) (s.last + 1))
+places_more (t ∷ ss) s =
+    ap (λ n. (t.last + 1) * n) (places_more ss s)
+    ∙ sym (mul_assoc (t.last + 1) (places ss) (s.last + 1))
 
-pub room_left : (count size left : ℕ) → count * left ≤ 65536 → (count * size) * (left / size) ≤ 65536
+pub room_left : (count size left : ℕ) → count * left ≤ 65536
+    → (count * size) * (left / size) ≤ 65536
 room_left count size left room =
     let most = mul-le-mul_left count (mul-div-le left size) in
     omega (arith, mul_assoc count size (left / size), most, room)
@@ -142,53 +172,79 @@ room_left count size left room =
 
 pub some_places : (ss : List Span) → 0 < places ss
 some_places [] = omega arith
-some_places (s ∷ ss) = let one = some_places ss in let most = mul-le-mul_left (s.last + 1) (let l : 1 ≤ places ss = omega (arith, one) in l) in omega (arith, most)
+some_places (s ∷ ss) = let one = some_places ss in let most =
+    mul-le-mul_left (s.last + 1) (let l : 1 ≤ places ss = omega (arith, one) in l) in
+    omega (arith, most)
 
-places_from : (ss : List Span) (i : ℕ) (s : Span) → i < length ss → s ≡ get_or ss i s → places (drop i ss) ≡ (s.last + 1) * places (drop (suc i) ss)
+places_from : (ss : List Span) (i : ℕ) (s : Span) → i < length ss → s ≡ get_or ss i s
+    → places (drop i ss) ≡ (s.last + 1) * places (drop (suc i) ss)
 places_from ss i s h is = ap places (drop-cons ss i s h ∙ ap (λ t. t ∷ drop (suc i) ss) (sym is))
 
 -- a range is no longer than there may be places, and neither is a place in front of others
-pub few_values : (ss : List Span) (i : ℕ) (s : Span) → i < length ss → s ≡ get_or ss i s → places ss ≤ 65536 → s.last < 65536
+pub few_values : (ss : List Span) (i : ℕ) (s : Span) → i < length ss → s ≡ get_or ss i s
+    → places ss ≤ 65536 → s.last < 65536
 few_values ss i s h is few =
     let one = some_places (drop (suc i) ss) in
-    let most = mul-le-mul_left (s.last + 1) (let l : 1 ≤ places (drop (suc i) ss) = omega (arith, one) in l) in
+    let most = mul-le-mul_left (s.last + 1)
+    (let l : 1 ≤ places (drop (suc i) ss) = omega (arith, one) in l) in
     omega (arith, most, places_from ss i s h is, fewer ss i, few)
 
-pub few_places : (ss : List Span) (i : ℕ) (s : Span) (ks : List KeyValue) (p : ℕ) → i < length ss → s ≡ get_or ss i s → places ss ≤ 65536 → cell_place (drop (suc i) ss) (drop (suc i) ks) ≡ Some p → s.last + (s.last + 1) * p < 2 ^ 32
+pub few_places : (ss : List Span) (i : ℕ) (s : Span) (ks : List KeyValue) (p : ℕ) → i < length ss
+    → s ≡ get_or ss i s → places ss ≤ 65536
+    → cell_place (drop (suc i) ss) (drop (suc i) ks) ≡ Some p → s.last + (s.last + 1) * p < 2 ^ 32
 few_places ss i s ks p h is few e =
     let less = within (drop (suc i) ss) (drop (suc i) ks) p e in
-    let most = mul-le-mul_left (s.last + 1) (let l : p + 1 ≤ places (drop (suc i) ss) = omega (arith, less) in l) in
+    let most = mul-le-mul_left (s.last + 1)
+    (let l : p + 1 ≤ places (drop (suc i) ss) = omega (arith, less) in l) in
     omega (arith, most, places_from ss i s h is, fewer ss i, few)
 
-pub length-keys_of : (kinds : List GroupKey) (zs : List ℤ) → length kinds ≡ length zs → length (batch_keys kinds zs) ≡ length zs
+pub length-keys_of : (kinds : List GroupKey) (zs : List ℤ) → length kinds ≡ length zs
+    → length (batch_keys kinds zs) ≡ length zs
 length-keys_of [] [] e = refl
 length-keys_of [] (z ∷ zs) e = absurd (omega (arith, e))
 length-keys_of (k ∷ kinds) [] e = refl
 length-keys_of (k ∷ kinds) (z ∷ zs) e = ap suc (length-keys_of kinds zs (omega (arith, e)))
 
-key_there : (kinds : List GroupKey) (zs : List ℤ) (i : ℕ) (k : KeyValue) → i < length kinds → i < length zs → get_or (batch_keys kinds zs) i k ≡ key_word (get_or kinds i declared.Number) (get_or zs i (pos 0))
+key_there : (kinds : List GroupKey) (zs : List ℤ) (i : ℕ) (k : KeyValue) → i < length kinds
+    → i < length zs → get_or (batch_keys kinds zs) i k
+    ≡ key_word (get_or kinds i declared.Number) (get_or zs i (pos 0))
 key_there [] zs i k h l = absurd (omega (arith, h))
 key_there (g ∷ kinds) [] i k h l = absurd (omega (arith, l))
 key_there (g ∷ kinds) (z ∷ zs) zero k h l = refl
-key_there (g ∷ kinds) (z ∷ zs) (suc i) k h l = key_there kinds zs i k (omega (arith, h)) (omega (arith, l))
+key_there (g ∷ kinds) (z ∷ zs) (suc i) k h l =
+    key_there kinds zs i k (omega (arith, h)) (omega (arith, l))
 
-offset_word : (s : Span) (g : GroupKey) (z : ℤ) → IsOf s g → IsKeyWord g z → offset_of s (key_word g z) ≡ place_up_to s.last (z -ℤ s.low)
-offset_word s declared.Number z own fits = ap (λ b. cond b None (place_up_to s.last (z -ℤ s.low))) own
-offset_word s (declared.Text c) (pos n) own fits = ap (λ b. cond b (place_up_to s.last (pos n -ℤ s.low)) None) own
-offset_word s (declared.Text c) (negsuc n) own fits = absurd (let e = fits.2 in let no : ⊥ = cc e in no)
+offset_word : (s : Span) (g : GroupKey) (z : ℤ) → IsOf s g → IsKeyWord g z
+    → offset_of s (key_word g z) ≡ place_up_to s.last (z -ℤ s.low)
+offset_word s declared.Number z own fits =
+    ap (λ b. cond b None (place_up_to s.last (z -ℤ s.low))) own
+offset_word s (declared.Text c) (pos n) own fits =
+    ap (λ b. cond b (place_up_to s.last (pos n -ℤ s.low)) None) own
+offset_word s (declared.Text c) (negsuc n) own fits =
+    absurd (let e = fits.2 in let no : ⊥ = cc e in no)
 
-pub batch_place : (ss : List Span) (s : Span) (i : ℕ) (kinds : List GroupKey) (zs : List ℤ) (z : ℤ) (p q : ℕ) → i < length ss → length kinds ≡ length ss → length zs ≡ length ss → s ≡ get_or ss i s
-    → IsOf s (get_or kinds i declared.Number) → IsKeyWord (get_or kinds i declared.Number) (get_or zs i (pos 0)) → get_or zs i (pos 0) ≡ z
-    → cell_place (drop (suc i) ss) (drop (suc i) (batch_keys kinds zs)) ≡ Some p → above (place_up_to s.last (z -ℤ s.low)) (s.last + 1) (Some p) ≡ Some q → cell_place (drop i ss) (drop i (batch_keys kinds zs)) ≡ Some q
+pub batch_place : (ss : List Span) (s : Span) (i : ℕ) (kinds : List GroupKey) (zs : List ℤ) (z : ℤ)
+    (p q : ℕ) → i < length ss → length kinds ≡ length ss → length zs ≡ length ss → s ≡ get_or ss i s
+    → IsOf s (get_or kinds i declared.Number)
+    → IsKeyWord (get_or kinds i declared.Number) (get_or zs i (pos 0)) → get_or zs i (pos 0) ≡ z
+    → cell_place (drop (suc i) ss) (drop (suc i) (batch_keys kinds zs)) ≡ Some p
+    → above (place_up_to s.last (z -ℤ s.low)) (s.last + 1) (Some p) ≡ Some q
+    → cell_place (drop i ss) (drop i (batch_keys kinds zs)) ≡ Some q
 batch_place ss s i kinds zs z p q h many wide is own fits same behind next =
-    let here : i < length (batch_keys kinds zs) = omega (arith, h, many, wide, length-keys_of kinds zs (omega (arith, many, wide))) in
+    let here : i < length (batch_keys kinds zs) =
+    omega (arith, h, many, wide, length-keys_of kinds zs (omega (arith, many, wide))) in
     let g = get_or kinds i declared.Number in
     more ss (batch_keys kinds zs) i s (Number (pos 0)) h here
-    ∙ (λ j. above (offset_of (sym is j) (key_there kinds zs i (Number (pos 0)) (omega (arith, h, many)) (omega (arith, h, wide)) j)) ((sym is j).last + 1) (behind j))
-    ∙ ap (λ o. above o (s.last + 1) (Some p)) (offset_word s g (get_or zs i (pos 0)) own fits ∙ ap (λ w. place_up_to s.last (w -ℤ s.low)) same)
+    ∙ (λ j. above (offset_of (sym is j)
+    (key_there kinds zs i (Number (pos 0)) (omega (arith, h, many)) (omega (arith, h, wide)) j))
+    ((sym is j).last + 1) (behind j))
+    ∙ ap (λ o. above o (s.last + 1) (Some p))
+    (offset_word s g (get_or zs i (pos 0)) own fits
+    ∙ ap (λ w. place_up_to s.last (w -ℤ s.low)) same)
     ∙ next
 
-pub word_there : (f : ℕ → ℤ) (rs : List ℕ) (i : ℕ) → i < length rs → get_or (map f rs) i (pos 0) ≡ f (get_or rs i 0)
+pub word_there : (f : ℕ → ℤ) (rs : List ℕ) (i : ℕ) → i < length rs
+    → get_or (map f rs) i (pos 0) ≡ f (get_or rs i 0)
 word_there f [] i h = absurd (omega (arith, h))
 word_there f (r ∷ rs) zero h = refl
 word_there f (r ∷ rs) (suc i) h = word_there f rs i (omega (arith, h))
@@ -200,14 +256,18 @@ above_none (Some n) size = refl
 above_none None size = refl
 
 -- where the last keys have none, all have none
-none_before : (ss : List Span) (ks : List KeyValue) (i : ℕ) → cell_place (drop i ss) (drop i ks) ≡ None → cell_place ss ks ≡ None
+none_before : (ss : List Span) (ks : List KeyValue) (i : ℕ)
+    → cell_place (drop i ss) (drop i ks) ≡ None → cell_place ss ks ≡ None
 none_before ss ks zero e = e
 none_before [] [] (suc i) e = absurd (let no : ⊥ = cc e in no)
 none_before [] (k ∷ ks) (suc i) e = refl
 none_before (s ∷ ss) [] (suc i) e = refl
-none_before (s ∷ ss) (k ∷ ks) (suc i) e = ap (above (offset_of s k) (s.last + 1)) (none_before ss ks i e) ∙ above_none (offset_of s k) (s.last + 1)
+none_before (s ∷ ss) (k ∷ ks) (suc i) e =
+    ap (above (offset_of s k) (s.last + 1)) (none_before ss ks i e)
+    ∙ above_none (offset_of s k) (s.last + 1)
 
-pub offset_other : (s : Span) (g : GroupKey) (z : ℤ) → (IsOf s g → ⊥) → IsKeyWord g z → offset_of s (key_word g z) ≡ None
+pub offset_other : (s : Span) (g : GroupKey) (z : ℤ) → (IsOf s g → ⊥) → IsKeyWord g z
+    → offset_of s (key_word g z) ≡ None
 offset_other s declared.Number z other fits = by s.is_code refl
   where
     by : (b : Bool) → s.is_code ≡ b → cond s.is_code None (place_up_to s.last (z -ℤ s.low)) ≡ None
@@ -215,21 +275,30 @@ offset_other s declared.Number z other fits = by s.is_code refl
     by false e = absurd (other e)
 offset_other s (declared.Text c) (pos n) other fits = by s.is_code refl
   where
-    by : (b : Bool) → s.is_code ≡ b → cond s.is_code (place_up_to s.last (pos n -ℤ s.low)) None ≡ None
+    by : (b : Bool) → s.is_code ≡ b
+        → cond s.is_code (place_up_to s.last (pos n -ℤ s.low)) None ≡ None
     by true e = absurd (other e)
     by false e = ap (λ b. cond b (place_up_to s.last (pos n -ℤ s.low)) None) e
-offset_other s (declared.Text c) (negsuc n) other fits = absurd (let e = fits.2 in let no : ⊥ = cc e in no)
+offset_other s (declared.Text c) (negsuc n) other fits =
+    absurd (let e = fits.2 in let no : ⊥ = cc e in no)
 
 -- a word that isn't in its range
-pub offset_outside : (s : Span) (g : GroupKey) (z w : ℤ) → IsOf s g → IsKeyWord g z → z ≡ w → place_up_to s.last (w -ℤ s.low) ≡ None → offset_of s (key_word g z) ≡ None
-offset_outside s g z w own fits same e = offset_word s g z own fits ∙ ap (λ n. place_up_to s.last (n -ℤ s.low)) same ∙ e
+pub offset_outside : (s : Span) (g : GroupKey) (z w : ℤ) → IsOf s g → IsKeyWord g z → z ≡ w
+    → place_up_to s.last (w -ℤ s.low) ≡ None → offset_of s (key_word g z) ≡ None
+offset_outside s g z w own fits same e =
+    offset_word s g z own fits ∙ ap (λ n. place_up_to s.last (n -ℤ s.low)) same ∙ e
 
-pub batch_none : (ss : List Span) (s : Span) (i : ℕ) (kinds : List GroupKey) (zs : List ℤ) → i < length ss → length kinds ≡ length ss → length zs ≡ length ss → s ≡ get_or ss i s
-    → offset_of s (key_word (get_or kinds i declared.Number) (get_or zs i (pos 0))) ≡ None → cell_place ss (batch_keys kinds zs) ≡ None
+pub batch_none : (ss : List Span) (s : Span) (i : ℕ) (kinds : List GroupKey) (zs : List ℤ)
+    → i < length ss → length kinds ≡ length ss → length zs ≡ length ss → s ≡ get_or ss i s
+    → offset_of s (key_word (get_or kinds i declared.Number) (get_or zs i (pos 0))) ≡ None
+    → cell_place ss (batch_keys kinds zs) ≡ None
 batch_none ss s i kinds zs h many wide is none =
-    let here : i < length (batch_keys kinds zs) = omega (arith, h, many, wide, length-keys_of kinds zs (omega (arith, many, wide))) in
+    let here : i < length (batch_keys kinds zs) =
+    omega (arith, h, many, wide, length-keys_of kinds zs (omega (arith, many, wide))) in
     let rest = cell_place (drop (suc i) ss) (drop (suc i) (batch_keys kinds zs)) in
     none_before ss (batch_keys kinds zs) i
     (more ss (batch_keys kinds zs) i s (Number (pos 0)) h here
-    ∙ (λ j. above (offset_of (sym is j) (key_there kinds zs i (Number (pos 0)) (omega (arith, h, many)) (omega (arith, h, wide)) j)) ((sym is j).last + 1) rest)
+    ∙ (λ j. above (offset_of (sym is j)
+    (key_there kinds zs i (Number (pos 0)) (omega (arith, h, many)) (omega (arith, h, wide)) j))
+    ((sym is j).last + 1) rest)
     ∙ ap (λ o. above o (s.last + 1) rest) none)

@@ -1,5 +1,6 @@
 -- Rows found by the digits of their keys: looking one up, and one row more.
-use Rattle.std.proofs.Common.{◌≡◌, ◌≢◌, ℕ, zero, suc, ◌+◌, ◌-◌, ◌*◌, ◌/◌, ◌%◌, ◌^◌, ◌<◌, ◌≤◌, List, [], ◌∷◌, ◌++◌, Bool, true, false, MatchBool, true≢false, length, drop, cond, nat_lt, get_or, set, ap, sym, ◌∙◌, subst, refl, arith, rules, below_more, get_or-set_same, get_or-set_other, ◌⊎◌, inl, inr}
+use Rattle.std.proofs.Common.{◌≡◌, ◌≢◌, ℕ, zero, suc, ◌+◌, ◌-◌, ◌*◌, ◌/◌, ◌%◌, ◌^◌, ◌<◌, ◌≤◌, List, [], ◌∷◌, ◌++◌, Bool, true, false, MatchBool, true≢false, length}
+use Rattle.std.proofs.Common.{drop, cond, nat_lt, get_or, set, ap, sym, ◌∙◌, subst, refl, arith, rules, below_more, get_or-set_same, get_or-set_other, ◌⊎◌, inl, inr}
 use Rattle.std.proofs.lemmas.Bool.{cases_eq, cases_lt}
 use Rattle.std.proofs.lemmas.List.{at_drop_more, get_or_append_left, get_or_past, get_or_default, get_or_push, length-append, length-set}
 use Rattle.std.proofs.Math.Logic.{∥∥₁_elim, ∥∥₁_map}
@@ -22,14 +23,21 @@ part_decides All All = (λ e. refl, λ e. refl)
 part_decides All (Number y) = (λ e. absurd (true≢false (sym e)), λ e. cc e)
 part_decides All (Code n) = (λ e. absurd (true≢false (sym e)), λ e. cc e)
 part_decides (Number x) All = (λ e. absurd (true≢false (sym e)), λ e. cc e)
-part_decides (Number x) (Number y) = (λ e. ap Number ((signed_Decides x y).0 e), λ e. (signed_Decides x y).1 (let same : x ≡ y = cc e in same))
+part_decides (Number x) (Number y) = (
+  λ e. ap Number ((signed_Decides x y).0 e),
+  λ e. (signed_Decides x y).1 (let same : x ≡ y = cc e in same),
+)
 part_decides (Number x) (Code n) = (λ e. absurd (true≢false (sym e)), λ e. cc e)
 part_decides (Code m) All = (λ e. absurd (true≢false (sym e)), λ e. cc e)
 part_decides (Code m) (Number y) = (λ e. absurd (true≢false (sym e)), λ e. cc e)
-part_decides (Code m) (Code n) = (λ e. ap Code ((unsigned_Decides m n).0 e), λ e. (unsigned_Decides m n).1 (let same : m ≡ n = cc e in same))
+part_decides (Code m) (Code n) = (
+  λ e. ap Code ((unsigned_Decides m n).0 e),
+  λ e. (unsigned_Decides m n).1 (let same : m ≡ n = cc e in same),
+)
 
 -- what the test of two keys tells
-pub keys_told : (b : Bool) (ps rs : List KeyPart) → b ≡ pointwise part_eq ps rs → MatchBool b (ps ≡ rs) (ps ≡ rs → ⊥)
+pub keys_told : (b : Bool) (ps rs : List KeyPart) → b ≡ pointwise part_eq ps rs
+    → MatchBool b (ps ≡ rs) (ps ≡ rs → ⊥)
 keys_told b ps rs e = by b e
   where
     decides : Decides (pointwise part_eq ps rs) (ps ≡ rs)
@@ -40,37 +48,53 @@ keys_told b ps rs e = by b e
     by false e = λ same. true≢false (sym (decides.1 same) ∙ sym e)
 
 -- the row of a number that is there and has the key
-pub held_when : (width count : ℕ) (parts key : List KeyPart) (number : ℕ) (b : Bool) → number < count → MatchBool b (key_at (cut width count parts) number ≡ key) (key_at (cut width count parts) number ≡ key → ⊥) → b ≡ true → IsHeld (cut width count parts) key number
-held_when width count parts key number true low told e = record { within = omega (arith, low, length-cut width count parts); is = told }
+pub held_when : (width count : ℕ) (parts key : List KeyPart) (number : ℕ) (b : Bool)
+    → number < count → MatchBool b (key_at (cut width count parts) number ≡ key)
+    (key_at (cut width count parts) number ≡ key → ⊥) → b ≡ true
+    → IsHeld (cut width count parts) key number
+held_when width count parts key number true low told e =
+    record { within = omega (arith, low, length-cut width count parts); is = told }
 held_when width count parts key number false low told e = absurd (true≢false (sym e))
 
 -- ---- the digits of a key
 
 -- one part more of the word
-pub word_on : (word : ℕ) (key : List KeyPart) (place : ℕ) → place < length key → word_from word (drop place key) ≡ word_from (word_with word (get_or key place All)) (drop (place + 1) key)
+pub word_on : (word : ℕ) (key : List KeyPart) (place : ℕ) → place < length key
+    → word_from word (drop place key)
+    ≡ word_from (word_with word (get_or key place All)) (drop (place + 1) key)
 unfolding word_from
 word_on word key place h = at_drop_more (word_from word) key place All h
 
-pub word_done : (word : ℕ) (key : List KeyPart) (n : ℕ) → length key ≤ n → word_from word (drop n key) ≡ word
+pub word_done : (word : ℕ) (key : List KeyPart) (n : ℕ) → length key ≤ n
+    → word_from word (drop n key) ≡ word
 unfolding word_from
 word_done word [] zero h = refl
 word_done word [] (suc n) h = refl
 word_done word (part ∷ key) zero h = absurd (omega (arith, h))
 word_done word (part ∷ key) (suc n) h = word_done word key n (omega (arith, h))
 
-pub digit_of_word : (width : ℕ) (key : List KeyPart) (depth turn : ℕ) → depth < 32 → turn ≡ turn_at depth → word_from 0 key / 2 ^ (2 * turn) % 4 ≡ digit_at width key depth
+pub digit_of_word : (width : ℕ) (key : List KeyPart) (depth turn : ℕ) → depth < 32
+    → turn ≡ turn_at depth → word_from 0 key / 2 ^ (2 * turn) % 4 ≡ digit_at width key depth
 unfolding digit_at
 digit_of_word width key depth turn low is = by (nat_lt depth 32) refl
   where
-    by : (b : Bool) → nat_lt depth 32 ≡ b → word_from 0 key / 2 ^ (2 * turn) % 4 ≡ cond b (word_from 0 key / 2 ^ (2 * turn_at depth) % 4) (part_digit (get_or key ((depth - 32) % width) All) ((depth - 32) / width))
+    by : (b : Bool) → nat_lt depth 32 ≡ b
+        → word_from 0 key / 2 ^ (2 * turn) % 4
+        ≡ cond b (word_from 0 key / 2 ^ (2 * turn_at depth) % 4)
+        (part_digit (get_or key ((depth - 32) % width) All) ((depth - 32) / width))
     by true e = ap (λ t. word_from 0 key / 2 ^ (2 * t) % 4) is
     by false e = let high : depth < 32 → ⊥ = search rules in absurd (high low)
 
-pub digit_of_part : (width : ℕ) (key : List KeyPart) (depth : ℕ) → (depth < 32 → ⊥) → part_digit (get_or key ((depth - 32) % width) All) ((depth - 32) / width) ≡ digit_at width key depth
+pub digit_of_part : (width : ℕ) (key : List KeyPart) (depth : ℕ) → (depth < 32 → ⊥)
+    → part_digit (get_or key ((depth - 32) % width) All) ((depth - 32) / width)
+    ≡ digit_at width key depth
 unfolding digit_at
 digit_of_part width key depth high = by (nat_lt depth 32) refl
   where
-    by : (b : Bool) → nat_lt depth 32 ≡ b → part_digit (get_or key ((depth - 32) % width) All) ((depth - 32) / width) ≡ cond b (word_from 0 key / 2 ^ (2 * turn_at depth) % 4) (part_digit (get_or key ((depth - 32) % width) All) ((depth - 32) / width))
+    by : (b : Bool) → nat_lt depth 32 ≡ b
+        → part_digit (get_or key ((depth - 32) % width) All) ((depth - 32) / width)
+        ≡ cond b (word_from 0 key / 2 ^ (2 * turn_at depth) % 4)
+        (part_digit (get_or key ((depth - 32) % width) All) ((depth - 32) / width))
     by true e = let low : depth < 32 = search rules in absurd (high low)
     by false e = refl
 
@@ -82,13 +106,15 @@ apart_when true told e = absurd (true≢false e)
 apart_when false told e = told
 
 -- so many digits lead to this node, and no row on the way has the key
-pub record IsGoneDown (width : ℕ) (ks : List (List KeyPart)) (links : List (List ℕ)) (key : List KeyPart) (depth node : ℕ) : Type 0 where
+pub record IsGoneDown (width : ℕ) (ks : List (List KeyPart)) (links : List (List ℕ))
+    (key : List KeyPart) (depth node : ℕ) : Type 0 where
   pub leads : Leads width links key depth node
   pub within : node < length links
   pub deep : depth ≤ node
   pub others : (i : ℕ) → i < depth → key_at ks (node_at width links key (suc i) - 1) ≡ key → ⊥
 
-module _ (width : ℕ) (ks : List (List KeyPart)) (links : List (List ℕ)) (key : List KeyPart) (trie : IsTrie width ks links) where
+module _ (width : ℕ) (ks : List (List KeyPart)) (links : List (List ℕ)) (key : List KeyPart)
+    (trie : IsTrie width ks links) where
   pub start : IsGoneDown width ks links key 0 0
   unfolding node_at
   start = record {
@@ -98,24 +124,28 @@ module _ (width : ℕ) (ks : List (List KeyPart)) (links : List (List ℕ)) (key
     others = λ i h. omega (arith, h);
   }
 
-  module _ (depth node digit : ℕ) (down : IsGoneDown width ks links key depth node) (is : digit ≡ digit_at width key depth) where
+  module _ (depth node digit : ℕ) (down : IsGoneDown width ks links key depth node)
+      (is : digit ≡ digit_at width key depth) where
     next_is : node_at width links key (suc depth) ≡ child links node digit
     unfolding node_at
     next_is = λ i. child links (down.leads.end i) (sym is i)
 
-    pub further : (next : ℕ) → next ≡ child links node digit → 0 < next → (key_at ks (next - 1) ≡ key → ⊥) → IsGoneDown width ks links key (depth + 1) next
+    pub further : (next : ℕ) → next ≡ child links node digit → 0 < next
+        → (key_at ks (next - 1) ≡ key → ⊥) → IsGoneDown width ks links key (depth + 1) next
     further next e more other =
         let there : node_at width links key (suc depth) ≡ next = next_is ∙ sym e in
         let under = trie.below node digit (subst (λ n. 0 < n) e more) in
         let one : depth + 1 ≡ suc depth = omega arith in
         record {
           leads = record {
-            steps = below_more (λ i. 0 < node_at width links key (suc i)) depth down.leads.steps (subst (λ n. 0 < n) (sym there) more);
+            steps = below_more (λ i. 0 < node_at width links key (suc i)) depth down.leads.steps
+                (subst (λ n. 0 < n) (sym there) more);
             end = ap (node_at width links key) one ∙ there;
           };
           within = omega (arith, under.1, e);
           deep = omega (arith, under.0, e, down.deep);
-          others = below_more (λ i. key_at ks (node_at width links key (suc i) - 1) ≡ key → ⊥) depth down.others (subst (λ n. key_at ks (n - 1) ≡ key → ⊥) (sym there) other);
+          others = below_more (λ i. key_at ks (node_at width links key (suc i) - 1) ≡ key → ⊥) depth
+              down.others (subst (λ n. key_at ks (n - 1) ≡ key → ⊥) (sym there) other);
         }
 
     top : node_at width links key zero ≡ 0
@@ -136,14 +166,21 @@ module _ (width : ℕ) (ks : List (List KeyPart)) (links : List (List ℕ)) (key
         first : (n : ℕ) → Leads width links key zero (n + 1) → ⊥
         first n leads = omega (arith, leads.end, top)
 
-        at : (n e : ℕ) → key_at ks n ≡ key → Leads width links key e (n + 1) → (e ≤ depth) ⊎ (depth < e) → ⊥
-        at n e same leads (inr deeper) = let more = leads.steps depth deeper in omega (arith, more, next_is, empty)
+        at : (n e : ℕ) → key_at ks n ≡ key → Leads width links key e (n + 1)
+            → (e ≤ depth) ⊎ (depth < e) → ⊥
+        at n e same leads (inr deeper) = let more = leads.steps depth deeper in
+            omega (arith, more, next_is, empty)
         at n zero same leads (inl h) = first n leads
-        at n (suc e) same leads (inl h) = down.others e (omega (arith, h)) (ap (λ m. key_at ks (m - 1)) leads.end ∙ ap (key_at ks) (let b : n + 1 - 1 ≡ n = omega arith in b) ∙ same)
+        at n (suc e) same leads (inl h) =
+            down.others e (omega (arith, h))
+            (ap (λ m. key_at ks (m - 1)) leads.end
+            ∙ ap (key_at ks) (let b : n + 1 - 1 ≡ n = omega arith in b) ∙ same)
 
         none : (n : ℕ) → n < length ks → key_at ks n ≡ key → ⊥
         none n h same =
-            ∥∥₁_elim (trie.reached n h) no_prop (λ r. at n r.0 same (subst (λ k. Leads width links k r.0 (n + 1)) same r.1) (order r.0))
+            ∥∥₁_elim (trie.reached n h) no_prop
+            (λ r. at n r.0 same (subst (λ k. Leads width links k r.0 (n + 1)) same r.1)
+            (order r.0))
           where
             order : (e : ℕ) → (e ≤ depth) ⊎ (depth < e)
             order e = by (cases_lt depth e)
@@ -154,7 +191,8 @@ module _ (width : ℕ) (ks : List (List KeyPart)) (links : List (List ℕ)) (key
 
     -- a node below is that of a row
     pub row_below : (next : ℕ) → next ≡ child links node digit → 0 < next → next - 1 < length ks
-    row_below next e more = let under = trie.below node digit (subst (λ n. 0 < n) e more) in omega (arith, under.1, e, trie.many, more)
+    row_below next e more = let under = trie.below node digit (subst (λ n. 0 < n) e more) in
+        omega (arith, under.1, e, trie.many, more)
 
 -- ---- one row more
 
@@ -181,20 +219,25 @@ no_keys width = record {
     wide zero h = refl
     wide (suc node) h = absurd (omega (arith, h))
 
-    below : (node digit : ℕ) → 0 < child (fresh ∷ []) node digit → (node < child (fresh ∷ []) node digit) × (child (fresh ∷ []) node digit < 1)
+    below : (node digit : ℕ) → 0 < child (fresh ∷ []) node digit
+        → (node < child (fresh ∷ []) node digit) × (child (fresh ∷ []) node digit < 1)
     below zero digit there = absurd (omega (arith, there, fresh_none digit))
     below (suc node) digit there = absurd (omega (arith, there))
 
 -- with no keys there is the node above all alone
-pub none_cut : (width : ℕ) (parts : List KeyPart) (links : List (List ℕ)) → links ≡ fresh ∷ [] → IsTrie width (cut width 0 parts) links
+pub none_cut : (width : ℕ) (parts : List KeyPart) (links : List (List ℕ)) → links ≡ fresh ∷ []
+    → IsTrie width (cut width 0 parts) links
 unfolding cut
 none_cut width parts links is = subst (IsTrie width []) (sym is) (no_keys width)
 
 -- the links with those of one node more, to which this digit leads
 abbrev pub linked : List (List ℕ) → ℕ → ℕ → List (List ℕ)
-linked links node digit = set (links ++ fresh ∷ []) node (set (get_or (links ++ fresh ∷ []) node []) digit (length links))
+linked links node digit =
+    set (links ++ fresh ∷ []) node (set (get_or (links ++ fresh ∷ []) node []) digit (length links))
 
-module _ (width : ℕ) (ks : List (List KeyPart)) (links : List (List ℕ)) (key : List KeyPart) (node digit : ℕ) (trie : IsTrie width ks links) (slot : IsMissing width ks links key node digit) where
+module _ (width : ℕ) (ks : List (List KeyPart)) (links : List (List ℕ)) (key : List KeyPart)
+    (node digit : ℕ) (trie : IsTrie width ks links)
+    (slot : IsMissing width ks links key node digit) where
   more_links : length (links ++ fresh ∷ []) ≡ length links + 1
   more_links = length-append links (fresh ∷ [])
 
@@ -203,47 +246,68 @@ module _ (width : ℕ) (ks : List (List KeyPart)) (links : List (List ℕ)) (key
 
   to_new : child (linked links node digit) node digit ≡ length links
   to_new =
-      let wide : digit < length (get_or (links ++ fresh ∷ []) node []) = omega (arith, slot.few, ap length (kept node slot.within), trie.wide node slot.within) in
-      ap (λ l. get_or l digit 0) (get_or-set_same (links ++ fresh ∷ []) node (set (get_or (links ++ fresh ∷ []) node []) digit (length links)) [] (omega (arith, slot.within, more_links)))
+      let wide : digit < length (get_or (links ++ fresh ∷ []) node []) =
+      omega (arith, slot.few, ap length (kept node slot.within), trie.wide node slot.within) in
+      ap (λ l. get_or l digit 0)
+      (get_or-set_same (links ++ fresh ∷ []) node
+      (set (get_or (links ++ fresh ∷ []) node []) digit (length links)) []
+      (omega (arith, slot.within, more_links)))
       ∙ get_or-set_same (get_or (links ++ fresh ∷ []) node []) digit (length links) 0 wide
 
   other_digit : (g : ℕ) → g ≢ digit → child (linked links node digit) node g ≡ child links node g
   other_digit g ne =
-      ap (λ l. get_or l g 0) (get_or-set_same (links ++ fresh ∷ []) node (set (get_or (links ++ fresh ∷ []) node []) digit (length links)) [] (omega (arith, slot.within, more_links)))
+      ap (λ l. get_or l g 0) (get_or-set_same (links ++ fresh ∷ []) node
+      (set (get_or (links ++ fresh ∷ []) node []) digit (length links)) []
+      (omega (arith, slot.within, more_links)))
       ∙ get_or-set_other (get_or (links ++ fresh ∷ []) node []) digit g (length links) 0 ne
       ∙ ap (λ l. get_or l g 0) (kept node slot.within)
 
-  other_node : (m g : ℕ) → m ≢ node → child (linked links node digit) m g ≡ child (links ++ fresh ∷ []) m g
-  other_node m g ne = ap (λ l. get_or l g 0) (get_or-set_other (links ++ fresh ∷ []) node m (set (get_or (links ++ fresh ∷ []) node []) digit (length links)) [] ne)
+  other_node : (m g : ℕ) → m ≢ node
+      → child (linked links node digit) m g ≡ child (links ++ fresh ∷ []) m g
+  other_node m g ne = ap (λ l. get_or l g 0)
+      (get_or-set_other (links ++ fresh ∷ []) node m
+      (set (get_or (links ++ fresh ∷ []) node []) digit (length links)) [] ne)
 
   -- a link that was there is there
   stays : (m g : ℕ) → 0 < child links m g → child (linked links node digit) m g ≡ child links m g
   stays m g there = by (cases_eq m node) (cases_eq g digit) (cases_lt m (length links))
     where
-      by : (m ≡ node) ⊎ (m ≡ node → ⊥) → (g ≡ digit) ⊎ (g ≡ digit → ⊥) → (m < length links) ⊎ (length links ≤ m) → child (linked links node digit) m g ≡ child links m g
-      by (inl e) (inl f) h = let none : child links m g ≡ 0 = (λ i. child links (e i) (f i)) ∙ slot.empty in omega (arith, none, there)
-      by (inl e) (inr ne) h = subst (λ k. child (linked links node digit) k g ≡ child links k g) (sym e) (other_digit g ne)
+      by : (m ≡ node) ⊎ (m ≡ node → ⊥) → (g ≡ digit) ⊎ (g ≡ digit → ⊥)
+          → (m < length links) ⊎ (length links ≤ m)
+          → child (linked links node digit) m g ≡ child links m g
+      by (inl e) (inl f) h = let none : child links m g ≡ 0 =
+          (λ i. child links (e i) (f i)) ∙ slot.empty in omega (arith, none, there)
+      by (inl e) (inr ne) h = subst (λ k. child (linked links node digit) k g ≡ child links k g)
+          (sym e) (other_digit g ne)
       by (inr ne) c (inl h) = other_node m g ne ∙ ap (λ l. get_or l g 0) (kept m h)
-      by (inr ne) c (inr h) = let none : child links m g ≡ 0 = ap (λ l. get_or l g 0) (get_or_past links m [] h) in omega (arith, none, there)
+      by (inr ne) c (inr h) = let none : child links m g ≡ 0 =
+          ap (λ l. get_or l g 0) (get_or_past links m [] h) in omega (arith, none, there)
 
-  path_stays : (k : List KeyPart) (depth : ℕ) → ((i : ℕ) → i < depth → 0 < node_at width links k (suc i)) → node_at width (linked links node digit) k depth ≡ node_at width links k depth
+  path_stays : (k : List KeyPart) (depth : ℕ)
+      → ((i : ℕ) → i < depth → 0 < node_at width links k (suc i))
+      → node_at width (linked links node digit) k depth ≡ node_at width links k depth
   unfolding node_at
   path_stays k zero steps = refl
   path_stays k (suc d) steps =
-      ap (λ m. child (linked links node digit) m (digit_at width k d)) (path_stays k d (λ i h. steps i (omega (arith, h))))
+      ap (λ m. child (linked links node digit) m (digit_at width k d))
+      (path_stays k d (λ i h. steps i (omega (arith, h))))
       ∙ stays (node_at width links k d) (digit_at width k d) (steps d (omega arith))
 
-  leads_stays : (k : List KeyPart) (depth end : ℕ) → Leads width links k depth end → Leads width (linked links node digit) k depth end
+  leads_stays : (k : List KeyPart) (depth end : ℕ) → Leads width links k depth end
+      → Leads width (linked links node digit) k depth end
   leads_stays k depth end leads = record {
-    steps = λ i h. subst (λ n. 0 < n) (sym (path_stays k (suc i) (λ j g. leads.steps j (omega (arith, h, g))))) (leads.steps i h);
+    steps = λ i h. subst (λ n. 0 < n)
+        (sym (path_stays k (suc i) (λ j g. leads.steps j (omega (arith, h, g))))) (leads.steps i h);
     end = path_stays k depth leads.steps ∙ leads.end;
   }
 
   leads_new : Leads width (linked links node digit) key (slot.depth + 1) (length links)
   unfolding node_at
   leads_new = record {
-    steps = below_more (λ i. 0 < node_at width (linked links node digit) key (suc i)) slot.depth before.steps (omega (arith, last, slot.within));
-    end = ap (node_at width (linked links node digit) key) (let one : slot.depth + 1 ≡ suc slot.depth = omega arith in one) ∙ last;
+    steps = below_more (λ i. 0 < node_at width (linked links node digit) key (suc i)) slot.depth
+        before.steps (omega (arith, last, slot.within));
+    end = ap (node_at width (linked links node digit) key)
+        (let one : slot.depth + 1 ≡ suc slot.depth = omega arith in one) ∙ last;
   }
     where
       before : Leads width (linked links node digit) key slot.depth node
@@ -252,8 +316,10 @@ module _ (width : ℕ) (ks : List (List KeyPart)) (links : List (List ℕ)) (key
       last : node_at width (linked links node digit) key (suc slot.depth) ≡ length links
       last = step ∙ to_new
         where
-          step : node_at width (linked links node digit) key (suc slot.depth) ≡ child (linked links node digit) node digit
-          step = ap (λ m. child (linked links node digit) m (digit_at width key slot.depth)) before.end ∙ ap (child (linked links node digit) node) (sym slot.next)
+          step : node_at width (linked links node digit) key (suc slot.depth)
+              ≡ child (linked links node digit) node digit
+          step = ap (λ m. child (linked links node digit) m (digit_at width key slot.depth))
+              before.end ∙ ap (child (linked links node digit) node) (sym slot.next)
 
   old_key : (n : ℕ) → n < length ks → key_at (ks ++ key ∷ []) n ≡ key_at ks n
   old_key n h = get_or_append_left ks (key ∷ []) [] n h
@@ -276,36 +342,59 @@ module _ (width : ℕ) (ks : List (List KeyPart)) (links : List (List ℕ)) (key
     once = once;
   }
     where
-      wide : (m : ℕ) → m < length (linked links node digit) → length (get_or (linked links node digit) m []) ≡ 4
+      wide : (m : ℕ) → m < length (linked links node digit)
+          → length (get_or (linked links node digit) m []) ≡ 4
       wide m h = by (cases_eq m node) (cases_lt m (length links))
         where
-          by : (m ≡ node) ⊎ (m ≡ node → ⊥) → (m < length links) ⊎ (length links ≤ m) → length (get_or (linked links node digit) m []) ≡ 4
+          by : (m ≡ node) ⊎ (m ≡ node → ⊥) → (m < length links) ⊎ (length links ≤ m)
+              → length (get_or (linked links node digit) m []) ≡ 4
           by (inl e) c =
               ap (λ k. length (get_or (linked links node digit) k [])) e
-              ∙ ap length (get_or-set_same (links ++ fresh ∷ []) node (set (get_or (links ++ fresh ∷ []) node []) digit (length links)) [] (omega (arith, slot.within, more_links)))
-              ∙ length-set (get_or (links ++ fresh ∷ []) node []) digit (length links) ∙ ap length (kept node slot.within) ∙ trie.wide node slot.within
-          by (inr ne) (inl low) = ap length (get_or-set_other (links ++ fresh ∷ []) node m _ [] ne ∙ kept m low) ∙ trie.wide m low
+              ∙ ap length (get_or-set_same (links ++ fresh ∷ []) node
+              (set (get_or (links ++ fresh ∷ []) node []) digit (length links)) []
+              (omega (arith, slot.within, more_links)))
+              ∙ length-set (get_or (links ++ fresh ∷ []) node []) digit (length links)
+              ∙ ap length (kept node slot.within) ∙ trie.wide node slot.within
+          by (inr ne) (inl low) = ap length
+              (get_or-set_other (links ++ fresh ∷ []) node m _ [] ne ∙ kept m low) ∙ trie.wide m low
           by (inr ne) (inr high) =
               let last : length links ≡ m = omega (arith, h, high, all_links) in
-              ap length (get_or-set_other (links ++ fresh ∷ []) node m _ [] ne ∙ get_or_push links fresh [] m last)
+              ap length (get_or-set_other (links ++ fresh ∷ []) node m _ [] ne
+              ∙ get_or_push links fresh [] m last)
 
-      below : (m g : ℕ) → 0 < child (linked links node digit) m g → (m < child (linked links node digit) m g) × (child (linked links node digit) m g < length (linked links node digit))
+      below : (m g : ℕ) → 0 < child (linked links node digit) m g
+          → (m < child (linked links node digit) m g)
+          × (child (linked links node digit) m g < length (linked links node digit))
       below m g there = by (cases_eq m node) (cases_eq g digit) (cases_lt m (length links))
         where
-          old : child (linked links node digit) m g ≡ child links m g → (m < child (linked links node digit) m g) × (child (linked links node digit) m g < length (linked links node digit))
-          old e = let b = trie.below m g (subst (λ n. 0 < n) e there) in (omega (arith, e, b.0), omega (arith, e, b.1, all_links))
+          old : child (linked links node digit) m g ≡ child links m g
+              → (m < child (linked links node digit) m g)
+              × (child (linked links node digit) m g < length (linked links node digit))
+          old e = let b = trie.below m g (subst (λ n. 0 < n) e there) in
+              (omega (arith, e, b.0), omega (arith, e, b.1, all_links))
 
-          by : (m ≡ node) ⊎ (m ≡ node → ⊥) → (g ≡ digit) ⊎ (g ≡ digit → ⊥) → (m < length links) ⊎ (length links ≤ m) → (m < child (linked links node digit) m g) × (child (linked links node digit) m g < length (linked links node digit))
+          by : (m ≡ node) ⊎ (m ≡ node → ⊥) → (g ≡ digit) ⊎ (g ≡ digit → ⊥)
+              → (m < length links) ⊎ (length links ≤ m)
+              → (m < child (linked links node digit) m g)
+              × (child (linked links node digit) m g < length (linked links node digit))
           by (inl e) (inl f) c =
-              let new : child (linked links node digit) m g ≡ length links = (λ i. child (linked links node digit) (e i) (f i)) ∙ to_new in
+              let new : child (linked links node digit) m g ≡ length links =
+              (λ i. child (linked links node digit) (e i) (f i)) ∙ to_new in
               (omega (arith, new, e, slot.within), omega (arith, new, all_links))
-          by (inl e) (inr ne) c = old (subst (λ k. child (linked links node digit) k g ≡ child links k g) (sym e) (other_digit g ne))
+          by (inl e) (inr ne) c = old
+              (subst (λ k. child (linked links node digit) k g ≡ child links k g) (sym e)
+              (other_digit g ne))
           by (inr ne) c (inl low) = old (other_node m g ne ∙ ap (λ l. get_or l g 0) (kept m low))
-          by (inr ne) c (inr high) = absurd (let none = beyond (cases_eq (length links) m) in omega (arith, none, there))
+          by (inr ne) c (inr high) =
+              absurd (let none = beyond (cases_eq (length links) m) in omega (arith, none, there))
             where
-              beyond : (length links ≡ m) ⊎ (length links ≡ m → ⊥) → child (linked links node digit) m g ≡ 0
-              beyond (inl e) = other_node m g ne ∙ ap (λ l. get_or l g 0) (get_or_push links fresh [] m e) ∙ fresh_none g
-              beyond (inr apart) = other_node m g ne ∙ ap (λ l. get_or l g 0) (get_or_past (links ++ fresh ∷ []) m [] (omega (arith, high, apart, more_links)))
+              beyond : (length links ≡ m) ⊎ (length links ≡ m → ⊥)
+                  → child (linked links node digit) m g ≡ 0
+              beyond (inl e) = other_node m g ne
+                  ∙ ap (λ l. get_or l g 0) (get_or_push links fresh [] m e) ∙ fresh_none g
+              beyond (inr apart) = other_node m g ne
+                  ∙ ap (λ l. get_or l g 0)
+                  (get_or_past (links ++ fresh ∷ []) m [] (omega (arith, high, apart, more_links)))
 
       which : (n : ℕ) → n < length (ks ++ key ∷ []) → (n < length ks) ⊎ (length ks ≡ n)
       which n h = by (cases_lt n (length ks))
@@ -314,17 +403,36 @@ module _ (width : ℕ) (ks : List (List KeyPart)) (links : List (List ℕ)) (key
           by (inl low) = inl low
           by (inr high) = inr (omega (arith, h, high, more_rows))
 
-      reached : (n : ℕ) → n < length (ks ++ key ∷ []) → ∥ ((depth : ℕ) × Leads width (linked links node digit) (key_at (ks ++ key ∷ []) n) depth (n + 1)) ∥₁
+      reached : (n : ℕ) → n < length (ks ++ key ∷ [])
+          → ∥ ((depth : ℕ) × Leads width (linked links node digit) (key_at (ks ++ key ∷ []) n) depth
+          (n + 1)) ∥₁
       reached n h = by (which n h)
         where
-          by : (n < length ks) ⊎ (length ks ≡ n) → ∥ ((depth : ℕ) × Leads width (linked links node digit) (key_at (ks ++ key ∷ []) n) depth (n + 1)) ∥₁
-          by (inl low) = ∥∥₁_map (trie.reached n low) (λ r. (r.0, subst (λ k. Leads width (linked links node digit) k r.0 (n + 1)) (sym (old_key n low)) (leads_stays (key_at ks n) r.0 (n + 1) r.1)))
+          by : (n < length ks) ⊎ (length ks ≡ n)
+              → ∥ ((depth : ℕ) × Leads width (linked links node digit) (key_at (ks ++ key ∷ []) n)
+              depth (n + 1)) ∥₁
+          by (inl low) = ∥∥₁_map (trie.reached n low)
+              (λ r. (
+                r.0,
+                subst (λ k. Leads width (linked links node digit) k r.0 (n + 1))
+                    (sym (old_key n low)) (leads_stays (key_at ks n) r.0 (n + 1) r.1),
+              ))
           by (inr last) =
               let to : length links ≡ n + 1 = trie.many ∙ ap (λ m. m + 1) last in
-              let is : key ≡ key_at (ks ++ key ∷ []) n = sym new_key ∙ ap (key_at (ks ++ key ∷ [])) last in
-              ∣ (slot.depth + 1, subst (λ m. Leads width (linked links node digit) (key_at (ks ++ key ∷ []) n) (slot.depth + 1) m) to (subst (λ k. Leads width (linked links node digit) k (slot.depth + 1) (length links)) is leads_new)) ∣₁
+              let is : key ≡ key_at (ks ++ key ∷ []) n =
+              sym new_key ∙ ap (key_at (ks ++ key ∷ [])) last in
+              ∣ (
+                slot.depth + 1,
+                subst
+                    (λ m. Leads width (linked links node digit) (key_at (ks ++ key ∷ []) n)
+                    (slot.depth + 1) m) to (subst
+                    (λ k. Leads width (linked links node digit) k (slot.depth + 1) (length links))
+                    is
+                    leads_new),
+              ) ∣₁
 
-      once : (i j : ℕ) → i < length (ks ++ key ∷ []) → j < length (ks ++ key ∷ []) → key_at (ks ++ key ∷ []) i ≡ key_at (ks ++ key ∷ []) j → i ≡ j
+      once : (i j : ℕ) → i < length (ks ++ key ∷ []) → j < length (ks ++ key ∷ [])
+          → key_at (ks ++ key ∷ []) i ≡ key_at (ks ++ key ∷ []) j → i ≡ j
       once i j hi hj same = by (which i hi) (which j hj)
         where
           is_new : (n : ℕ) → length ks ≡ n → key_at (ks ++ key ∷ []) n ≡ key
@@ -337,10 +445,15 @@ module _ (width : ℕ) (ks : List (List KeyPart)) (links : List (List ℕ)) (key
           by (inr p) (inl q) = absurd (slot.none j q (sym (old_key j q) ∙ sym same ∙ is_new i p))
 
   -- as the code writes it
-  pub is_trie_after : (fs : List (List KeyPart)) (ls : List (List ℕ)) (inner default : List ℕ) (number : ℕ) → fs ≡ ks ++ key ∷ [] → ls ≡ links ++ fresh ∷ [] → inner ≡ get_or ls node default → number ≡ length links
+  pub is_trie_after : (fs : List (List KeyPart)) (ls : List (List ℕ)) (inner default : List ℕ)
+      (number : ℕ) → fs ≡ ks ++ key ∷ [] → ls ≡ links ++ fresh ∷ [] → inner ≡ get_or ls node default
+      → number ≡ length links
       → IsTrie width fs (set ls node (set inner digit number))
   is_trie_after fs ls inner default number rows more at is =
       let there : node < length ls = omega (arith, slot.within, ap length more, more_links) in
       let first : inner ≡ get_or ls node [] = at ∙ get_or_default ls node default [] there in
-      let same : set ls node (set inner digit number) ≡ linked links node digit = (λ i. set (more i) node (set ((first ∙ ap (λ l. get_or l node []) more) i) digit (is i))) in
-      subst (λ l. IsTrie width fs l) (sym same) (subst (λ f. IsTrie width f (linked links node digit)) (sym rows) one_more)
+      let same : set ls node (set inner digit number) ≡ linked links node digit =
+      (λ i. set (more i) node (set ((first ∙ ap (λ l. get_or l node []) more) i) digit
+      (is i))) in
+      subst (λ l. IsTrie width fs l) (sym same)
+      (subst (λ f. IsTrie width f (linked links node digit)) (sym rows) one_more)

@@ -34,7 +34,8 @@ either false true = refl
 either false false = refl
 
 abbrev HasAt : Update → ℕ → Type 0
-HasAt entry place = aggregate (aggregate_at sales.aggregates place) (numbers_for place (puts_of entry.keys puts)) ≡ Some (put_number place entry)
+HasAt entry place = aggregate (aggregate_at sales.aggregates place)
+    (numbers_for place (puts_of entry.keys puts)) ≡ Some (put_number place entry)
 
 at_ones : (place : ℕ) → place < 3 → HasAt ones place
 at_ones zero h = refl
@@ -92,7 +93,8 @@ worked_more = record {
     swapped false true = refl
     swapped false false = refl
 
-    own : (place : ℕ) → place < 3 → group_aggregate (Number (pos 2) ∷ []) place (ones ∷ twos (pos 2) ∷ [])
+    own : (place : ℕ) → place < 3
+        → group_aggregate (Number (pos 2) ∷ []) place (ones ∷ twos (pos 2) ∷ [])
         ≡ Some (step (aggregate_at sales.aggregates place) (put_number place (two (pos 2)))
         (group_aggregate (Number (pos 2) ∷ []) place (ones ∷ two (pos 5) ∷ [])))
     own zero h = refl
@@ -111,7 +113,8 @@ worked_more = record {
         → (place : ℕ) → place < 3 → group_aggregate ks place (ones ∷ twos (pos 2) ∷ [])
         ≡ group_aggregate ks place (ones ∷ two (pos 5) ∷ [])
     others ks other place h = kept (same_keys ks (Number (pos 1) ∷ []))
-        (same_keys ks (Number (pos 2) ∷ [])) (put_number place ones) (put_number place (twos (pos 2)))
+        (same_keys ks (Number (pos 2) ∷ [])) (put_number place ones)
+        (put_number place (twos (pos 2)))
         (put_number place (two (pos 5))) other
 
 -- a COUNT grows by 1, and not by what is put

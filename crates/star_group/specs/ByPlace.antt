@@ -32,8 +32,8 @@ AreAt none value spans items puts = (place : ℕ) → place < length items
     → slice_index_or items place none ≡ value (filter (λ put. is_at spans place put.keys) puts)
 
 -- the cells of one aggregate
-abbrev pub column : Group → List Bool → List ℤ → ℕ → List ℤ
-column d seen cells a = slice_index_or (cut (length seen) (length d.aggregates) cells) a []
+abbrev pub aggregate_cells : Group → List Bool → List ℤ → ℕ → List ℤ
+aggregate_cells d seen cells a = slice_index_or (cut (length seen) (length d.aggregates) cells) a []
 
 -- which places have puts, and their cells; and the base rows of the puts whose keys have no place
 pub record IsPlaced (d : Group) (spans : List Span) (seen : List Bool) (cells : List ℤ)
@@ -42,7 +42,7 @@ pub record IsPlaced (d : Group) (spans : List Span) (seen : List Bool) (cells : 
   pub fit : AllByRecursion (λ put. length put.keys ≡ d.count) puts
   pub seen_at : AreAt false has_puts spans seen puts
   pub cells_at : (a : ℕ) → a < length d.aggregates
-      → AreAt (pos 0) (cell_over d a) spans (column d seen cells a) puts
+      → AreAt (pos 0) (cell_over d a) spans (aggregate_cells d seen cells a) puts
   pub rest : IsBase d entries all (filter (λ put. is_outside spans put.keys) puts)
 
 -- they are those of some puts that have room

@@ -7,7 +7,7 @@ use Rattle.star_program.specs.Puts.{Update}
 use Rattle.star_group.specs.Stores.{Group}
 
 abbrev pub group_view : DeferredStore → Group
-group_view s = record { shape = s.shape; count = s.count; aggregates = s.aggregates.items }
+group_view s = record { shape = s.shape; count = s.key_count; aggregates = s.aggregates.items }
 
 -- the store has the content of these puts
 abbrev pub Has : DeferredStore → List Update → Type 0

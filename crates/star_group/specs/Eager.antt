@@ -10,7 +10,7 @@ use Rattle.star_program.specs.Puts.{Update}
 use Rattle.star_group.specs.Stores.{Group}
 
 abbrev pub group_view : EagerStore → Group
-group_view s = record { shape = s.shape; count = s.count; aggregates = s.aggregates.items }
+group_view s = record { shape = s.shape; count = s.key_count; aggregates = s.aggregates.items }
 
 -- the rows with that of all puts beside them
 abbrev pub with_total : List (Option ℤ) → (List (Option KeyValue) → Option (List (Option ℤ))) → List (Option KeyValue) → Option (List (Option ℤ))

@@ -7,4 +7,4 @@ use Rattle.star_group.specs.Keyed.{keyed}
 
 -- the rows with their keys
 abbrev pub entries_of : KeyedRows → List (List KeyPart × List (Option ℤ))
-entries_of rows = keyed (cut rows.trie.width rows.trie.len rows.trie.keys.items) (cut rows.many rows.trie.len rows.cells.items)
+entries_of rows = keyed (cut rows.trie.width rows.trie.len rows.trie.keys.items) (cut rows.aggregate_count rows.trie.len rows.cells.items)

@@ -43,7 +43,7 @@ impl Held {
 // One number for each aggregate; past the group's aggregates they don't matter.
 pub(crate) type Row = [Held; 8];
 
-/// The row of all puts. A contract sees its aggregates, of which there are none before the first put.
+/// The row of all puts. A contract sees its aggregates, none before the first put.
 #[derive(Drop)]
 pub(crate) struct Total {
     row: Row,

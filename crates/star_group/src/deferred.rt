@@ -10,7 +10,7 @@ mod store;
 
 use crate::cell::Total;
 use crate::keyed::KeyedRows;
-use crate::newest::Newest;
+use crate::row_cache::RowCache;
 use star_schema::{Aggregate, Shape};
 use std::alloc::Global;
 
@@ -22,14 +22,14 @@ use std::alloc::Global;
 pub struct DeferredStore {
     pub(crate) alloc: Global,
     pub(crate) shape: Shape,
-    pub(crate) count: usize,
+    pub(crate) key_count: usize,
     pub(crate) aggregates: Vec<Aggregate>,
     pub(crate) rows: KeyedRows,
-    newest: Newest,
+    row_cache: RowCache,
     pub(crate) total: Total,
-    ghost wide: { count ≤ rows.trie.width },
-    ghost many: { rows.many ≡ vec_len aggregates },
+    ghost wide: { key_count ≤ rows.trie.width },
+    ghost aggregate_count: { rows.aggregate_count ≡ vec_len aggregates },
     ghost room: { HasBaseWithRoom
-        (record { shape = shape; count = count; aggregates = aggregates.items })
+        (record { shape = shape; count = key_count; aggregates = aggregates.items })
         (entries_of rows) total },
 }

@@ -2,15 +2,15 @@
 
 ghost use Rattle.std.specs.Prelude.{◌≡◌, ◌≤◌, vec_len};
 
-mod own;
 mod put;
+mod row_keys;
 mod store;
 
 use crate::cell::Total;
 use crate::keyed::KeyedRows;
 use crate::keyed::key::OrderedKey;
 use crate::keyed::trie::Place;
-use crate::newest::Newest;
+use crate::row_cache::RowCache;
 use star_schema::{Aggregate, Shape};
 use std::alloc::Global;
 
@@ -24,14 +24,14 @@ use std::alloc::Global;
 pub struct EagerStore {
     alloc: Global,
     shape: Shape,
-    count: usize,
+    key_count: usize,
     aggregates: Vec<Aggregate>,
     rows: KeyedRows,
-    newest: Newest,
+    row_cache: RowCache,
     total: Total,
     // Where rows hide keys: the keys of a put's rows beside the total, and where they are.
-    own: Vec<OrderedKey>,
+    row_keys: Vec<OrderedKey>,
     places: Vec<Place>,
-    ghost wide: { count ≤ rows.trie.width },
-    ghost many: { rows.many ≡ vec_len aggregates },
+    ghost wide: { key_count ≤ rows.trie.width },
+    ghost aggregate_count: { rows.aggregate_count ≡ vec_len aggregates },
 }

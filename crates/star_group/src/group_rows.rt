@@ -1,8 +1,8 @@
 // The rows that a store gives in the end, in flat storage.
 
-ghost use Rattle.std.specs.Prelude.{◌≡◌, ◌<◌, ◌+◌, ◌*◌, ◌++◌, ◌∷◌, [], List, None, length, slice_index_or, take, drop, if◌then◌else◌, nat_lt, IfOk, OnOk, ℕ};
+ghost use Rattle.std.specs.Prelude.{◌≡◌, ◌<◌, ◌+◌, ◌*◌, ◌++◌, ◌∷◌, [], List, None, length, slice_index_or, if◌then◌else◌, IfOk, OnOk, ℕ};
 ghost use Rattle.star_program.specs.Rows.{cut};
-ghost use Rattle.star_group.specs.Private.FlatRows.{AreParts, Fits};
+ghost use Rattle.star_group.specs.Private.FlatRows.{AreParts, HasWidths};
 ghost use Rattle.star_group.specs.StoreRows.{row_at};
 ghost use Rattle.star_group.specs.declared.group_row.GroupRow.{GroupRow as Row};
 
@@ -27,19 +27,19 @@ pub struct GroupRows {
 
 impl Model for GroupRows {
     ghost use Rattle.std.specs.Prelude.{◌≡◌, ◌*◌, ◌++◌, List, length};
-    ghost use Rattle.star_group.specs.Private.FlatRows.{rows_of};
+    ghost use Rattle.star_group.specs.Private.FlatRows.{flat_rows};
     ghost use Rattle.star_group.specs.declared.group_row.GroupRow.{GroupRow as Row};
 
     ghost Value = { List Row };
 
-    ghost view = { λ rows. rows_of rows.key_count rows.aggregate_count rows.len
+    ghost view = { λ rows. flat_rows rows.key_count rows.aggregate_count rows.len
         rows.keys.items (rows.total.items ++ rows.aggregates.items) };
 
     ghost invariant = { λ rows. (length rows.keys.items ≡ rows.len * rows.key_count)
         × (length (rows.total.items ++ rows.aggregates.items) ≡ rows.len * rows.aggregate_count) };
 }
 
-// One of some aggregates, behind which others stand.
+// One of some aggregates, after which others stand.
 fn aggregate_at(first: &[Option<i128>], others: &[Held], at: usize) -> Option<i128>
     requires { at < length (first.now ++ others.now) }
     ensures { result ≡ slice_index_or (first.now ++ others.now) at None }
@@ -51,8 +51,8 @@ fn aggregate_at(first: &[Option<i128>], others: &[Held], at: usize) -> Option<i1
     }
 }
 
-// The aggregate at a place of the row of a number, of so many rows of so many aggregates each, one
-// after another.
+// The aggregate at a place of the row of a number, of rows of equally many aggregates, one after
+// another.
 fn aggregate_in(
     first: &[Option<i128>],
     others: &[Held],
@@ -108,7 +108,7 @@ pub(crate) struct Gathered {
     pub(crate) aggregates: Vec<Held>,
 }
 
-// These keys, where they are given, with room for so many in all.
+// These keys, where they are given, with room for `most` in all.
 fn first_keys(
     alloc: Global,
     most: usize,
@@ -140,7 +140,7 @@ fn first_aggregates(
 }
 
 impl Gathered {
-    // This row first, where it is given, with room for so many in all.
+    // Begins with this row, where it is given, with room for `most` rows in all.
     pub(crate) fn starting(
         alloc: Global,
         most: usize,
@@ -149,7 +149,7 @@ impl Gathered {
         given: bool,
         first: &GroupRow,
     ) -> Result<Gathered, AllocError>
-        requires { Fits key_count aggregate_count first.now }
+        requires { HasWidths key_count aggregate_count first.now }
         ensures { IfOk result (λ rows. AreParts key_count aggregate_count rows.count rows.keys.items
             (rows.total.items ++ rows.aggregates.items) (if given then first.now ∷ [] else [])) }
     {

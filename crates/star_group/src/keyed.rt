@@ -17,10 +17,10 @@ use trie::Trie;
 #[derive(Drop)]
 pub(crate) struct KeyedRows {
     pub(crate) trie: Trie,
-    pub(crate) many: usize,
+    pub(crate) aggregate_count: usize,
     pub(crate) cells: Vec<Held>,
-    ghost few: { many ≤ 8 },
-    ghost long: { length cells.items ≡ trie.len * many },
+    ghost few: { aggregate_count ≤ 8 },
+    ghost long: { length cells.items ≡ trie.len * aggregate_count },
 }
 
 /// The same with nothing to find a row by: what is left where all are read in turn.
@@ -29,9 +29,9 @@ pub(crate) struct ListedRows {
     pub(crate) width: usize,
     pub(crate) len: usize,
     pub(crate) keys: Vec<KeyPart>,
-    pub(crate) many: usize,
+    pub(crate) aggregate_count: usize,
     pub(crate) cells: Vec<Held>,
     ghost few: { width ≤ 6 },
     ghost long_keys: { length keys.items ≡ len * width },
-    ghost long_cells: { length cells.items ≡ len * many },
+    ghost long_cells: { length cells.items ≡ len * aggregate_count },
 }

@@ -20,9 +20,9 @@ pub fn one_put_changes_one_entry()
         → IsWithPut d put content after → IsContent d (put ∷ puts) after }
 {}
 
-/// The groups of puts are those of their content's key lists, each of which is there once, and
-/// their aggregates are functions of the content: the sums and the counts of its key lists are
-/// added, and of the least and the greatest numbers the least and the greatest are taken.
+/// The groups of puts are those of their content's key lists, each there once, and their aggregates
+/// are functions of the content: the sums and the counts of its key lists are added, and of the
+/// least and the greatest numbers the least and the greatest are taken.
 pub fn groups_are_of_content()
     ensures { (d : Group) (puts content : List Update) → IsContent d puts content
         → AreOfContent d puts content }

@@ -15,9 +15,9 @@ mod group_row;
 mod group_rows;
 mod keyed;
 pub mod law;
-mod newest;
 mod numbers;
 mod placed;
+mod row_cache;
 mod rows;
 mod store;
 

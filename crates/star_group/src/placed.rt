@@ -25,11 +25,11 @@ pub struct PlacedStore {
     spans: Vec<Span>,
     seen: Vec<bool>,
     cells: Vec<i128>,
-    ghost keys: { length spans.items ≡ rest.count },
+    ghost keys: { length spans.items ≡ rest.key_count },
     ghost few: { places spans.items ≤ 65536 },
-    ghost many: { length seen.items ≡ places spans.items },
+    ghost marks: { length seen.items ≡ places spans.items },
     ghost long: { length cells.items ≡ length rest.aggregates.items * length seen.items },
     ghost room: { IsPlacedWithRoom
-        (record { shape = rest.shape; count = rest.count; aggregates = rest.aggregates.items })
+        (record { shape = rest.shape; count = rest.key_count; aggregates = rest.aggregates.items })
         spans.items seen.items cells.items (entries_of rest.rows) rest.total },
 }

@@ -8,7 +8,7 @@ ghost use Rattle.star_group.specs.Base.{key_view, row_found};
 ghost use Rattle.star_group.specs.Entries.{entries_of};
 ghost use Rattle.star_group.specs.OwnKeys.{key_eq};
 ghost use Rattle.star_group.specs.Private.Merged.{IsMergedAt, MergeLeaves, MergeStays, RowsStay};
-ghost use Rattle.star_group.specs.Private.Numbers.{AreAsWide, AreNarrow, ArePlaces, FitsIn, HasSpace, IsGrown, IsNarrow, IsPlace, IsPlaceAmong, IsWithin};
+ghost use Rattle.star_group.specs.Private.Numbers.{AreAsWide, AreNarrow, ArePlacesOfKeys, FitsIn, HasSpace, IsGrown, IsNarrow, IsPlace, IsPlaceAmong, IsRowWithin};
 ghost use Rattle.star_group.specs.Private.Rows.{AllStay, MergesAll, PutsRows, SomeLeaves, is_one_of};
 ghost use Rattle.star_group.specs.Private.Tries.{is_missing};
 ghost use Rattle.star_group.specs.declared.keyed.key.KeyPart.{KeyPart};
@@ -40,13 +40,13 @@ impl From<AllocError> for PutFault {
 // Where the rows of these keys are, or would be.
 fn find_places(
     rows: &KeyedRows,
-    own: &[OrderedKey],
+    row_keys: &[OrderedKey],
     places: &mut Vec<Place>,
 ) -> Result<(), AllocError>
-    ensures { OnOk result (ArePlaces rows.now own.now places.new.items) }
+    ensures { OnOk result (ArePlacesOfKeys rows.now row_keys.now places.new.items) }
 {
     places.clear();
-    for key in own {
+    for key in row_keys {
         places.push(rows.place(key))?;
     }
     Ok(())
@@ -60,7 +60,7 @@ pub(crate) fn stays_at(
     aggregates: &[Aggregate],
     more: &[Held],
 ) -> bool
-    requires within { IsWithin rows.now place }
+    requires within { IsRowWithin rows.now place }
     requires fits { FitsIn rows.now aggregates.now more.now }
     ensures { (key : List KeyPart) → length key ≡ 6 → IsNarrow rows.now.trie.width key
         → IsPlace rows.now key place → MatchBool result
@@ -79,19 +79,19 @@ pub(crate) fn stays_at(
 // more merged in.
 fn all_stay_at(
     rows: &KeyedRows,
-    own: &[OrderedKey],
+    row_keys: &[OrderedKey],
     places: &[Place],
     aggregates: &[Aggregate],
     more: &[Held],
 ) -> bool
-    requires narrow { AreNarrow rows.now.trie.width own.now }
-    requires places { ArePlaces rows.now own.now places.now }
+    requires narrow { AreNarrow rows.now.trie.width row_keys.now }
+    requires places { ArePlacesOfKeys rows.now row_keys.now places.now }
     requires fits { FitsIn rows.now aggregates.now more.now }
     ensures { MatchBool result
-        (AllStay (row_found (entries_of rows.now)) (is_one_of own.now) aggregates.now more.now)
-        (SomeLeaves (row_found (entries_of rows.now)) (is_one_of own.now) aggregates.now more.now) }
+        (AllStay (row_found (entries_of rows.now)) (is_one_of row_keys.now) aggregates.now more.now)
+        (SomeLeaves (row_found (entries_of rows.now)) (is_one_of row_keys.now) aggregates.now more.now) }
 {
-    for index in 0..own.len() {
+    for index in 0..row_keys.len() {
         if !stays_at(rows, places[index], aggregates, more) {
             return false;
         }
@@ -99,17 +99,17 @@ fn all_stay_at(
     true
 }
 
-// A row merged into that of this key, which has this place as long as there are so many rows.
+// Merges a row into that of this key, which has this place as long as there are `row_count` rows.
 fn merge_at(
     rows: &mut KeyedRows,
-    count: usize,
+    row_count: usize,
     key: &OrderedKey,
     place: Place,
     aggregates: &[Aggregate],
     more: &[Held],
 )
     requires narrow { IsNarrow rows.old.trie.width key.now }
-    requires place { IsPlaceAmong rows.old count key.now place }
+    requires place { IsPlaceAmong rows.old row_count key.now place }
     requires fits { FitsIn rows.old aggregates.now more.now }
     requires stays { RowsStay aggregates.now
         (row_found (entries_of rows.old) (key_view key.now)) more.now }
@@ -119,7 +119,7 @@ fn merge_at(
     ensures space { (count : ℕ) → HasSpace rows.old (count + 1) → HasSpace rows.new count }
     ensures grown { IsGrown rows.old rows.new }
 {
-    let place = rows.place_among(count, key, place);
+    let place = rows.place_among(row_count, key, place);
     match rows.merge(key, place, aggregates, more) {
         Ok(()) => {}
         Err(AllocError) => unreachable!(),
@@ -129,24 +129,31 @@ fn merge_at(
 // A row merged into each of these keys, which have these places.
 fn merge_all_at(
     rows: &mut KeyedRows,
-    own: &[OrderedKey],
+    row_keys: &[OrderedKey],
     places: &[Place],
     aggregates: &[Aggregate],
     more: &[Held],
 )
-    requires narrow { AreNarrow rows.old.trie.width own.now }
-    requires places { ArePlaces rows.old own.now places.now }
-    requires distinct { IsDistinct key_eq (map key_view own.now) }
+    requires narrow { AreNarrow rows.old.trie.width row_keys.now }
+    requires places { ArePlacesOfKeys rows.old row_keys.now places.now }
+    requires distinct { IsDistinct key_eq (map key_view row_keys.now) }
     requires fits { FitsIn rows.old aggregates.now more.now }
-    requires stay { AllStay (row_found (entries_of rows.old)) (is_one_of own.now) aggregates.now more.now }
-    requires space { list_any is_missing places.now ≡ true → HasSpace rows.old (length own.now) }
-    ensures rows { MergesAll (is_one_of own.now) aggregates.now more.now
+    requires stay { AllStay (row_found (entries_of rows.old)) (is_one_of row_keys.now) aggregates.now more.now }
+    requires space { list_any is_missing places.now ≡ true → HasSpace rows.old (length row_keys.now) }
+    ensures rows { MergesAll (is_one_of row_keys.now) aggregates.now more.now
         (row_found (entries_of rows.old)) (row_found (entries_of rows.new)) }
     ensures widths { AreAsWide rows.old rows.new }
 {
-    let count = rows.len();
-    for index in 0..own.len() {
-        merge_at(rows, count, &own[index], places[index], aggregates, more);
+    let row_count = rows.len();
+    for index in 0..row_keys.len() {
+        merge_at(
+            rows,
+            row_count,
+            &row_keys[index],
+            places[index],
+            aggregates,
+            more,
+        );
     }
 }
 
@@ -162,29 +169,29 @@ fn some_missing(places: &[Place]) -> bool
 // none is taken where no row is missing, so that a put into rows that are there takes no memory.
 pub(crate) fn put_rows(
     rows: &mut KeyedRows,
-    own: &[OrderedKey],
+    row_keys: &[OrderedKey],
     places: &mut Vec<Place>,
     aggregates: &[Aggregate],
     more: &[Held],
 ) -> Result<(), PutFault>
-    requires narrow { AreNarrow rows.old.trie.width own.now }
-    requires distinct { IsDistinct key_eq (map key_view own.now) }
+    requires narrow { AreNarrow rows.old.trie.width row_keys.now }
+    requires distinct { IsDistinct key_eq (map key_view row_keys.now) }
     requires fits { FitsIn rows.old aggregates.now more.now }
-    ensures ok { OnOk result (PutsRows (is_one_of own.now) aggregates.now more.now
+    ensures ok { OnOk result (PutsRows (is_one_of row_keys.now) aggregates.now more.now
         (row_found (entries_of rows.old)) (row_found (entries_of rows.new))) }
     ensures refused { OnErr result (entries_of rows.new ≡ entries_of rows.old) }
     ensures overflow { IfErr result (λ fault. UnlessMemory PutFault.OutOfMemory fault
-        (SomeLeaves (row_found (entries_of rows.old)) (is_one_of own.now) aggregates.now
+        (SomeLeaves (row_found (entries_of rows.old)) (is_one_of row_keys.now) aggregates.now
         more.now)) }
     ensures widths { AreAsWide rows.old rows.new }
 {
-    find_places(rows, own, places)?;
-    if !all_stay_at(rows, own, places.as_slice(), aggregates, more) {
+    find_places(rows, row_keys, places)?;
+    if !all_stay_at(rows, row_keys, places.as_slice(), aggregates, more) {
         return Err(PutFault::Overflow);
     }
     if some_missing(places.as_slice()) {
-        rows.reserve(own.len())?;
+        rows.reserve(row_keys.len())?;
     }
-    merge_all_at(rows, own, places.as_slice(), aggregates, more);
+    merge_all_at(rows, row_keys, places.as_slice(), aggregates, more);
     Ok(())
 }

@@ -1,9 +1,10 @@
 // What a store of groups is.
 
-ghost use Rattle.std.specs.Prelude.{◌≡◌, ◌≤◌, ◌<◌, ℕ, List, ◌∷◌, [], length, true, false, OnOk, OnErr, IfErr, IfOk};
+ghost use Rattle.std.specs.Prelude.{◌≡◌, ◌≤◌, ◌<◌, ℕ, List, ◌∷◌, [], length, true, false, OnOk, OnErr, IfErr, IfOk, IfSome};
 ghost use Rattle.star_common.specs.Memory.{UnlessMemory};
-ghost use Rattle.star_group.specs.Batches.{HasRoomForRows, IsPutBatch, puts_after, put_in};
+ghost use Rattle.star_group.specs.Batches.{ArePutsAt, HasNumbers, HasRoomForRows, IsPutBatch, puts_after, put_in};
 ghost use Rattle.star_program.specs.Puts.{Update, overflows, total_over};
+ghost use Rattle.star_program.specs.declared.key.KeyValue.{KeyValue as Value};
 ghost use Rattle.star_group.specs.Stores.{Group, HasRoom, group_declared};
 ghost use Rattle.star_group.specs.StoreRows.{AreRows};
 
@@ -22,6 +23,9 @@ pub trait GroupStore: Drop {
 
     // The store has the content of these puts, the newest first.
     ghost has: { Self → List Update → Type 0 };
+
+    // The row of these keys stands at this place.
+    ghost has_place: { Self → List Value → ℕ → Type 0 };
 
     /// A store of no puts for a group of at most 6 keys and 8 aggregates.
     fn new(alloc: Global, declared: &GroupDecl) -> Result<Self, AllocError>
@@ -45,10 +49,10 @@ pub trait GroupStore: Drop {
         Self::new(alloc, declared)
     }
 
-    /// One more put: a value for each key, and a number for each aggregate, of which that for a
-    /// `Count` does not matter. Its condition: with it the positive sums by key list add up within
-    /// 128 bits, and so do the negative ones, and there are fewer puts than 2^63 where they are
-    /// counted. Where memory is refused the content is as it was.
+    /// One more put: a value for each key, and a number for each aggregate; that for a `Count` does
+    /// not matter. Its condition: with it the positive sums by key list add up within 128 bits, and
+    /// so do the negative ones, and there are fewer puts than 2^63 where they are counted. Where
+    /// memory is refused the content is as it was.
     fn put(&mut self, keys: &[KeyValue], values: &[i64]) -> Result<(), AllocError>
         requires keys { length keys.now ≡ (group self.old).count }
         requires values { length values.now ≡ length (group self.old).aggregates }
@@ -85,6 +89,33 @@ pub trait GroupStore: Drop {
         Ok(())
     }
 
+    /// The place of the row of these keys, where rows stand by places and it has one. No clause says
+    /// when it has: who isn't told a place puts by keys.
+    fn place_of(&self, _keys: &[KeyValue]) -> Option<u32>
+        requires { length _keys.now ≡ (group self.now).count }
+        ensures { IfSome result (λ place. has_place self.now _keys.now place) }
+    {
+        None
+    }
+
+    /// The puts of some rows whose keys have these places, one after another in order. Of their keys
+    /// nothing else is known, and no lane of a key is read. Its condition is that of each of these
+    /// puts. Takes no memory.
+    fn put_batch_at(&mut self, batch: &PutBatch<'_>, places: &[u32])
+        requires some { 0 < batch.now.rows }
+        requires declared { group_declared batch.now.declared.now ≡ group self.old }
+        requires batch { HasNumbers batch.now }
+        requires rows { length places.now ≡ batch.now.rows }
+        requires room { (put : ℕ → Update) × (puts : List Update)
+            × ArePutsAt (has_place self.old) batch.now places.now put × has self.old puts
+            × HasRoomForRows (group self.old) put puts batch.now.rows }
+        ensures has { (put : ℕ → Update) → ArePutsAt (has_place self.old) batch.now places.now put
+            → (puts : List Update) → has self.old puts
+            → has self.new (puts_after put puts batch.now.rows) }
+        ensures places { (keys : List Value) (place : ℕ) → has_place self.old keys place
+            → has_place self.new keys place }
+        ensures group { group self.new ≡ group self.old };
+
     /// An aggregate, by its number from 0, over all puts; `None` is NULL. Takes no memory.
     fn total(&self, aggregate: usize) -> Option<i128>
         requires { aggregate < length (group self.now).aggregates }
@@ -99,10 +130,9 @@ pub trait GroupStore: Drop {
 
 /// A store that takes puts with no condition on their numbers, and refuses those that overflow.
 pub trait TryPut: GroupStore {
-    /// One more put: a value for each key, and a number for each aggregate, of which that for a
-    /// `Count` does not matter. Answers Overflow exactly where with it a `Sum` over one of its
-    /// groups, or over all puts, leaves 128 bits, or a `Count` leaves 64; after an error the content
-    /// is as it was.
+    /// One more put: a value for each key, and a number for each aggregate; that for a `Count` does
+    /// not matter. Answers Overflow exactly where with it a `Sum` over one of its groups, or over
+    /// all puts, leaves 128 bits, or a `Count` leaves 64; after an error the content is as it was.
     fn try_put(&mut self, keys: &[KeyValue], values: &[i64]) -> Result<(), PutFault>
         requires keys { length keys.now ≡ (Self.group self.old).count }
         requires values { length values.now ≡ length (Self.group self.old).aggregates }

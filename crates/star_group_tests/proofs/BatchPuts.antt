@@ -11,7 +11,8 @@ use Rattle.star_program.specs.declared.group.GroupDecl.{GroupDecl}
 use Rattle.star_program.specs.Faults.{value_count}
 use Rattle.star_program.specs.Puts.{aligned, Update}
 use Rattle.star_group.specs.declared.batch.PutBatch.{PutBatch}
-use Rattle.star_group.specs.Batches.{HasRoomForRows, IsKeyWord, IsPutBatch, puts_after, put_in, word_in}
+use Rattle.star_program.specs.declared.key.KeyValue.TheVariants as key
+use Rattle.star_group.specs.Batches.{HasNumbers, HasRoomForRows, IsKeyWord, IsPutBatch, batch_keys, puts_after, put_in, word_in}
 use Rattle.star_group.specs.Stores.{Group, group_declared}
 use Rattle.star_group_tests.specs.Few.{AreFew, IsOfNumbers, IsOfRows, IsOfTests}
 use Rattle.star_group_tests.proofs.FewPuts.{has_room, of_one}
@@ -27,8 +28,10 @@ of_tests d g is same = record {
 
 -- ---- a batch
 
-word_is : (ks : List GroupKey) → ks ≡ Number ∷ Number ∷ [] → (i : ℕ) → i < 2 → (z : ℤ) → IsKeyWord (slice_index_or ks i Number) z
-word_is ks e i h z = subst (λ k. IsKeyWord k z) (sym (ap (λ xs. slice_index_or xs i Number) e ∙ here i h)) tt
+word_is : (ks : List GroupKey) → ks ≡ Number ∷ Number ∷ [] → (i : ℕ) → i < 2 → (z : ℤ)
+    → IsKeyWord (slice_index_or ks i Number) z
+word_is ks e i h z = subst (λ k. IsKeyWord k z)
+    (sym (ap (λ xs. slice_index_or xs i Number) e ∙ here i h)) tt
   where
     here : (i : ℕ) → i < 2 → slice_index_or (Number ∷ Number ∷ []) i Number ≡ Number
     here zero h = refl
@@ -53,19 +56,40 @@ is_batch b is =
       value_lanes = subst (All Within) (sym is.values)
           (All-cons Within 2 (2 ∷ 2 ∷ []) third (All-cons Within 2 (2 ∷ []) third
           (All-cons Within 2 [] third (All-nil Within))));
-      words = λ row h i at. word_is b.declared.now.keys is.declared.keys i (omega (arith, at, ap length is.keys)) _;
+      words = λ row h i at. word_is b.declared.now.keys is.declared.keys i
+          (omega (arith, at, ap length is.keys)) _;
     }
+
+pub has_numbers : (b : PutBatch) → IsOfRows b → HasNumbers b
+has_numbers b is = let batch = is_batch b is in record {
+  few = batch.few;
+  small = batch.small;
+  values = batch.values;
+  value_lanes = batch.value_lanes;
+}
 
 -- ---- its puts
 
-narrow_row : (b : PutBatch) → IsOfRows b → ((at : ℕ) → is_i64 (slice_index_or b.lanes.now at (pos 0)) ≡ true) → (row : ℕ) → All (λ z. is_i64 z ≡ true) (put_in b row).values
+pub row_keys : (b : PutBatch) → IsOfRows b → (row : ℕ) → (put_in b row).keys
+    ≡ key.Number (word_in b.lanes.now row 0) ∷ key.Number (word_in b.lanes.now row 1) ∷ []
+row_keys b is row =
+    ap (λ ks. batch_keys ks (map (word_in b.lanes.now row) b.keys.now)) is.declared.keys
+    ∙ ap (λ rs. batch_keys (Number ∷ Number ∷ []) (map (word_in b.lanes.now row) rs)) is.keys
+
+narrow_row : (b : PutBatch) → IsOfRows b
+    → ((at : ℕ) → is_i64 (slice_index_or b.lanes.now at (pos 0)) ≡ true) → (row : ℕ)
+    → All (λ z. is_i64 z ≡ true) (put_in b row).values
 narrow_row b is narrow row =
     subst (All (λ z. is_i64 z ≡ true))
-    (sym (ap (λ gs. aligned (pos 1) gs (map (word_in b.lanes.now row) b.values.now)) is.declared.aggregates
-    ∙ ap (λ vs. aligned (pos 1) (Sum ∷ Count ∷ Min ∷ Max ∷ []) (map (word_in b.lanes.now row) vs)) is.values))
+    (sym (ap (λ gs. aligned (pos 1) gs (map (word_in b.lanes.now row) b.values.now))
+    is.declared.aggregates
+    ∙ ap (λ vs. aligned (pos 1) (Sum ∷ Count ∷ Min ∷ Max ∷ []) (map (word_in b.lanes.now row) vs))
+    is.values))
     (of_one (word_in b.lanes.now row 2) (narrow (2 * 1024 + row)))
 
-few_after : (put : ℕ → Update) (made : ℕ) (puts : List Update) (rows : ℕ) → ((row : ℕ) → All (λ z. is_i64 z ≡ true) (put row).values) → AreFew made puts → AreFew (made + rows) (puts_after put puts rows)
+few_after : (put : ℕ → Update) (made : ℕ) (puts : List Update) (rows : ℕ)
+    → ((row : ℕ) → All (λ z. is_i64 z ≡ true) (put row).values) → AreFew made puts
+    → AreFew (made + rows) (puts_after put puts rows)
 few_after put made puts zero narrow few = subst (λ n. AreFew n puts) (sym (add-zero made)) few
 few_after put made puts (suc rows) narrow few =
     let rest = few_after put made puts rows narrow few in
@@ -74,11 +98,17 @@ few_after put made puts (suc rows) narrow few =
       small = All-cons IsNarrow (put rows) (puts_after put puts rows) (narrow rows) rest.small;
     }
 
-module _ (b : PutBatch) (is : IsOfRows b) (narrow : (at : ℕ) → is_i64 (slice_index_or b.lanes.now at (pos 0)) ≡ true) (made : ℕ) (puts : List Update) (few : AreFew made puts) where
+module _ (b : PutBatch) (is : IsOfRows b)
+    (narrow : (at : ℕ) → is_i64 (slice_index_or b.lanes.now at (pos 0)) ≡ true) (made : ℕ)
+    (puts : List Update) (few : AreFew made puts) where
+  pub first_few : (rows : ℕ) → AreFew (made + rows) (puts_after (put_in b) puts rows)
+  first_few rows = few_after (put_in b) made puts rows (narrow_row b is narrow) few
+
   pub rows_few : AreFew (made + b.rows) (puts_after (put_in b) puts b.rows)
-  rows_few = few_after (put_in b) made puts b.rows (narrow_row b is narrow) few
+  rows_few = first_few b.rows
 
   pub rows_room : (d : Group) → made < 2 ^ 31 → HasRoomForRows d (put_in b) puts b.rows
   rows_room d less row h =
-      has_room d (made + row) (puts_after (put_in b) puts row) (put_in b row) (omega (arith, less, h, is.few))
+      has_room d (made + row) (puts_after (put_in b) puts row) (put_in b row)
+      (omega (arith, less, h, is.few))
       (few_after (put_in b) made puts row (narrow_row b is narrow) few) (narrow_row b is narrow row)

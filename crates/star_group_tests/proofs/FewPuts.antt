@@ -27,12 +27,15 @@ of_one z here =
 pub four_narrow : (z : ℤ) → FitsSigned w64 z → All (λ z. is_i64 z ≡ true) (z ∷ pos 1 ∷ z ∷ z ∷ [])
 four_narrow z fits = of_one z ((is_i64_fits z).1 fits)
 
-pub one_more : (count : ℕ) (puts : List Update) (put : Update) → AreFew count puts → All (λ z. is_i64 z ≡ true) put.values → AreFew (count + 1) (put ∷ puts)
+pub one_more : (count : ℕ) (puts : List Update) (put : Update) → AreFew count puts
+    → All (λ z. is_i64 z ≡ true) put.values → AreFew (count + 1) (put ∷ puts)
 one_more count puts put few narrow = record {
   many = omega (arith, few.many);
   small = All-cons IsNarrow put puts narrow few.small;
 }
 
-pub has_room : (d : Group) (count : ℕ) (puts : List Update) (put : Update) → count < 2 ^ 32 → AreFew count puts → All (λ z. is_i64 z ≡ true) put.values → HasRoom d (put ∷ puts)
+pub has_room : (d : Group) (count : ℕ) (puts : List Update) (put : Update) → count < 2 ^ 32
+    → AreFew count puts → All (λ z. is_i64 z ≡ true) put.values → HasRoom d (put ∷ puts)
 has_room d count puts put less few narrow =
-    few_room d (put ∷ puts) (All-cons IsNarrow put puts narrow few.small) (omega (arith, less, few.many))
+    few_room d (put ∷ puts) (All-cons IsNarrow put puts narrow few.small)
+    (omega (arith, less, few.many))

@@ -6,16 +6,19 @@ use Rattle.star_program.specs.Puts.{Update}
 use Rattle.star_group.specs.Stores.{AddUp, Group, HasRoom, above_zero, below_zero, put_number}
 use Rattle.star_group.proofs.SmallNumbers.{small_room}
 
-sum_room : (d : Group) (us : List Update) → d.aggregates ≡ Sum ∷ [] → length us < 2 ^ 63 → AddUp (numbers_for 0 us) → HasRoom d us
+sum_room : (d : Group) (us : List Update) → d.aggregates ≡ Sum ∷ [] → length us < 2 ^ 63
+    → AddUp (numbers_for 0 us) → HasRoom d us
 sum_room d us sums few up = small_room d us (λ place h same.
     let count : length d.aggregates ≡ 1 = ap length sums in
     let first : 0 ≡ place = omega (arith, h, count) in
     subst (λ a. AddUp (numbers_for a us)) first up) few
 
-pub one_room : (d : Group) (u : Update) → d.aggregates ≡ Sum ∷ [] → AddUp (put_number 0 u ∷ []) → HasRoom d (u ∷ [])
+pub one_room : (d : Group) (u : Update) → d.aggregates ≡ Sum ∷ [] → AddUp (put_number 0 u ∷ [])
+    → HasRoom d (u ∷ [])
 one_room d u sums up = sum_room d (u ∷ []) sums (omega arith) up
 
-pub two_room : (d : Group) (u v : Update) → d.aggregates ≡ Sum ∷ [] → AddUp (put_number 0 u ∷ put_number 0 v ∷ []) → HasRoom d (u ∷ v ∷ [])
+pub two_room : (d : Group) (u v : Update) → d.aggregates ≡ Sum ∷ []
+    → AddUp (put_number 0 u ∷ put_number 0 v ∷ []) → HasRoom d (u ∷ v ∷ [])
 two_room d u v sums up = sum_room d (u ∷ v ∷ []) sums (omega arith) up
 
 pub seven : AddUp (pos 7 ∷ [])

@@ -1,7 +1,10 @@
-// Puts in batches into a placed store beside the same puts one by one into another.
+// Puts in batches into a placed store, at once and at the places of their keys, beside the same puts one by
+// one into another.
 
-ghost use Rattle.std.specs.Prelude.{◌≡◌, ◌≤◌, ◌<◌, ◌+◌, ◌^◌, ℕ, IfOk, OnOk, length, pos, slice_index_or, true};
+ghost use Rattle.std.specs.Prelude.{◌≡◌, ◌≤◌, ◌<◌, ◌+◌, ◌*◌, ◌^◌, ℕ, IfOk, OnOk, false, length, pos, slice_index_or, true};
 ghost use Rattle.star_interval.specs.Range.{is_i64};
+ghost use Rattle.star_program.specs.declared.key.KeyValue.TheVariants.{Number};
+ghost use Rattle.star_group.specs.Batches.{put_in, word_in};
 ghost use Rattle.star_group.specs.Stores.{group_declared};
 ghost use Rattle.star_group_tests.specs.Few.{HasFew, IsOfNumbers, IsOfRows, IsOfTests};
 
@@ -47,8 +50,79 @@ fn put_at_once<S: GroupStore>(
     Ok(())
 }
 
+// The word of a register in a row.
+fn word_at(lanes: &[i64], row: usize, register: usize) -> i64
+    requires { register * 1024 + row < length lanes.now }
+    ensures { result ≡ word_in lanes.now row register }
+{
+    lanes[register * 1024 + row]
+}
+
+// The key that a word is.
+fn key_of(word: i64) -> KeyValue
+    ensures { result ≡ Number word }
+{
+    KeyValue::Number(word)
+}
+
+// The key of a register in a row.
+fn key_at(lanes: &[i64], row: usize, register: usize) -> KeyValue
+    requires { register * 1024 + row < length lanes.now }
+    ensures { result ≡ Number (word_in lanes.now row register) }
+{
+    key_of(word_at(lanes, row, register))
+}
+
+// The keys of a row.
+fn keys_of(batch: &PutBatch<'_>, row: usize) -> [KeyValue; 2]
+    requires batch { IsOfRows batch.now }
+    requires row { row < batch.now.rows }
+    ensures { result ≡ (put_in batch.now row).keys }
+{
+    [key_at(batch.lanes, row, 0), key_at(batch.lanes, row, 1)]
+}
+
+// Finds the places of the keys of all rows: whether each has one.
+fn find_places<S: GroupStore>(store: &S, batch: &PutBatch<'_>, at: &mut [u32]) -> bool
+    requires batch { IsOfRows batch.now }
+    requires group { S.group store.now ≡ group_declared batch.now.declared.now }
+    requires rows { length at.old ≡ batch.now.rows }
+    ensures places { result ≡ true → (row : ℕ) → row < batch.now.rows
+        → S.has_place store.now (put_in batch.now row).keys (slice_index_or at.new row 0) }
+    ensures len { length at.new ≡ length at.old }
+{
+    for row in 0..batch.rows {
+        match store.place_of(&keys_of(batch, row)) {
+            Some(place) => at[row] = place,
+            None => return false,
+        }
+    }
+    true
+}
+
+// The same puts at the places of their keys: whether each key has one. Else none is made.
+pub(crate) fn put_at_places<S: GroupStore>(store: &mut S, made: usize, batch: &PutBatch<'_>) -> bool
+    requires made { made < 2 ^ 31 }
+    requires some { 0 < batch.now.rows }
+    requires batch { IsOfRows batch.now }
+    requires group { S.group store.old ≡ group_declared batch.now.declared.now }
+    requires few { HasFew (S.has store.old) made }
+    ensures few { result ≡ true → HasFew (S.has store.new) (made + batch.now.rows) }
+    ensures none { result ≡ false → HasFew (S.has store.new) made }
+    ensures group { S.group store.new ≡ S.group store.old }
+{
+    are_narrow(batch.lanes);
+    let mut places = [0; 1024];
+    let at = &mut places[..batch.rows];
+    if !find_places(store, batch, at) {
+        return false;
+    }
+    store.put_batch_at(batch, at);
+    true
+}
+
 // The same puts, one by one.
-fn put_in_turn<S: GroupStore>(
+pub(crate) fn put_in_turn<S: GroupStore>(
     store: &mut S,
     made: usize,
     batch: &PutBatch<'_>,
@@ -60,13 +134,9 @@ fn put_in_turn<S: GroupStore>(
     ensures few { OnOk result (HasFew (S.has store.new) (made + batch.now.rows)) }
     ensures group { S.group store.new ≡ S.group store.old }
 {
-    let lanes = batch.lanes;
     for row in 0..batch.rows {
-        let keys = [
-            KeyValue::Number(lanes[row]),
-            KeyValue::Number(lanes[1024 + row]),
-        ];
-        put_one(store, made + row, keys, lanes[2048 + row])?;
+        let keys = keys_of(batch, row);
+        put_one(store, made + row, keys, batch.lanes[2048 + row])?;
     }
     Ok(())
 }
@@ -83,15 +153,50 @@ fn fill(lanes: &mut [i64], first: i64, second: i64)
     }
 }
 
-// The puts of some rows, at once or one by one, in which the keys are these and those above them.
+// How the puts of a batch are made.
+#[derive(Clone, Copy)]
+enum Way {
+    OneByOne,
+    AtOnce,
+    AtPlaces,
+}
+
+// The puts of a batch in a way. At places only where each key has one.
+fn put_by<S: GroupStore>(
+    store: &mut S,
+    made: usize,
+    batch: &PutBatch<'_>,
+    way: Way,
+) -> Result<(), Fail>
+    requires made { made < 2 ^ 31 }
+    requires batch { IsOfRows batch.now }
+    requires group { S.group store.old ≡ group_declared batch.now.declared.now }
+    requires few { HasFew (S.has store.old) made }
+    ensures few { OnOk result (HasFew (S.has store.new) (made + batch.now.rows)) }
+    ensures group { S.group store.new ≡ S.group store.old }
+{
+    match way {
+        Way::OneByOne => Ok(put_in_turn(store, made, batch)?),
+        Way::AtPlaces if batch.rows > 0 => {
+            if put_at_places(store, made, batch) {
+                Ok(())
+            } else {
+                Err(Fail::from("a key has no place"))
+            }
+        }
+        _ => Ok(put_at_once(store, made, batch)?),
+    }
+}
+
+// The puts of some rows in a way, in which the keys are these and those above them.
 fn put_rows<S: GroupStore>(
     store: &mut S,
     made: usize,
     declared: &GroupDecl,
     from: (i64, i64),
     rows: usize,
-    at_once: bool,
-) -> Result<(), AllocError>
+    way: Way,
+) -> Result<(), Fail>
     requires made { made < 2 ^ 31 }
     requires rows { rows ≤ 1024 }
     requires declared { IsOfNumbers declared.now }
@@ -109,47 +214,43 @@ fn put_rows<S: GroupStore>(
         keys: &[0, 1],
         values: &[2, 2, 2],
     };
-    if at_once {
-        put_at_once(store, made, &batch)
-    } else {
-        put_in_turn(store, made, &batch)
-    }
+    put_by(store, made, &batch, way)
 }
 
-// A store of three batches: one in which all keys lie in their ranges, one in which each seventh key
-// doesn't, and one in which most don't.
+// A store of three batches: one in which each seventh key lies outside of its range, one in which none
+// does, and one in which most do.
 fn filled<S: GroupStore>(
     alloc: Global,
     shape: Shape,
     rows: usize,
-    at_once: bool,
-) -> Result<S, AllocError>
+    ways: [Way; 3],
+) -> Result<S, Fail>
     requires { rows ≤ 1024 }
     ensures { IfOk result (λ store. IsOfTests (S.group store)) }
 {
     let declared = declared(alloc, shape, [NUMBER, NUMBER])?;
     let ranges = [range((-3, 3)), range((LEAST, LEAST + 4))];
     let mut store = S::with_ranges(alloc, &declared, &ranges)?;
-    put_rows(&mut store, 0, &declared, (-3, LEAST), rows, at_once)?;
-    put_rows(&mut store, rows, &declared, (-2, LEAST), rows, at_once)?;
+    put_rows(&mut store, 0, &declared, (-2, LEAST), rows, ways[0])?;
+    put_rows(&mut store, rows, &declared, (-3, LEAST), rows, ways[1])?;
     put_rows(
         &mut store,
         rows + rows,
         &declared,
         (-3, LEAST + 2),
         rows,
-        at_once,
+        ways[2],
     )?;
     Ok(store)
 }
 
 // How many rows both stores have, where these and the totals are the same.
-fn rows_of(alloc: Global, shape: Shape, rows: usize) -> Result<Option<usize>, AllocError>
+fn rows_of(alloc: Global, shape: Shape, rows: usize, ways: [Way; 3]) -> Result<Option<usize>, Fail>
     requires { rows ≤ 1024 }
 {
-    let batches = filled::<PlacedStore>(alloc, shape, rows, true)?;
-    let puts = filled::<EagerStore>(alloc, shape, rows, false)?;
-    rows_of_both(batches, puts)
+    let batches = filled::<PlacedStore>(alloc, shape, rows, ways)?;
+    let puts = filled::<EagerStore>(alloc, shape, rows, [Way::OneByOne; 3])?;
+    Ok(rows_of_both(batches, puts)?)
 }
 
 // Each shape, with how many rows there are where no row is put, where one is, and where each of seven
@@ -163,12 +264,24 @@ const SHAPES: [(Shape, [usize; 3]); 3] = [
     ),
 ];
 
-#[test]
-fn batches_are_puts_one_by_one(rt: HostRuntime) -> Result<(), Fail> {
+// Checks that a store of batches has just the rows and totals of one of puts.
+fn check_ways(alloc: Global, ways: [Way; 3]) -> Result<(), Fail> {
     for (shape, [none, one, all]) in SHAPES {
         for (rows, found) in [(0, none), (1, one), (1023, all), (1024, all)] {
-            assert_eq!(rt; rows_of(rt.alloc(), shape, rows)?, Some(found));
+            if rows_of(alloc, shape, rows, ways)? != Some(found) {
+                return Err(Fail::from("other rows or totals"));
+            }
         }
     }
     Ok(())
+}
+
+#[test]
+fn batches_are_puts_one_by_one(rt: HostRuntime) -> Result<(), Fail> {
+    check_ways(rt.alloc(), [Way::AtOnce; 3])
+}
+
+#[test]
+fn batches_at_places_are_puts_one_by_one(rt: HostRuntime) -> Result<(), Fail> {
+    check_ways(rt.alloc(), [Way::AtOnce, Way::AtPlaces, Way::AtOnce])
 }

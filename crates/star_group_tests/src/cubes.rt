@@ -20,7 +20,7 @@ const BIG: i64 = 9000000000000000000;
 // The keys 1 and 2 are expected in each place.
 const EXPECTED: [Interval; 6] = [Interval { low: 1, high: 2 }; 6];
 
-// A store of no puts, of so many number keys, which are expected in some ranges, and a sum.
+// A store of no puts with `keys` number keys, which are expected in some ranges, and a sum.
 fn sums<S: GroupStore>(
     alloc: Global,
     shape: Shape,
@@ -78,7 +78,7 @@ fn rollup_of_six_keys_and_one_put_has_7_rows(rt: HostRuntime) -> Result<(), Fail
 }
 
 // Whether a group of this shape, two keys and no puts has one row, in which all keys are ALL and
-// the sum is NULL, and nothing stands behind it.
+// the sum is NULL, and nothing stands after it.
 fn is_null_alone<S: GroupStore>(
     alloc: Global,
     shape: Shape,
@@ -229,7 +229,7 @@ fn repeated_put_changes_its_row(rt: HostRuntime) -> Result<(), Fail> {
     Ok(())
 }
 
-// Ranges of one key that has so many places, or would have them.
+// The range of one key that has `places` places, or would have them.
 fn ranges_of(places: i64) -> [Interval; 1]
     requires low { pos 1 ≤ℤ places }
     requires high { places ≤ℤ pos 65537 }

@@ -8,3 +8,5 @@ mod batches;
 mod cubes;
 #[cfg(test)]
 mod placed;
+#[cfg(test)]
+mod places;

@@ -24,7 +24,7 @@ const SHAPES: [(Shape, usize); 3] = [(Shape::Plain, 16), (Shape::Rollup, 21), (S
 
 pub(crate) const NUMBER: GroupKey = GroupKey::Number;
 
-const TEXT: GroupKey = GroupKey::Text(ColumnId::LoShipmode);
+pub(crate) const TEXT: GroupKey = GroupKey::Text(ColumnId::LoShipmode);
 
 // Two keys, the ends of the ranges in which they are expected, and values of each, at the ends and
 // beside them.
@@ -61,7 +61,7 @@ const CASES: [Case; 7] = [
         [(-9, -9), (MOST, MOST)],
         [[-10, -9, 9, 0], [LEAST, -1, 0, MOST]],
     ),
-    // Texts before numbers and behind them.
+    // Texts before numbers and after them.
     (
         [TEXT, NUMBER],
         [(0, 4), (-1, 1)],
@@ -77,7 +77,7 @@ const CASES: [Case; 7] = [
 // ---- puts
 
 // A store of no puts.
-fn empty<S: GroupStore>(
+pub(crate) fn empty<S: GroupStore>(
     alloc: Global,
     shape: Shape,
     keys: [GroupKey; 2],
@@ -128,7 +128,7 @@ fn key(kind: GroupKey, word: i64) -> KeyValue {
     }
 }
 
-// One more put behind a few.
+// One more put after a few.
 pub(crate) fn put_one<S: GroupStore>(
     store: &mut S,
     made: usize,
@@ -161,7 +161,7 @@ fn filled<S: GroupStore>(alloc: Global, shape: Shape, case: Case) -> Result<S, A
 
 // ---- rows
 
-fn totals<S: GroupStore>(store: &S) -> [Option<i128>; 4]
+pub(crate) fn totals<S: GroupStore>(store: &S) -> [Option<i128>; 4]
     requires { IsOfTests (S.group store.now) }
 {
     [
@@ -172,7 +172,7 @@ fn totals<S: GroupStore>(store: &S) -> [Option<i128>; 4]
     ]
 }
 
-fn aggregates_at(rows: &GroupRows, number: usize) -> [Option<i128>; 4] {
+pub(crate) fn aggregates_at(rows: &GroupRows, number: usize) -> [Option<i128>; 4] {
     [
         rows.aggregate(number, 0),
         rows.aggregate(number, 1),

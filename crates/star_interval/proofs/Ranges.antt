@@ -24,7 +24,8 @@ holds_only n z same = record { from = omega (arith, ints); to = omega (arith, in
 
 fits_between : (w : Width) (low high z : ℤ) → FitsSigned w low → FitsSigned w high
     → low ≤ℤ z → z ≤ℤ high → FitsSigned w z
-fits_between w low (pos h) (pos n) f g p q = record { sfits = omega (arith, ints, f.sfits, g.sfits) }
+fits_between w low (pos h) (pos n) f g p q =
+    record { sfits = omega (arith, ints, f.sfits, g.sfits) }
 fits_between w low (negsuc h) (pos n) f g p q = absurd (omega (arith, ints))
 fits_between w (pos l) high (negsuc n) f g p q = absurd (omega (arith, ints))
 fits_between w (negsuc l) high (negsuc n) f g p q =

@@ -8,30 +8,42 @@ use Rattle.star_program.specs.declared.fault.Fault.{Fault}
 use Rattle.star_program.specs.Faults.{Kinds, operand_fault, numbers_fault, keys_fault, is_number_kind, fits_key}
 use Rattle.star_program.specs.declared.group.GroupKey.{GroupKey}
 
-pub next_number : (n : ℕ) (kinds : Kinds) (rs : List ℕ) (i : ℕ) (r : ℕ) → i < length rs → r ≡ get_or rs i r → operand_fault n kinds is_number_kind r ≡ None
+pub next_number : (n : ℕ) (kinds : Kinds) (rs : List ℕ) (i : ℕ) (r : ℕ) → i < length rs
+    → r ≡ get_or rs i r → operand_fault n kinds is_number_kind r ≡ None
     → numbers_fault n kinds (drop i rs) ≡ numbers_fault n kinds (drop (i + 1) rs)
 next_number n kinds rs i r within is fine =
     ap (numbers_fault n kinds) (drop-cons rs i r within)
-    ∙ ap (λ q. option_or (operand_fault n kinds is_number_kind q) (numbers_fault n kinds (drop (suc i) rs))) (sym is)
+    ∙ ap (λ q. option_or (operand_fault n kinds is_number_kind q)
+    (numbers_fault n kinds (drop (suc i) rs))) (sym is)
     ∙ ap (λ o. option_or o (numbers_fault n kinds (drop (suc i) rs))) fine
     ∙ ap (λ j. numbers_fault n kinds (drop j rs)) (sym (add-one i))
 
-here : (n : ℕ) (kinds : Kinds) (ks : List GroupKey) (rs : List ℕ) (i : ℕ) (k : GroupKey) (r : ℕ) → slice_get ks i ≡ Some k → slice_get rs i ≡ Some r
-    → keys_fault n kinds (drop i ks) (drop i rs) ≡ option_or (operand_fault n kinds (fits_key k) r) (keys_fault n kinds (drop (suc i) ks) (drop (suc i) rs))
+here : (n : ℕ) (kinds : Kinds) (ks : List GroupKey) (rs : List ℕ) (i : ℕ) (k : GroupKey) (r : ℕ)
+    → slice_get ks i ≡ Some k → slice_get rs i ≡ Some r
+    → keys_fault n kinds (drop i ks) (drop i rs)
+    ≡ option_or (operand_fault n kinds (fits_key k) r)
+    (keys_fault n kinds (drop (suc i) ks) (drop (suc i) rs))
 here n kinds ks rs i k r at is =
-    (λ j. keys_fault n kinds (drop-cons ks i k (slice_get_within ks i k at) j) (drop-cons rs i r (slice_get_within rs i r is) j))
-    ∙ (λ j. option_or (operand_fault n kinds (fits_key (get_or_from_slice_get ks i k k at j)) (get_or_from_slice_get rs i r r is j)) (keys_fault n kinds (drop (suc i) ks) (drop (suc i) rs)))
+    (λ j. keys_fault n kinds (drop-cons ks i k (slice_get_within ks i k at) j)
+    (drop-cons rs i r (slice_get_within rs i r is) j))
+    ∙ (λ j. option_or (operand_fault n kinds (fits_key (get_or_from_slice_get ks i k k at j))
+    (get_or_from_slice_get rs i r r is j))
+    (keys_fault n kinds (drop (suc i) ks) (drop (suc i) rs)))
 
-pub next_key : (n : ℕ) (kinds : Kinds) (ks : List GroupKey) (rs : List ℕ) (i : ℕ) (k : GroupKey) (r : ℕ) → slice_get ks i ≡ Some k → slice_get rs i ≡ Some r
+pub next_key : (n : ℕ) (kinds : Kinds) (ks : List GroupKey) (rs : List ℕ) (i : ℕ) (k : GroupKey)
+    (r : ℕ) → slice_get ks i ≡ Some k → slice_get rs i ≡ Some r
     → operand_fault n kinds (fits_key k) r ≡ None
-    → keys_fault n kinds (drop (i + 1) ks) (drop (i + 1) rs) ≡ keys_fault n kinds (drop i ks) (drop i rs)
+    → keys_fault n kinds (drop (i + 1) ks) (drop (i + 1) rs)
+    ≡ keys_fault n kinds (drop i ks) (drop i rs)
 next_key n kinds ks rs i k r at is fine = sym
     (here n kinds ks rs i k r at is
     ∙ ap (λ o. option_or o (keys_fault n kinds (drop (suc i) ks) (drop (suc i) rs))) fine
     ∙ ap (λ j. keys_fault n kinds (drop j ks) (drop j rs)) (sym (add-one i)))
 
-pub fault_here : (n : ℕ) (kinds : Kinds) (ks : List GroupKey) (rs : List ℕ) (i : ℕ) (k : GroupKey) (r : ℕ) (f : Fault) → slice_get ks i ≡ Some k → slice_get rs i ≡ Some r
+pub fault_here : (n : ℕ) (kinds : Kinds) (ks : List GroupKey) (rs : List ℕ) (i : ℕ) (k : GroupKey)
+    (r : ℕ) (f : Fault) → slice_get ks i ≡ Some k → slice_get rs i ≡ Some r
     → operand_fault n kinds (fits_key k) r ≡ Some f
     → keys_fault n kinds (drop i ks) (drop i rs) ≡ Some f
 fault_here n kinds ks rs i k r f at is wrong =
-    here n kinds ks rs i k r at is ∙ ap (λ o. option_or o (keys_fault n kinds (drop (suc i) ks) (drop (suc i) rs))) wrong
+    here n kinds ks rs i k r at is
+    ∙ ap (λ o. option_or o (keys_fault n kinds (drop (suc i) ks) (drop (suc i) rs))) wrong

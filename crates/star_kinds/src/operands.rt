@@ -59,7 +59,7 @@ fn takes(wanted: Wanted, kind: Kind) -> bool
     }
 }
 
-// An operand: a declared register, in which stands what is wanted.
+// Checks an operand: a declared register that holds what `wanted` asks for.
 pub(crate) fn check_operand<R: Kinded>(
     registers: &[R],
     wanted: Wanted,

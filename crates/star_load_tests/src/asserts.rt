@@ -16,7 +16,8 @@ pub(crate) fn check_same<T: Copy + PartialEq + Debug, D: Debug>(
     assert_eq!(rt; got, expected, "of {of:?}");
 }
 
-/// A load of five texts answers with so many rows of lineorder, or with this fault.
+/// Checks that a load of five texts answers with this number of rows of lineorder, or with this
+/// fault.
 pub(crate) fn check_load(
     rt: &impl Abort,
     alloc: Global,

@@ -40,7 +40,7 @@ fn is_code_of(catalogue: &Catalogue, column: ColumnId, code: u32, text: &[u8]) -
     code < catalogue.entries(column) && catalogue.text(column, code) == text
 }
 
-// So many texts of a column are less than a text, and so many are less or equal.
+// Checks how many texts of a column are less than a text, and how many less or equal.
 fn check_edges(
     rt: &impl Abort,
     catalogue: &Catalogue,
@@ -252,7 +252,7 @@ fn mended_text<'a>(is_mended: bool, sound: &'a [u8], faulty: &'a [u8]) -> &'a [u
     if is_mended { sound } else { faulty }
 }
 
-// Faulty texts with so many of them sound, in the order of the tables.
+// Faulty texts, the first `count` of them made sound, in the order of the tables.
 fn mended<'a>(faulty: &Texts<'a>, sound: &Texts<'a>, count: usize) -> Texts<'a> {
     Texts {
         date: mended_text(count > 0, sound.date, faulty.date),

@@ -35,7 +35,7 @@ fn check_dictionary(rt: &impl Abort, column: &TextColumn, texts: &[&[u8]]) {
     }
 }
 
-// So many texts of a column's dictionary are less than a text, and so many are less or equal.
+// Checks that `low` texts of a column's dictionary are less than a text, and `high` less or equal.
 fn check_edges(rt: &impl Abort, column: &TextColumn, text: &[u8], low: u32, high: u32) {
     let edges = (column.low(text), column.high(text));
     check_same(rt, edges, (low, high), &text);
@@ -122,7 +122,7 @@ fn numbers_have_their_bounds(rt: HostRuntime) -> Result<(), Fail> {
     Ok(())
 }
 
-// These numbers are packed in words of so many bits.
+// Checks that these numbers are packed in words of `bits` bits.
 fn check_width(
     rt: &impl Abort,
     alloc: Global,
@@ -253,7 +253,8 @@ fn check_codes(rt: &impl Abort, column: &TextColumn, codes: &[i64]) {
     }
 }
 
-// The column of these texts has this dictionary and these codes, the greatest of which is `high`.
+// Checks that the column of these texts has this dictionary and these codes; the greatest code is
+// `high`.
 fn check_texts(
     rt: &impl Abort,
     alloc: Global,

@@ -71,7 +71,7 @@ fn keeps_texts_once_where_many_come_again(rt: HostRuntime) -> Result<(), Fail> {
     Ok(())
 }
 
-// So many different texts are not sorted for nothing.
+// Many different texts are not sorted for nothing.
 #[test]
 fn keeps_many_different_texts_as_they_come(rt: HostRuntime) -> Result<(), Fail> {
     let mut texts = RepeatedTexts::new(rt.alloc());

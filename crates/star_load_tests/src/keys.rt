@@ -101,7 +101,7 @@ fn lines_of(alloc: Global, step: u64, rows: u32) -> Result<String, AllocError>
     Ok(text)
 }
 
-// What is answered of so many lines of orders in such an order.
+// Checks what is answered of lines of orders in such an order.
 fn check_lines(
     rt: &impl Abort,
     alloc: Global,

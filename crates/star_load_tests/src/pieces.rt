@@ -28,7 +28,7 @@ fn read_pieces(
     rows_of(reader.finish(alloc))
 }
 
-// How many suppliers a text has that comes in pieces of so many bytes, or its fault.
+// How many suppliers a text has that comes in pieces of `size` bytes, or its fault.
 fn read_evenly(
     alloc: Global,
     text: &[u8],
@@ -45,8 +45,8 @@ fn read_evenly(
     rows_of(reader.finish(alloc))
 }
 
-// A text has so many rows, or this fault, wherever it is cut in two, and in pieces of one byte and
-// of three.
+// Checks that a text has this number of rows, or this fault, wherever it is cut in two, and in
+// pieces of one byte and of three.
 fn check_cuts(
     rt: &impl Abort,
     alloc: Global,
@@ -163,7 +163,7 @@ fn a_long_line_has_its_fault(rt: HostRuntime) -> Result<(), Fail> {
     Ok(())
 }
 
-// How many suppliers there are in parts, each of which comes in two pieces, cut at a place.
+// How many suppliers there are in parts that each come in two pieces, cut at a place.
 fn read_parts_cut(
     alloc: Global,
     parts: &[&[u8]],

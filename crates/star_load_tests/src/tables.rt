@@ -120,7 +120,7 @@ fn reads_parts(rt: HostRuntime) -> Result<(), Fail> {
         // Records count through the parts.
         (&[TWO, b"x|a|b|c|d|e|f"], Err(number(3))),
         (&[ONE, b"", ONE, b"x"], Err(count(3))),
-        // The mark of a part: behind the faults of the parts before, before its own.
+        // The mark of a part: after the faults of the parts before, before its own.
         (&[ONE, MARKED], Err(ReadFault::ByteOrderMark)),
         (&[b"x|a|b|c|d|e|f", MARKED], Err(number(1))),
         (&[TWO, ONE, MARKED], Err(ReadFault::ByteOrderMark)),

@@ -1,5 +1,5 @@
 -- Which programs may be run over the rows of five tables.
-use Rattle.std.specs.Prelude.{ℕ, ◌^◌, ◌≤◌}
+use Rattle.std.specs.Prelude.{◌^◌, ◌≤◌}
 use Rattle.star_schema.specs.Database.{Database}
 use Rattle.star_schema.specs.Loadable.{IsSound}
 use Rattle.star_program.specs.declared.program.Parts.{Parts}

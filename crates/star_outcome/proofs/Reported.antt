@@ -34,45 +34,66 @@ use Rattle.star_common.proofs.Members.{contains_mapped}
 
 -- ---- the rows have keys as declared
 
-groups_decodable : (db : Database) (d : GroupDecl) (sorts : List SortKey) (updates : List Update) (rows : List GroupRow) → AllByRecursion (λ u. AreSoundKeys db d.keys u.keys) updates → AreSortedGroups (group_declared d) sorts updates rows
-    → (group : Row KeyValue) → Contains (map row_view rows) group → AreDecodable db d.keys group.keys
-groups_decodable db d sorts updates rows sound are group c = group_decodable db d.shape d.keys updates group.keys sound (are.groups.each group c).0
+groups_decodable : (db : Database) (d : GroupDecl) (sorts : List SortKey) (updates : List Update)
+    (rows : List GroupRow) → AllByRecursion (λ u. AreSoundKeys db d.keys u.keys) updates
+    → AreSortedGroups (group_declared d) sorts updates rows
+    → (group : Row KeyValue) → Contains (map row_view rows) group
+    → AreDecodable db d.keys group.keys
+groups_decodable db d sorts updates rows sound are group c =
+    group_decodable db d.shape d.keys updates group.keys sound (are.groups.each group c).0
 
-pub rows_decodable : (db : Database) (d : GroupDecl) (sorts : List SortKey) (updates : List Update) (rows : List GroupRow) → AllByRecursion (λ u. AreSoundKeys db d.keys u.keys) updates → AreSortedGroups (group_declared d) sorts updates rows
+pub rows_decodable : (db : Database) (d : GroupDecl) (sorts : List SortKey) (updates : List Update)
+    (rows : List GroupRow) → AllByRecursion (λ u. AreSoundKeys db d.keys u.keys) updates
+    → AreSortedGroups (group_declared d) sorts updates rows
     → All (λ row. AreDecodable db d.keys row.keys) rows
 rows_decodable db d sorts updates rows sound are = λ k row within.
-    groups_decodable db d sorts updates rows sound are (row_view (get_or rows k row)) (contains_mapped row_view rows (get_or rows k row) (Contains-get_or rows k row within))
+    groups_decodable db d sorts updates rows sound are (row_view (get_or rows k row))
+    (contains_mapped row_view rows (get_or rows k row) (Contains-get_or rows k row within))
 
-pub decodable_by_number : (db : Database) (ds : List GroupKey) (left : List GroupRow) (numbers : List ℕ) → All (λ row. AreDecodable db ds row.keys) (map (row_at left) numbers)
+pub decodable_by_number :
+    (db : Database) (ds : List GroupKey) (left : List GroupRow) (numbers : List ℕ)
+    → All (λ row. AreDecodable db ds row.keys) (map (row_at left) numbers)
     → All (λ number. AreDecodable db ds (row_at left number).keys) numbers
 decodable_by_number db ds left numbers all = λ k d within.
     let seen = length-map numbers (row_at left) in
-    subst (λ (row : GroupRow). AreDecodable db ds row.keys) (get_or-map (row_at left) numbers k d) (all k (row_at left d) (omega (arith, within, seen)))
+    subst (λ (row : GroupRow). AreDecodable db ds row.keys) (get_or-map (row_at left) numbers k d)
+    (all k (row_at left d) (omega (arith, within, seen)))
 
 -- ---- the outcome
 
 -- each key list has as many keys as are declared
-sound_count : (db : Database) (ds : List GroupKey) (ks : List KeyValue) → AreSoundKeys db ds ks → length ks ≡ length ds
+sound_count : (db : Database) (ds : List GroupKey) (ks : List KeyValue) → AreSoundKeys db ds ks
+    → length ks ≡ length ds
 sound_count db [] [] h = refl
 sound_count db (d ∷ ds) (k ∷ ks) h = ap suc (sound_count db ds ks h.1)
 sound_count db [] (k ∷ ks) h = absurd h
 sound_count db (d ∷ ds) [] h = absurd h
 
-sound_counts : (db : Database) (ds : List GroupKey) (us : List Update) → AllByRecursion (λ u. AreSoundKeys db ds u.keys) us → AllByRecursion (λ u. length u.keys ≡ length ds) us
+sound_counts : (db : Database) (ds : List GroupKey) (us : List Update)
+    → AllByRecursion (λ u. AreSoundKeys db ds u.keys) us
+    → AllByRecursion (λ u. length u.keys ≡ length ds) us
 sound_counts db ds [] h = tt
 sound_counts db ds (u ∷ us) h = (sound_count db ds u.keys h.0, sound_counts db ds us h.1)
 
-pub left_counts : (db : Database) (parts : Parts) (s : State) (rows : List GroupRow) (counts : Counts) → IsLeft db parts s rows counts
-    → AllByRecursion (λ u. length u.keys ≡ length (group_at parts parts.report).keys) (s.updates_of parts.report)
-left_counts db parts s rows counts left = sound_counts db (group_at parts parts.report).keys (s.updates_of parts.report) left.sound
+pub left_counts : (db : Database) (parts : Parts) (s : State) (rows : List GroupRow)
+    (counts : Counts) → IsLeft db parts s rows counts
+    → AllByRecursion (λ u. length u.keys ≡ length (group_at parts parts.report).keys)
+    (s.updates_of parts.report)
+left_counts db parts s rows counts left =
+    sound_counts db (group_at parts parts.report).keys (s.updates_of parts.report) left.sound
 
 -- what a run has done leaves the rows of its reported store
-pub is_left : {S : Type 0} (group : S → Group) (has : S → List Update → Type 0) (db : Database) (parts : Parts) (work : Work S) (s : State) (store : S) (rows : List GroupRow) → HasDone group has db parts work s
-    → slice_get work.stores.items parts.report ≡ Some store → ((updates : List Update) → has store updates → AreGroupRows (group store) updates rows)
-    → IsLeft db parts s rows (record { visits = work.visits; lookups = work.lookups; updates = work.updates })
+pub is_left : {S : Type 0} (group : S → Group) (has : S → List Update → Type 0) (db : Database)
+    (parts : Parts) (work : Work S) (s : State) (store : S) (rows : List GroupRow)
+    → HasDone group has db parts work s
+    → slice_get work.stores.items parts.report ≡ Some store
+    → ((updates : List Update) → has store updates → AreGroupRows (group store) updates rows)
+    → IsLeft db parts s rows
+    (record { visits = work.visits; lookups = work.lookups; updates = work.updates })
 is_left group has db parts work s store rows done at are =
     let is = done.stores.each parts.report store at in record {
-      are = subst (λ d. AreGroupRows d (s.updates_of parts.report) rows) is.is (are (s.updates_of parts.report) is.content);
+      are = subst (λ d. AreGroupRows d (s.updates_of parts.report) rows) is.is
+          (are (s.updates_of parts.report) is.content);
       sound = done.sound.each parts.report;
       visits = done.visits;
       lookups = done.lookups;
@@ -80,33 +101,50 @@ is_left group has db parts work s store rows done at are =
     }
 
 -- the sorted rows, in the words of the group's declaration
-module _ (db : Database) (parts : Parts) (s : State) (left : List GroupRow) (counts : Counts) (d : GroupDecl) (sorts : List SortKey) (rows : List GroupRow) (is : IsLeft db parts s left counts) (is_group : d ≡ group_at parts parts.report)
-    (sorted : (e : Group) (updates : List Update) → AreGroupRows e updates left → AreSortedGroups e sorts updates rows) where
+module _ (db : Database) (parts : Parts) (s : State) (left : List GroupRow) (counts : Counts)
+    (d : GroupDecl) (sorts : List SortKey) (rows : List GroupRow)
+    (is : IsLeft db parts s left counts) (is_group : d ≡ group_at parts parts.report)
+    (sorted : (e : Group) (updates : List Update) → AreGroupRows e updates left
+    → AreSortedGroups e sorts updates rows) where
   sound : AllByRecursion (λ u. AreSoundKeys db d.keys u.keys) (s.updates_of parts.report)
-  sound = subst (λ e. AllByRecursion (λ u. AreSoundKeys db e.keys u.keys) (s.updates_of parts.report)) (sym is_group) is.sound
+  sound = subst (λ e. AllByRecursion (λ u. AreSoundKeys db e.keys u.keys)
+      (s.updates_of parts.report)) (sym is_group) is.sound
 
   groups : AreSortedGroups (group_declared d) sorts (s.updates_of parts.report) rows
-  groups = subst (λ e. AreSortedGroups (group_declared e) sorts (s.updates_of parts.report) rows) (sym is_group) (sorted (group_declared (group_at parts parts.report)) (s.updates_of parts.report) is.are)
+  groups = subst (λ e. AreSortedGroups (group_declared e) sorts (s.updates_of parts.report) rows)
+      (sym is_group) (sorted (group_declared (group_at parts parts.report))
+      (s.updates_of parts.report) is.are)
 
-  pub keys_as_declared : (xs : List GroupRow) → xs ≡ rows → All (λ row. AreDecodable db d.keys row.keys) xs
-  keys_as_declared xs e = subst (λ ys. All (λ row. AreDecodable db d.keys row.keys) ys) (sym e) (rows_decodable db d sorts (s.updates_of parts.report) rows sound groups)
+  pub keys_as_declared : (xs : List GroupRow) → xs ≡ rows
+      → All (λ row. AreDecodable db d.keys row.keys) xs
+  keys_as_declared xs e = subst (λ ys. All (λ row. AreDecodable db d.keys row.keys) ys) (sym e)
+      (rows_decodable db d sorts (s.updates_of parts.report) rows sound groups)
 
-  pub is_outcome : (xs : List GroupRow) (shows : List Show) (outcome : Outcome) → xs ≡ rows → sorts ≡ parts.sorts → shows ≡ parts.shows → outcome.names ≡ map (λ show. show.name) shows
+  pub is_outcome : (xs : List GroupRow) (shows : List Show) (outcome : Outcome) → xs ≡ rows
+      → sorts ≡ parts.sorts → shows ≡ parts.shows → outcome.names ≡ map (λ show. show.name) shows
       → outcome.rows ≡ map (row_cells (world_of db) d shows) xs
-      → outcome.visits ≡ counts.visits → outcome.lookups ≡ counts.lookups → outcome.updates ≡ counts.updates → IsOutcome (world_of db) parts s outcome
-  is_outcome xs shows outcome is_rows is_sorts is_shows names cells visits lookups updates = record {
-    names = names ∙ ap (map (λ show. show.name)) is_shows;
-    rows = map (decoded_row (world_of db) d) (map row_view rows);
-    reported = subst (λ e. AreReportRows (world_of db) parts e (s.updates_of parts.report) (map (decoded_row (world_of db) d) (map row_view rows))) is_group (record {
-      groups = map row_view rows;
-      each_group = groups.groups;
-      decoded = refl;
-      in_order = subst (λ keys. AreInOrder value_cmp keys (map (decoded_row (world_of db) d) (map row_view rows))) is_sorts
-          (decoded_in_order db d sorts (map row_view rows) (groups_decodable db d sorts (s.updates_of parts.report) rows sound groups) groups.in_order);
-    });
-    cells = cells ∙ (λ i. map (row_cells (world_of db) d (is_shows i)) (is_rows i))
-        ∙ sym (map-map (shown_cells parts) (decoded_row (world_of db) d) (map row_view rows) ∙ map-map (λ row. shown_cells parts (decoded_row (world_of db) d row)) row_view rows);
-    visits = visits ∙ is.visits;
-    lookups = lookups ∙ is.lookups;
-    updates = updates ∙ is.updates;
-  }
+      → outcome.visits ≡ counts.visits → outcome.lookups ≡ counts.lookups
+      → outcome.updates ≡ counts.updates → IsOutcome (world_of db) parts s outcome
+  is_outcome xs shows outcome is_rows is_sorts is_shows names cells visits lookups updates =
+      record {
+        names = names ∙ ap (map (λ show. show.name)) is_shows;
+        rows = map (decoded_row (world_of db) d) (map row_view rows);
+        reported = subst (λ e. AreReportRows (world_of db) parts e (s.updates_of parts.report)
+            (map (decoded_row (world_of db) d) (map row_view rows))) is_group (record {
+              groups = map row_view rows;
+              each_group = groups.groups;
+              decoded = refl;
+              in_order = subst (λ keys.
+                  AreInOrder value_cmp keys (map (decoded_row (world_of db) d) (map row_view rows)))
+                  is_sorts
+                  (decoded_in_order db d sorts (map row_view rows)
+                  (groups_decodable db d sorts (s.updates_of parts.report) rows sound groups)
+                  groups.in_order);
+            });
+        cells = cells ∙ (λ i. map (row_cells (world_of db) d (is_shows i)) (is_rows i))
+            ∙ sym (map-map (shown_cells parts) (decoded_row (world_of db) d) (map row_view rows)
+            ∙ map-map (λ row. shown_cells parts (decoded_row (world_of db) d row)) row_view rows);
+        visits = visits ∙ is.visits;
+        lookups = lookups ∙ is.lookups;
+        updates = updates ∙ is.updates;
+      }

@@ -1,4 +1,5 @@
--- The order of rows is an order, it tells rows with different keys apart, and for the rows of one group it is that of the report.
+-- The order of rows is an order, it tells rows with different keys apart, and for the rows of one
+-- group it is that of the report.
 use Rattle.std.proofs.Common.{◌≡◌, ◌<◌, ◌<ℤ◌, ℤ, true≢false, List, [], ◌∷◌, Option, Some, None, ap, get_or, sym, subst, refl}
 use Rattle.std.specs.Cmp.{IsTotalOrder, int_ranks, ranks}
 use Rattle.std.specs.Cmp.Lexicographic.{slice_cmp, options_total}
@@ -31,7 +32,8 @@ value_total = record { antisymm = antisymm; trans = trans; congr = congr }
     antisymm (Code m) (Number y) = refl
     antisymm (Code m) (Code n) = nat_cmp_total.antisymm m n
 
-    trans : (a b c : KeyValue) → key_value_cmp a b ≡ Less → key_value_cmp b c ≡ Less → key_value_cmp a c ≡ Less
+    trans : (a b c : KeyValue) → key_value_cmp a b ≡ Less → key_value_cmp b c ≡ Less
+        → key_value_cmp a c ≡ Less
     trans (Number x) (Number y) (Number z) p q = int_cmp_total.trans x y z p q
     trans (Number x) b (Code o) p q = refl
     trans (Number x) (Code n) (Number z) p q = cc q
@@ -48,7 +50,8 @@ value_total = record { antisymm = antisymm; trans = trans; congr = congr }
     congr (Code m) (Code n) (Code o) p = nat_cmp_total.congr m n o p
 
 key_total : {K : Type 0} {cmp : K → K → Ordering} → IsTotalOrder cmp → IsTotalOrder (key_cmp cmp)
-key_total {K} {cmp} o = subst IsTotalOrder (λ i a b. turned a b i) (back_total (options_total (back_total o)))
+key_total {K} {cmp} o = subst IsTotalOrder (λ i a b. turned a b i)
+    (back_total (options_total (back_total o)))
   where
     turned : (a b : Option K) → option_cmp (flip_args cmp) b a ≡ key_cmp cmp a b
     turned (Some a) (Some b) = refl
@@ -57,8 +60,10 @@ key_total {K} {cmp} o = subst IsTotalOrder (λ i a b. turned a b i) (back_total 
     turned None None = refl
 
 column_total : (c : GroupColumn) → IsTotalOrder (column_order c)
-column_total (column.Key place) = on_total (λ (row : Row KeyValue). get_or row.keys place None) (key_total value_total)
-column_total (column.Aggregate place) = on_total (λ (row : Row KeyValue). get_or row.totals place None) (options_total int_cmp_total)
+column_total (column.Key place) =
+    on_total (λ (row : Row KeyValue). get_or row.keys place None) (key_total value_total)
+column_total (column.Aggregate place) =
+    on_total (λ (row : Row KeyValue). get_or row.totals place None) (options_total int_cmp_total)
 
 directed_total : (c : GroupColumn) (d : Direction) → IsTotalOrder (directed_order c d)
 directed_total c Ascending = column_total c
@@ -76,10 +81,12 @@ both_equal Equal b e = (refl, e)
 both_equal Greater b e = cc e
 
 value_level : (a b : KeyValue) → key_value_cmp a b ≡ Equal → a ≡ b
-value_level (Number x) (Number y) e = ap Number (subst (λ o. MatchOrdering o (x <ℤ y) (x ≡ y) (y <ℤ x)) e (int_ranks x y))
+value_level (Number x) (Number y) e =
+    ap Number (subst (λ o. MatchOrdering o (x <ℤ y) (x ≡ y) (y <ℤ x)) e (int_ranks x y))
 value_level (Number x) (Code n) e = cc e
 value_level (Code m) (Number y) e = cc e
-value_level (Code m) (Code n) e = ap Code (subst (λ o. MatchOrdering o (m < n) (m ≡ n) (n < m)) e (ranks m n))
+value_level (Code m) (Code n) e =
+    ap Code (subst (λ o. MatchOrdering o (m < n) (m ≡ n) (n < m)) e (ranks m n))
 
 key_level : (a b : Option KeyValue) → key_cmp key_value_cmp a b ≡ Equal → a ≡ b
 key_level (Some a) (Some b) e = ap Some (value_level a b e)
@@ -87,7 +94,8 @@ key_level (Some a) None e = cc e
 key_level None (Some b) e = cc e
 key_level None None e = refl
 
-keys_level : (xs ys : List (Option KeyValue)) → slice_cmp (key_cmp key_value_cmp) xs ys ≡ Equal → xs ≡ ys
+keys_level : (xs ys : List (Option KeyValue)) → slice_cmp (key_cmp key_value_cmp) xs ys ≡ Equal
+    → xs ≡ ys
 keys_level [] [] e = refl
 keys_level [] (b ∷ ys) e = cc e
 keys_level (a ∷ xs) [] e = cc e
@@ -95,26 +103,36 @@ keys_level (a ∷ xs) (b ∷ ys) e =
     let both = both_equal (key_cmp key_value_cmp a b) (slice_cmp (key_cmp key_value_cmp) xs ys) e in
     λ i. key_level a b both.0 i ∷ keys_level xs ys both.1 i
 
-pub rows_level : (sorts : List SortKey) (a b : Row KeyValue) → row_order sorts a b ≡ Equal → a.keys ≡ b.keys
+pub rows_level : (sorts : List SortKey) (a b : Row KeyValue) → row_order sorts a b ≡ Equal
+    → a.keys ≡ b.keys
 rows_level [] a b e = keys_level a.keys b.keys e
-rows_level (sort ∷ sorts) a b e = rows_level sorts a b (both_equal (directed_order sort.column sort.direction a b) (row_order sorts a b) e).1
+rows_level (sort ∷ sorts) a b e =
+    rows_level sorts a b (both_equal (directed_order sort.column sort.direction a b)
+    (row_order sorts a b) e).1
 
 -- ---- the order of the report
 
-same_total : (x y : Option ℤ) → is_some x ≡ is_some y → report.total_cmp x y ≡ option_cmp int_cmp x y
+same_total : (x y : Option ℤ) → is_some x ≡ is_some y
+    → report.total_cmp x y ≡ option_cmp int_cmp x y
 same_total (Some x) (Some y) e = refl
 same_total (Some x) None e = absurd (true≢false e)
 same_total None (Some y) e = absurd (true≢false (sym e))
 same_total None None e = refl
 
-same_column : (c : GroupColumn) (a b : Row KeyValue) → HaveSameNulls a b → report.column_cmp key_value_cmp c a b ≡ column_order c a b
+same_column : (c : GroupColumn) (a b : Row KeyValue) → HaveSameNulls a b
+    → report.column_cmp key_value_cmp c a b ≡ column_order c a b
 same_column (column.Key place) a b h = refl
-same_column (column.Aggregate place) a b h = same_total (get_or a.totals place None) (get_or b.totals place None) (h.same place)
+same_column (column.Aggregate place) a b h =
+    same_total (get_or a.totals place None) (get_or b.totals place None) (h.same place)
 
-same_directed : (c : GroupColumn) (d : Direction) (a b : Row KeyValue) → HaveSameNulls a b → report.sort_cmp key_value_cmp (record { column = c; direction = d }) a b ≡ directed_order c d a b
+same_directed : (c : GroupColumn) (d : Direction) (a b : Row KeyValue) → HaveSameNulls a b
+    → report.sort_cmp key_value_cmp (record { column = c; direction = d }) a b
+    ≡ directed_order c d a b
 same_directed c Ascending a b h = same_column c a b h
 same_directed c Descending a b h = same_column c b a (record { same = λ place. sym (h.same place) })
 
-pub same_order : (sorts : List SortKey) (a b : Row KeyValue) → HaveSameNulls a b → report.row_cmp key_value_cmp sorts a b ≡ row_order sorts a b
+pub same_order : (sorts : List SortKey) (a b : Row KeyValue) → HaveSameNulls a b
+    → report.row_cmp key_value_cmp sorts a b ≡ row_order sorts a b
 same_order [] a b h = refl
-same_order (sort ∷ sorts) a b h = λ i. ordering_then (same_directed sort.column sort.direction a b h i) (same_order sorts a b h i)
+same_order (sort ∷ sorts) a b h =
+    λ i. ordering_then (same_directed sort.column sort.direction a b h i) (same_order sorts a b h i)

@@ -1,46 +1,131 @@
 -- The names of the aggregates, item by item.
-use Rattle.std.proofs.Common.{◌≡◌, ◌∙◌, sym, ap, ◌+◌, ◌<◌, ℕ, zero, suc, List, [], ◌∷◌, ◌++◌, None, take, get_or, length, map, arith, refl}
-use Rattle.std.proofs.lemmas.List.{length-map, take-map}
-use Rattle.star_query.specs.Tree.{Item, Name, aggregate, plain}
-use Rattle.star_plan.specs.Faults.{item_fault, item_fault_after}
+use Rattle.std.proofs.Common.{◌≡◌, ◌∙◌, sym, ap, ◌+◌, ◌<◌, ℕ, zero, suc, Bool, ◌||◌, if◌then◌else◌, List, [], ◌∷◌, ◌++◌, Some, None, take, drop, get_or, length, map, arith, refl}
+use Rattle.std.proofs.Math.Seq.{take-append_seam}
+use Rattle.std.proofs.lemmas.List.{drop-map, get_or-map, length-append, length-map, length-take-le, take-map}
+use Rattle.star_query.specs.Limits.{aggregates_in}
+use Rattle.star_query.specs.Tree.{Aggregate, Item, Name, aggregate, plain}
+use Rattle.star_plan.specs.declared.fault.PlanFault.TheVariants.{DuplicateAlias}
+use Rattle.star_plan.specs.declared.tree.Aggregate.{Aggregate as Named}
+use Rattle.star_plan.specs.Faults.{alias_fault, item_fault, item_fault_after}
+use Rattle.star_plan.specs.Names.{has_name}
+use Rattle.star_plan.specs.Naming.{name_of_aggregate, aggregate_names, has_text, name_place, names_from}
+use Rattle.star_plan.specs.Views.{names_view}
+use Rattle.star_plan.specs.Private.Answers.{IsNamedAt}
 use Rattle.star_plan.proofs.Viewed.{BesideSoFar, beside_passed}
-use Rattle.star_plan.specs.Naming.{name_of_aggregate, aggregate_names, names_from}
 
-names_then : (n : ℕ) (items : List Item) (i : ℕ) (x : Item) → i < length items → x ≡ get_or items i x
-    → names_from n (take i items) ++ names_from (n + length (names_from n (take i items))) (x ∷ []) ≡ names_from n (take (i + 1) items)
-names_then n [] i x within at = absurd (omega arith)
-names_then n (y ∷ ys) zero x within at = let none : n + 0 ≡ n = omega arith in rw (none, at) refl
-names_then n (plain y ∷ ys) (suc i) x within at =
-    let next : suc i + 1 ≡ suc (i + 1) = omega arith in rw next (names_then n ys i x (omega arith) at)
-names_then n (aggregate y ∷ ys) (suc i) x within at =
+names_split : (n : ℕ) (items : List Item) (i : ℕ) (x : Item) → i < length items
+    → x ≡ get_or items i x
+    → names_from n items ≡ names_from n (take i items)
+    ++ names_from (n + length (names_from n (take i items))) (x ∷ drop (i + 1) items)
+names_split n [] i x within at = absurd (omega arith)
+names_split n (y ∷ ys) zero x within at = let none : n + 0 ≡ n = omega arith in rw (none, at) refl
+names_split n (plain y ∷ ys) (suc i) x within at =
     let next : suc i + 1 ≡ suc (i + 1) = omega arith in
-    let later : n + suc (length (names_from (n + 1) (take i ys))) ≡ n + 1 + length (names_from (n + 1) (take i ys)) = omega arith in
-    rw (next, later) (ap (λ names. name_of_aggregate n y ∷ names) (names_then (n + 1) ys i x (omega arith) at))
+    rw next (names_split n ys i x (omega arith) at)
+names_split n (aggregate y ∷ ys) (suc i) x within at =
+    let next : suc i + 1 ≡ suc (i + 1) = omega arith in
+    let later : n + suc (length (names_from (n + 1) (take i ys)))
+    ≡ n + 1 + length (names_from (n + 1) (take i ys)) = omega arith in
+    rw (next, later) (ap (λ names. name_of_aggregate n y ∷ names)
+    (names_split (n + 1) ys i x (omega arith) at))
 
-at_viewed : {X Y : Type 0} (v : X → Y) (xs : List X) (i : ℕ) (x : X) → i < length xs → x ≡ get_or xs i x
+count_more : (n : ℕ) (items : List Item) (i : ℕ) (x : Item) → i < length items
+    → x ≡ get_or items i x
+    → length (names_from n (take (i + 1) items))
+    ≡ length (names_from n (take i items)) + aggregates_in x
+count_more n [] i x within at = absurd (omega arith)
+count_more n (plain y ∷ ys) zero x within at = rw at refl
+count_more n (aggregate y ∷ ys) zero x within at = rw at refl
+count_more n (plain y ∷ ys) (suc i) x within at =
+    let next : suc i + 1 ≡ suc (i + 1) = omega arith in
+    rw next (count_more n ys i x (omega arith) at)
+count_more n (aggregate y ∷ ys) (suc i) x within at =
+    let next : suc i + 1 ≡ suc (i + 1) = omega arith in
+    let more = count_more (n + 1) ys i x (omega arith) at in rw next (omega (arith, more))
+
+-- ---- the same of the code's items
+
+at_viewed : {X Y : Type 0} (v : X → Y) (xs : List X) (i : ℕ) (x : X) → i < length xs
+    → x ≡ get_or xs i x
     → v x ≡ get_or (map v xs) i (v x)
 at_viewed v [] i x within at = absurd (omega arith)
 at_viewed v (y ∷ ys) zero x within at = ap v at
 at_viewed v (y ∷ ys) (suc i) x within at = at_viewed v ys i x (omega arith) at
 
-viewed_then : {X : Type 0} (v : X → Item) (xs : List X) (i : ℕ) (x : X) → i < length xs → x ≡ get_or xs i x
-    → aggregate_names (map v (take i xs)) ++ names_from (1 + length (aggregate_names (map v (take i xs)))) (v x ∷ [])
-    ≡ aggregate_names (map v (take (i + 1) xs))
-viewed_then v xs i x within at =
-    let within_view : i < length (map v xs) = omega (arith, within, length-map xs v) in
-    rw (take-map v i xs, take-map v (i + 1) xs) at (names_then 1 (map v xs) i (v x) within_view (at_viewed v xs i x within at))
+at_seam : {X : Type 0} (xs ys : List X) (y d : X) → get_or (xs ++ y ∷ ys) (length xs) d ≡ y
+at_seam [] ys y d = refl
+at_seam (x ∷ xs) ys y d = at_seam xs ys y d
 
-pub next_names : {X : Type 0} (v : X → Item) (items : List X) (i : ℕ) (x : X) (names new : List (List ℕ)) (count : ℕ)
-    → i < length items → x ≡ get_or items i x → names ≡ aggregate_names (map v (take i items)) → count ≡ length names
-    → new ≡ names ++ names_from (count + 1) (v x ∷ []) → new ≡ aggregate_names (map v (take (i + 1) items))
-next_names v items i x names new count within at so_far counted made =
-    let number : count + 1 ≡ 1 + length (aggregate_names (map v (take i items))) = omega (arith, counted, ap length so_far) in
-    made ∙ (rw (number, so_far) (viewed_then v items i x within at))
+named_at : (names seen : List (List ℕ)) (x : Item) (rest : List Item)
+    → names ≡ seen ++ names_from (1 + length seen) (x ∷ rest) → IsNamedAt names (length seen) x
+named_at names seen (plain n) rest e = tt
+named_at names seen (aggregate a) rest e =
+    let name = name_of_aggregate (1 + length seen) a in
+    let others = names_from (1 + length seen + 1) rest in
+    let number : 1 + length seen ≡ length seen + 1 = omega arith in (
+      omega (arith, ap length e, length-append seen (name ∷ others)),
+      ap (λ ns. get_or ns (length seen) []) e ∙ at_seam seen others name []
+          ∙ ap (λ n. name_of_aggregate n a) number,
+    )
 
-pub item_passed : {X : Type 0} (v : X → Item) (groups : List Name) (items : List X) (i : ℕ) (x : X) (names : List (List ℕ))
-    → i < length items → x ≡ get_or items i x → names ≡ aggregate_names (map v (take i items))
-    → BesideSoFar v (item_fault groups) items i → item_fault_after groups names (v x) ≡ None
-    → BesideSoFar v (item_fault groups) items (i + 1)
-item_passed v groups items i x names within at named so_far passed =
-    beside_passed v (item_fault groups) items i x within so_far
-    (sym (ap (λ y. item_fault_after groups (aggregate_names (map v (take i items))) (v y)) (sym at) ∙ rw (← named) passed))
+module _ {X : Type 0} (v : X → Item) (items : List X) (i : ℕ) (x : X) (names : List (List ℕ))
+    (before : ℕ)
+    (within : i < length items) (at : x ≡ get_or items i x)
+    (all : names ≡ aggregate_names (map v items))
+    (counted : before ≡ length (aggregate_names (map v (take i items)))) where
+  within_view : i < length (map v items)
+  within_view = omega (arith, within, length-map items v)
+
+  split : names ≡ aggregate_names (map v (take i items))
+      ++ names_from (1 + length (aggregate_names (map v (take i items))))
+      (v x ∷ map v (drop (i + 1) items))
+  split = all ∙ rw (take-map v i items, drop-map v (i + 1) items) at
+      (names_split 1 (map v items) i (v x) within_view (at_viewed v items i x within at))
+
+  pub next_named : IsNamedAt names before (v x)
+  next_named = rw counted (named_at names (aggregate_names (map v (take i items))) (v x)
+      (map v (drop (i + 1) items)) split)
+
+  pub names_taken : take before names ≡ aggregate_names (map v (take i items))
+  names_taken = (λ j. take (counted j) (split j))
+      ∙ take-append_seam (aggregate_names (map v (take i items))) _
+
+  pub next_counted : before + aggregates_in (v x)
+      ≡ length (aggregate_names (map v (take (i + 1) items)))
+  next_counted = rw counted (sym (rw (take-map v i items, take-map v (i + 1) items) at
+      (count_more 1 (map v items) i (v x) within_view (at_viewed v items i x within at))))
+
+  pub item_passed : (groups : List Name) → BesideSoFar v (item_fault groups) items i
+      → item_fault_after groups (take before names) (v x) ≡ None
+      → BesideSoFar v (item_fault groups) items (i + 1)
+  item_passed groups so_far passed =
+      beside_passed v (item_fault groups) items i x within so_far
+      (sym (ap (λ y. item_fault_after groups (aggregate_names (map v (take i items))) (v y))
+      (sym at) ∙ rw (← names_taken) passed))
+
+-- ---- an aggregate's name beside those before it
+
+pub alias_told : (groups : List Name) (aggregates : List Named) (place : ℕ) (a : Aggregate)
+    (own : Named)
+    (name : List ℕ) (taken : Bool) (at : ℕ)
+    → place < length aggregates
+    → get_or (names_view aggregates) place [] ≡ name_of_aggregate (place + 1) a
+    → name ≡ (get_or aggregates place own).name.items
+    → taken ≡ (has_text (names_view (take place aggregates)) name || has_name groups name)
+    → at ≡ name_place a
+    → (if taken then Some (DuplicateAlias at) else None)
+    ≡ alias_fault groups (take place (names_view aggregates)) a
+alias_told groups aggregates place a own name taken at within named is tested placed =
+    let before = take place (names_view aggregates) in
+    let viewed : before ≡ names_view (take place aggregates) =
+    take-map (λ b. b.name.items) place aggregates in
+    let long : place ≡ length before =
+    sym (length-take-le place (names_view aggregates)
+    (omega (arith, within, length-map aggregates (λ b. b.name.items)))) in
+    let same : name ≡ name_of_aggregate (length before + 1) a =
+    is ∙ sym (get_or-map (λ b. b.name.items) aggregates place own [] within) ∙ named
+    ∙ ap (λ n. name_of_aggregate (n + 1) a) long in
+    let test : taken ≡ (has_text before (name_of_aggregate (length before + 1) a)
+    || has_name groups (name_of_aggregate (length before + 1) a)) =
+    tested ∙ (λ j. has_text (sym viewed j) (same j) || has_name groups (same j)) in
+    λ j. if test j then Some (DuplicateAlias (placed j)) else None

@@ -1,8 +1,15 @@
 -- What the exit of a `?` returns.
-use Rattle.std.proofs.Common.{◌≡◌, Some, Result, Ok, Err, ap}
+use Rattle.std.proofs.Common.{◌≡◌, inr, sym, Option, Some, Result, Ok, Err, ap}
 use Rattle.std.specs.Result.{IsErrAnd, result_err}
 use Rattle.star_plan.specs.declared.fault.PlanFault.{PlanFault}
+use Rattle.star_plan.specs.Private.Answers.{Tells}
 
-pub error_is : {T : Type 0} (r : Result T PlanFault) (e : PlanFault) → IsErrAnd r (λ y. y ≡ e) → result_err r ≡ Some e
+pub error_is : {T : Type 0} (r : Result T PlanFault) (e : PlanFault) → IsErrAnd r (λ y. y ≡ e)
+    → result_err r ≡ Some e
 error_is (Ok x) e is_e = absurd is_e
 error_is (Err y) e is_e = ap Some is_e
+
+pub tells : {T : Type 0} (r : Result T PlanFault) (fault : Option PlanFault) → result_err r ≡ fault
+    → Tells fault r
+tells (Ok x) fault e = sym e
+tells (Err y) fault e = inr (sym e)

@@ -29,10 +29,13 @@ same_some o x y e f = cc
 -- each item has at most one aggregate
 few_aggregates : (is' : List tree.Item) → sum_by asked.aggregates_in is' ≤ length is'
 few_aggregates [] = omega arith
-few_aggregates (tree.plain n ∷ is') = omega (arith, few_aggregates is', sum_by-cons asked.aggregates_in (tree.plain n) is')
-few_aggregates (tree.aggregate a ∷ is') = omega (arith, few_aggregates is', sum_by-cons asked.aggregates_in (tree.aggregate a) is')
+few_aggregates (tree.plain n ∷ is') =
+    omega (arith, few_aggregates is', sum_by-cons asked.aggregates_in (tree.plain n) is')
+few_aggregates (tree.aggregate a ∷ is') =
+    omega (arith, few_aggregates is', sum_by-cons asked.aggregates_in (tree.aggregate a) is')
 
-pub kept_within : (t : Tree) (p : Plan) → asked.IsQueryWithinLimits t → plan_fault t ≡ None → IsResolved t p → IsPlanWithinLimits p
+pub kept_within : (t : Tree) (p : Plan) → asked.IsQueryWithinLimits t → plan_fault t ≡ None
+    → IsResolved t p → IsPlanWithinLimits p
 kept_within t p few named resolved =
     let there = parts t named in
     let conditions = where_comparisons t.condition p.conjuncts resolved.conjuncts in
@@ -40,9 +43,12 @@ kept_within t p few named resolved =
     let measures = measures_counted t.items p.measures resolved.measures in
     let operands = operands_counted t.items p.measures resolved.measures in
     let items = items_counted t.grouping.columns 0 t.items p.items resolved.items in
-    let sorts = all_counted (resolved_key t.grouping.columns (aggregate_names t.items)) t.keys p.sorts resolved.sorts in
+    let sorts = all_counted (resolved_key t.grouping.columns (aggregate_names t.items)) t.keys
+    p.sorts resolved.sorts in
     record {
-      joins = subst (λ js. length js ≤ 4) (sym resolved.joins) (at_most_four (joins_of (where_pairs t.condition)) (where_foreign t.condition) there.apart);
+      joins = subst (λ js. length js ≤ 4) (sym resolved.joins)
+          (at_most_four (joins_of (where_pairs t.condition)) (where_foreign t.condition)
+          there.named.apart);
       comparisons = omega (arith, conditions, few.comparisons);
       keys = omega (arith, groups, few.columns);
       measures = omega (arith, measures, few.aggregates);
@@ -55,38 +61,56 @@ pub kept_sound : (t : Tree) (p : Plan) → plan_fault t ≡ None → IsResolved 
 kept_sound t p named resolved =
     let there = parts t named in
     let js = joins_of (where_pairs t.condition) in
-    let conjuncts = conjuncts_there t there in
-    let keys = keys_there t there in
-    let measures = measures_there t there in
-    let keys_many : length p.keys ≡ length t.grouping.columns = all_counted column_at t.grouping.columns p.keys resolved.keys in
-    let measures_many : length p.measures ≡ sum_by asked.aggregates_in t.items = measures_counted t.items p.measures resolved.measures in
-    let names_many : length (aggregate_names t.items) ≡ sum_by asked.aggregates_in t.items = names_counted 1 t.items in
-    let names_same : length (aggregate_names t.items) ≡ length p.measures = names_many ∙ sym measures_many in
+    let conjuncts = conjuncts_there t there.named in
+    let keys = keys_there t there.named in
+    let measures = measures_there t there.named in
+    let keys_many : length p.keys ≡ length t.grouping.columns =
+    all_counted column_at t.grouping.columns p.keys resolved.keys in
+    let measures_many : length p.measures ≡ sum_by asked.aggregates_in t.items =
+    measures_counted t.items p.measures resolved.measures in
+    let names_many : length (aggregate_names t.items) ≡ sum_by asked.aggregates_in t.items =
+    names_counted 1 t.items in
+    let names_same : length (aggregate_names t.items) ≡ length p.measures =
+    names_many ∙ sym measures_many in
     record {
-      joins = subst (λ qs. list_all (λ j. is_foreign j.foreign j.key) qs ≡ true) (sym resolved.joins) (where_foreign t.condition);
-      distinct = subst (λ qs. are_distinct qs ≡ true) (sym resolved.joins) there.apart;
+      joins = subst (λ qs. list_all (λ j. is_foreign j.foreign j.key) qs ≡ true)
+          (sym resolved.joins) (where_foreign t.condition);
+      distinct = subst (λ qs. are_distinct qs ≡ true) (sym resolved.joins) there.named.apart;
       conjuncts =
           subst (λ qs. list_all (condition_is_sound qs) p.conjuncts ≡ true) (sym resolved.joins)
-          (subst (λ cs. list_all (condition_is_sound js) cs ≡ true) (same_some _ conjuncts.0 p.conjuncts conjuncts.1 resolved.conjuncts) conjuncts.2);
+          (subst (λ cs. list_all (condition_is_sound js) cs ≡ true)
+          (same_some _ conjuncts.0 p.conjuncts conjuncts.1 resolved.conjuncts) conjuncts.2);
       keys =
           subst (λ qs. list_all (λ c. in_scope qs (table_of c)) p.keys ≡ true) (sym resolved.joins)
-          (subst (λ cs. list_all (λ c. in_scope js (table_of c)) cs ≡ true) (same_some _ keys.0 p.keys keys.1 resolved.keys) keys.2);
+          (subst (λ cs. list_all (λ c. in_scope js (table_of c)) cs ≡ true)
+          (same_some _ keys.0 p.keys keys.1 resolved.keys) keys.2);
       measures =
           subst (λ qs. list_all (measure_is_sound qs) p.measures ≡ true) (sym resolved.joins)
-          (subst (λ ms. list_all (measure_is_sound js) ms ≡ true) (same_some _ measures.0 p.measures measures.1 resolved.measures) measures.2);
+          (subst (λ ms. list_all (measure_is_sound js) ms ≡ true)
+          (same_some _ measures.0 p.measures measures.1 resolved.measures) measures.2);
       names = ap length resolved.names ∙ names_same;
       items =
-          subst (λ n. list_all (is_group_column n (length p.measures)) p.items ≡ true) (sym keys_many)
-          (items_there t.grouping.columns 0 (length p.measures) t.items p.items (omega arith) resolved.items);
+          subst (λ n. list_all (is_group_column n (length p.measures)) p.items ≡ true)
+          (sym keys_many)
+          (items_there t.grouping.columns 0 (length p.measures) t.items p.items (omega arith)
+          resolved.items);
       shown =
-          omega (arith, some_there (aggregate_names t.items) there.some, few_aggregates t.items, items_counted t.grouping.columns 0 t.items p.items resolved.items);
+          omega (
+            arith,
+            some_there (aggregate_names t.items) there.some,
+            few_aggregates t.items,
+            items_counted t.grouping.columns 0 t.items p.items resolved.items,
+          );
       sorts =
-          subst (λ n. list_all (λ s. is_group_column n (length p.measures) s.column) p.sorts ≡ true) (sym keys_many)
-          (subst (λ n. list_all (λ s. is_group_column (length t.grouping.columns) n s.column) p.sorts ≡ true) names_same
+          subst (λ n. list_all (λ s. is_group_column n (length p.measures) s.column) p.sorts ≡ true)
+          (sym keys_many)
+          (subst (λ n. list_all (λ s. is_group_column (length t.grouping.columns) n s.column)
+          p.sorts ≡ true) names_same
           (sorts_there t.grouping.columns (aggregate_names t.items) t.keys p.sorts resolved.sorts));
     }
 
-pub kept_spelled : (t : Tree) (p : Plan) → asked.IsQueryWithinLimits t → spelled.IsSpelledQuery t → IsResolved t p → IsSpelledPlan p
+pub kept_spelled : (t : Tree) (p : Plan) → asked.IsQueryWithinLimits t → spelled.IsSpelledQuery t
+    → IsResolved t p → IsSpelledPlan p
 kept_spelled t p few good resolved =
     let short : 1 + length t.items < 2 ^ 64 = omega (arith, few.items) in
     record {

@@ -1,4 +1,5 @@
--- The names, numbers and texts of a plan are those of its query, or names made of a function's word and a number.
+-- The names, numbers and texts of a plan are those of its query, or names made of a function's word
+-- and a number.
 use Rattle.std.proofs.Common.{◌≡◌, ◌∙◌, sym, ap, ℕ, ◌+◌, ◌<◌, ◌≤◌, ◌^◌, Bool, true, ◌&&◌, List, [], ◌∷◌, ◌++◌, Option, Some, None, length, option_map, arith, refl, length-append}
 use Rattle.std.specs.Prelude.{decimal}
 use Rattle.std.specs.List.{list_all}
@@ -24,83 +25,126 @@ use Rattle.star_plan.proofs.Options.{both_gave, mapped_gave}
 
 -- ---- numbers and texts
 
-value_spelled : (l : Literal) → asked.literal_is_spelled l ≡ true → value_is_spelled (literal_value l) ≡ true
+value_spelled : (l : Literal) → asked.literal_is_spelled l ≡ true
+    → value_is_spelled (literal_value l) ≡ true
 value_spelled (tree.number z) e = e
 value_spelled (tree.text bytes) e = e
 
 -- a whole of two parts
-both_spelled : {S T : Type 0} (asks : S → Bool) (passes : T → Bool) (f : S → Option T) (make : T → T → T) → ((y z : T) → passes (make y z) ≡ (passes y && passes z))
+both_spelled : {S T : Type 0} (asks : S → Bool) (passes : T → Bool) (f : S → Option T)
+    (make : T → T → T) → ((y z : T) → passes (make y z) ≡ (passes y && passes z))
     → (a b : S) (x : T) → option_both make (f a) (f b) ≡ Some x → (asks a && asks b) ≡ true
-    → ((y : T) → f a ≡ Some y → asks a ≡ true → passes y ≡ true) → ((z : T) → f b ≡ Some z → asks b ≡ true → passes z ≡ true) → passes x ≡ true
+    → ((y : T) → f a ≡ Some y → asks a ≡ true → passes y ≡ true)
+    → ((z : T) → f b ≡ Some z → asks b ≡ true → passes z ≡ true) → passes x ≡ true
 both_spelled asks passes f make splits a b x e good left right =
     let g = both_gave make (f a) (f b) x e in
     let parts = and_parts (asks a) (asks b) good in
-    ap passes (sym g.made) ∙ splits g.left g.right ∙ and_from _ _ (left g.left g.first parts.0) (right g.right g.second parts.1)
+    ap passes (sym g.made) ∙ splits g.left g.right
+    ∙ and_from _ _ (left g.left g.first parts.0) (right g.right g.second parts.1)
 
-expression_spelled : (e : Expression Name) (x : Expression ColumnId) → resolved_expression e ≡ Some x → asked.expression_is_spelled e ≡ true → expression_is_spelled x ≡ true
-expression_spelled (tree.column n) x e good = let g = mapped_gave column (column_at n) x e in ap expression_is_spelled (sym g.2)
-expression_spelled (tree.constant z) x e good = let same : constant z ≡ x = cc in ap expression_is_spelled (sym same) ∙ good
+expression_spelled : (e : Expression Name) (x : Expression ColumnId)
+    → resolved_expression e ≡ Some x → asked.expression_is_spelled e ≡ true
+    → expression_is_spelled x ≡ true
+expression_spelled (tree.column n) x e good = let g = mapped_gave column (column_at n) x e in
+    ap expression_is_spelled (sym g.2)
+expression_spelled (tree.constant z) x e good = let same : constant z ≡ x = cc in
+    ap expression_is_spelled (sym same) ∙ good
 expression_spelled (tree.add a b) x e good =
-    both_spelled asked.expression_is_spelled expression_is_spelled resolved_expression add (λ y z. refl) a b x e good (expression_spelled a) (expression_spelled b)
+    both_spelled asked.expression_is_spelled expression_is_spelled resolved_expression add
+    (λ y z. refl) a b x e good (expression_spelled a) (expression_spelled b)
 expression_spelled (tree.sub a b) x e good =
-    both_spelled asked.expression_is_spelled expression_is_spelled resolved_expression sub (λ y z. refl) a b x e good (expression_spelled a) (expression_spelled b)
+    both_spelled asked.expression_is_spelled expression_is_spelled resolved_expression sub
+    (λ y z. refl) a b x e good (expression_spelled a) (expression_spelled b)
 expression_spelled (tree.mul a b) x e good =
-    both_spelled asked.expression_is_spelled expression_is_spelled resolved_expression mul (λ y z. refl) a b x e good (expression_spelled a) (expression_spelled b)
+    both_spelled asked.expression_is_spelled expression_is_spelled resolved_expression mul
+    (λ y z. refl) a b x e good (expression_spelled a) (expression_spelled b)
 
-resolved_spelled : (m : tree.Measure tree.Name) (x : Measure ColumnId) → resolved_measure m ≡ Some x → asked.measure_is_spelled m ≡ true → measure_is_spelled x ≡ true
-resolved_spelled tree.count x e good = let same : counted ≡ x = cc in ap measure_is_spelled (sym same)
+resolved_spelled : (m : tree.Measure tree.Name) (x : Measure ColumnId) → resolved_measure m ≡ Some x
+    → asked.measure_is_spelled m ≡ true → measure_is_spelled x ≡ true
+resolved_spelled tree.count x e good = let same : counted ≡ x = cc in
+    ap measure_is_spelled (sym same)
 resolved_spelled (tree.fold f y) x e good =
     let g = mapped_gave (folds f) (resolved_expression y) x e in
     ap measure_is_spelled (sym g.2) ∙ expression_spelled y g.0 g.1 good
 
-pub measures_spelled : (is' : List Item) (ms : List (Measure ColumnId)) → resolved_measures is' ≡ Some ms → list_all asked.item_is_spelled is' ≡ true → list_all measure_is_spelled ms ≡ true
-measures_spelled [] ms e good = let none : [] ≡ ms = cc in ap (list_all measure_is_spelled) (sym none)
+pub measures_spelled : (is' : List Item) (ms : List (Measure ColumnId))
+    → resolved_measures is' ≡ Some ms → list_all asked.item_is_spelled is' ≡ true
+    → list_all measure_is_spelled ms ≡ true
+measures_spelled [] ms e good = let none : [] ≡ ms = cc in
+    ap (list_all measure_is_spelled) (sym none)
 measures_spelled (tree.plain n ∷ is') ms e good =
-    let parts = and_parts (is_name n.text) (list_all asked.item_is_spelled is') good in measures_spelled is' ms e parts.1
+    let parts = and_parts (is_name n.text) (list_all asked.item_is_spelled is') good in
+    measures_spelled is' ms e parts.1
 measures_spelled (tree.aggregate a ∷ is') ms e good =
-    let g = both_gave (λ m ms'. m ∷ ms') (resolved_measure a.measure) (resolved_measures is') ms e in
-    let parts = and_parts (asked.item_is_spelled (tree.aggregate a)) (list_all asked.item_is_spelled is') good in
-    let here = and_parts (asked.measure_is_spelled a.measure) (asked.alias_is_spelled (a.name)) parts.0 in
-    ap (list_all measure_is_spelled) (sym g.made) ∙ and_from _ _ (resolved_spelled a.measure g.left g.first here.0) (measures_spelled is' g.right g.second parts.1)
+    let g = both_gave (λ m ms'. m ∷ ms') (resolved_measure a.measure) (resolved_measures is') ms
+    e in
+    let parts = and_parts (asked.item_is_spelled (tree.aggregate a))
+    (list_all asked.item_is_spelled is') good in
+    let here = and_parts (asked.measure_is_spelled a.measure) (asked.alias_is_spelled (a.name))
+    parts.0 in
+    ap (list_all measure_is_spelled) (sym g.made)
+    ∙ and_from _ _ (resolved_spelled a.measure g.left g.first here.0)
+    (measures_spelled is' g.right g.second parts.1)
 
-condition_spelled : (q : tree.Condition tree.Test) (x : RowCondition) → resolved_condition q ≡ Some x → asked.condition_is_spelled q ≡ true → condition_is_spelled x ≡ true
+condition_spelled : (q : tree.Condition tree.Test) (x : RowCondition)
+    → resolved_condition q ≡ Some x → asked.condition_is_spelled q ≡ true
+    → condition_is_spelled x ≡ true
 condition_spelled (tree.or a b) x e good =
-    both_spelled asked.condition_is_spelled condition_is_spelled resolved_condition or (λ y z. refl) a b x e good (condition_spelled a) (condition_spelled b)
+    both_spelled asked.condition_is_spelled condition_is_spelled resolved_condition or (λ y z. refl)
+    a b x e good (condition_spelled a) (condition_spelled b)
 condition_spelled (tree.and a b) x e good =
-    both_spelled asked.condition_is_spelled condition_is_spelled resolved_condition and (λ y z. refl) a b x e good (condition_spelled a) (condition_spelled b)
+    both_spelled asked.condition_is_spelled condition_is_spelled resolved_condition and
+    (λ y z. refl) a b x e good (condition_spelled a) (condition_spelled b)
 condition_spelled (tree.not a) x e good =
-    let g = mapped_gave not (resolved_condition a) x e in ap condition_is_spelled (sym g.2) ∙ condition_spelled a g.0 g.1 good
+    let g = mapped_gave not (resolved_condition a) x e in
+    ap condition_is_spelled (sym g.2) ∙ condition_spelled a g.0 g.1 good
 condition_spelled (tree.test (tree.pair m n)) x e good = absurd (cc)
 condition_spelled (tree.test (tree.comparison (tree.compare n s l))) x e good =
     let t = mapped_gave test (resolved_test (tree.comparison (tree.compare n s l))) x e in
     let g = mapped_gave (λ c. compare c s (literal_value l)) (column_at n) t.0 t.1 in
     let parts = and_parts (is_name n.text) (asked.literal_is_spelled l) good in
-    ap condition_is_spelled (sym t.2) ∙ ap (λ y. condition_is_spelled (test y)) (sym g.2) ∙ value_spelled l parts.1
+    ap condition_is_spelled (sym t.2) ∙ ap (λ y. condition_is_spelled (test y)) (sym g.2)
+    ∙ value_spelled l parts.1
 condition_spelled (tree.test (tree.comparison (tree.between n from upto))) x e good =
     let t = mapped_gave test (resolved_test (tree.comparison (tree.between n from upto))) x e in
-    let g = mapped_gave (λ c. between c (literal_value from) (literal_value upto)) (column_at n) t.0 t.1 in
-    let parts = and_parts (is_name n.text) (asked.literal_is_spelled from && asked.literal_is_spelled upto) good in
+    let g = mapped_gave (λ c. between c (literal_value from) (literal_value upto)) (column_at n) t.0
+    t.1 in
+    let parts = and_parts (is_name n.text)
+    (asked.literal_is_spelled from && asked.literal_is_spelled upto) good in
     let ends = and_parts (asked.literal_is_spelled from) (asked.literal_is_spelled upto) parts.1 in
-    ap condition_is_spelled (sym t.2) ∙ ap (λ y. condition_is_spelled (test y)) (sym g.2) ∙ and_from _ _ (value_spelled from ends.0) (value_spelled upto ends.1)
+    ap condition_is_spelled (sym t.2) ∙ ap (λ y. condition_is_spelled (test y)) (sym g.2)
+    ∙ and_from _ _ (value_spelled from ends.0) (value_spelled upto ends.1)
 
-lone_spelled : (q : tree.Condition tree.Test) (xs : List RowCondition) → option_map (λ x. x ∷ []) (resolved_condition q) ≡ Some xs → asked.condition_is_spelled q ≡ true
+lone_spelled : (q : tree.Condition tree.Test) (xs : List RowCondition)
+    → option_map (λ x. x ∷ []) (resolved_condition q) ≡ Some xs
+    → asked.condition_is_spelled q ≡ true
     → list_all condition_is_spelled xs ≡ true
 lone_spelled q xs e good =
     let g = mapped_gave (λ (x : RowCondition). x ∷ []) (resolved_condition q) xs e in
-    ap (list_all condition_is_spelled) (sym g.2) ∙ and_from _ _ (condition_spelled q g.0 g.1 good) refl
+    ap (list_all condition_is_spelled) (sym g.2)
+    ∙ and_from _ _ (condition_spelled q g.0 g.1 good) refl
 
-conjuncts_spelled : (q : tree.Condition tree.Test) (xs : List RowCondition) → conjuncts_of q ≡ Some xs → asked.condition_is_spelled q ≡ true → list_all condition_is_spelled xs ≡ true
+conjuncts_spelled : (q : tree.Condition tree.Test) (xs : List RowCondition)
+    → conjuncts_of q ≡ Some xs → asked.condition_is_spelled q ≡ true
+    → list_all condition_is_spelled xs ≡ true
 conjuncts_spelled (tree.and a b) xs e good =
-    both_spelled asked.condition_is_spelled (list_all condition_is_spelled) conjuncts_of (λ ys zs. ys ++ zs) (list_all-append condition_is_spelled) a b xs e good (conjuncts_spelled a) (conjuncts_spelled b)
-conjuncts_spelled (tree.test (tree.pair m n)) xs e good = let none : [] ≡ xs = cc in ap (list_all condition_is_spelled) (sym none)
+    both_spelled asked.condition_is_spelled (list_all condition_is_spelled) conjuncts_of
+    (λ ys zs. ys ++ zs) (list_all-append condition_is_spelled) a b xs e good
+    (conjuncts_spelled a) (conjuncts_spelled b)
+conjuncts_spelled (tree.test (tree.pair m n)) xs e good = let none : [] ≡ xs = cc in
+    ap (list_all condition_is_spelled) (sym none)
 conjuncts_spelled (tree.or a b) xs e good = lone_spelled (tree.or a b) xs e good
 conjuncts_spelled (tree.not a) xs e good = lone_spelled (tree.not a) xs e good
-conjuncts_spelled (tree.test (tree.comparison (tree.compare n s l))) xs e good = lone_spelled (tree.test (tree.comparison (tree.compare n s l))) xs e good
-conjuncts_spelled (tree.test (tree.comparison (tree.between n from upto))) xs e good = lone_spelled (tree.test (tree.comparison (tree.between n from upto))) xs e good
+conjuncts_spelled (tree.test (tree.comparison (tree.compare n s l))) xs e good =
+    lone_spelled (tree.test (tree.comparison (tree.compare n s l))) xs e good
+conjuncts_spelled (tree.test (tree.comparison (tree.between n from upto))) xs e good =
+    lone_spelled (tree.test (tree.comparison (tree.between n from upto))) xs e good
 
-pub where_spelled : (o : Option (tree.Condition tree.Test)) (xs : List RowCondition) → where_conjuncts o ≡ Some xs → asked.where_is_spelled (o) ≡ true
+pub where_spelled : (o : Option (tree.Condition tree.Test)) (xs : List RowCondition)
+    → where_conjuncts o ≡ Some xs → asked.where_is_spelled (o) ≡ true
     → list_all condition_is_spelled xs ≡ true
-where_spelled None xs e good = let none : [] ≡ xs = cc in ap (list_all condition_is_spelled) (sym none)
+where_spelled None xs e good = let none : [] ≡ xs = cc in
+    ap (list_all condition_is_spelled) (sym none)
 where_spelled (Some q) xs e good = conjuncts_spelled q xs e good
 
 -- ---- names
@@ -109,17 +153,22 @@ digits_spelled : (ds : List ℕ) → AllDigits 10 ds → list_all is_word_byte d
 digits_spelled [] all = refl
 digits_spelled (d ∷ ds) all =
     let parts = tells_digits.parts d ds all in
-    and_from _ _ (or_right (is_letter d) _ (and_from _ _ (le-leb 48 d parts.0.0) (le-leb d 57 parts.0.1))) (digits_spelled ds parts.1)
+    and_from _ _ (or_right (is_letter d) _
+    (and_from _ _ (le-leb 48 d parts.0.0) (le-leb d 57 parts.0.1))) (digits_spelled ds parts.1)
 
-word_then_digits : (word ds : List ℕ) → begins_with_letter word ≡ true → list_all is_word_byte word ≡ true → length word ≤ 5 → list_all is_word_byte ds ≡ true → length ds ≤ 20
+word_then_digits : (word ds : List ℕ) → begins_with_letter word ≡ true
+    → list_all is_word_byte word ≡ true → length word ≤ 5 → list_all is_word_byte ds ≡ true
+    → length ds ≤ 20
     → is_name (word ++ ds) ≡ true
 unfolding is_name
 word_then_digits [] ds begins word short digits few = absurd (cc)
 word_then_digits (c ∷ cs) ds begins word short digits few =
     let long : length ((c ∷ cs) ++ ds) ≤ 64 = omega (arith, length-append (c ∷ cs) ds) in
-    and_from _ _ begins (and_from _ _ (list_all-append is_word_byte (c ∷ cs) ds ∙ and_from _ _ word digits) (le-leb _ 64 long))
+    and_from _ _ begins (and_from _ _
+    (list_all-append is_word_byte (c ∷ cs) ds ∙ and_from _ _ word digits) (le-leb _ 64 long))
 
-default_spelled : (m : tree.Measure tree.Name) (n : ℕ) → n < 2 ^ 64 → is_name (default_name m n) ≡ true
+default_spelled : (m : tree.Measure tree.Name) (n : ℕ) → n < 2 ^ 64
+    → is_name (default_name m n) ≡ true
 unfolding function_word
 default_spelled m n below = by_word (function_word m) (begins m) (letters m) (short m)
   where
@@ -144,21 +193,30 @@ default_spelled m n below = by_word (function_word m) (begins m) (letters m) (sh
     short (tree.fold fold.Min e) = omega arith
     short (tree.fold fold.Max e) = omega arith
 
-    by_word : (word : List ℕ) → begins_with_letter word ≡ true → list_all is_word_byte word ≡ true → length word ≤ 5 → is_name (word ++ decimal n) ≡ true
-    by_word word b l s = word_then_digits word (decimal n) b l s digits (length-decimal-le 20 n (omega arith) (omega arith) below)
+    by_word : (word : List ℕ) → begins_with_letter word ≡ true → list_all is_word_byte word ≡ true
+        → length word ≤ 5 → is_name (word ++ decimal n) ≡ true
+    by_word word b l s = word_then_digits word (decimal n) b l s digits
+        (length-decimal-le 20 n (omega arith) (omega arith) below)
 
-name_spelled : (n : ℕ) (a : Aggregate) → n < 2 ^ 64 → asked.alias_is_spelled (a.name) ≡ true → is_name (name_of_aggregate n a) ≡ true
+name_spelled : (n : ℕ) (a : Aggregate) → n < 2 ^ 64 → asked.alias_is_spelled (a.name) ≡ true
+    → is_name (name_of_aggregate n a) ≡ true
 name_spelled n a d good = go a.name refl good
   where
-    go : (o : Option Name) → a.name ≡ o → asked.alias_is_spelled (o) ≡ true → is_name (name_of_aggregate n a) ≡ true
+    go : (o : Option Name) → a.name ≡ o → asked.alias_is_spelled (o) ≡ true
+        → is_name (name_of_aggregate n a) ≡ true
     go None h e = rw h (default_spelled a.measure n d)
     go (Some own) h e = rw h e
 
-pub names_spelled : (number : ℕ) (is' : List Item) → number + length is' < 2 ^ 64 → list_all asked.item_is_spelled is' ≡ true → list_all is_name (names_from number is') ≡ true
+pub names_spelled : (number : ℕ) (is' : List Item) → number + length is' < 2 ^ 64
+    → list_all asked.item_is_spelled is' ≡ true → list_all is_name (names_from number is') ≡ true
 names_spelled number [] few good = refl
 names_spelled number (tree.plain n ∷ is') few good =
-    let parts = and_parts (is_name n.text) (list_all asked.item_is_spelled is') good in names_spelled number is' (omega arith) parts.1
+    let parts = and_parts (is_name n.text) (list_all asked.item_is_spelled is') good in
+    names_spelled number is' (omega arith) parts.1
 names_spelled number (tree.aggregate a ∷ is') few good =
-    let parts = and_parts (asked.item_is_spelled (tree.aggregate a)) (list_all asked.item_is_spelled is') good in
-    let here = and_parts (asked.measure_is_spelled a.measure) (asked.alias_is_spelled (a.name)) parts.0 in
-    and_from _ _ (name_spelled number a (omega arith) here.1) (names_spelled (number + 1) is' (omega arith) parts.1)
+    let parts = and_parts (asked.item_is_spelled (tree.aggregate a))
+    (list_all asked.item_is_spelled is') good in
+    let here = and_parts (asked.measure_is_spelled a.measure) (asked.alias_is_spelled (a.name))
+    parts.0 in
+    and_from _ _ (name_spelled number a (omega arith) here.1)
+    (names_spelled (number + 1) is' (omega arith) parts.1)

@@ -3,6 +3,7 @@ pub mod Calls
 pub mod Exits
 pub mod Firsts
 pub mod Viewed
+pub mod Sought
 pub mod Known
 pub mod Options
 pub mod Whole

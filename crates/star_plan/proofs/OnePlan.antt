@@ -24,16 +24,17 @@ one_plan t p q a b = λ i. record {
   sorts = same_some _ p.sorts q.sorts a.sorts b.sorts i;
 }
 
-pub one_plan_of_a_text : (bytes : List ℕ) (s t : Tree) (p q : Plan) → Means bytes s → Means bytes t → IsResolved s p → IsResolved t q → p ≡ q
+pub one_plan_of_a_text : (bytes : List ℕ) (s t : Tree) (p q : Plan) → Means bytes s → Means bytes t
+    → IsResolved s p → IsResolved t q → p ≡ q
 one_plan_of_a_text bytes s t p q m n a b =
     one_plan t p q (subst (λ u. IsResolved u p) (one_meaning bytes s t m n) a) b
 
 pub some_plan : (t : Tree) → IsWellNamed t → (p : Plan) × IsResolved t p
 some_plan t named =
     let there = parts t (no_fault t named) in
-    let conjuncts = conjuncts_there t there in
-    let keys = keys_there t there in
-    let measures = measures_there t there in
+    let conjuncts = conjuncts_there t there.named in
+    let keys = keys_there t there.named in
+    let measures = measures_there t there.named in
     let items = items_there t there in
     let order = order_there t there in (
       record {

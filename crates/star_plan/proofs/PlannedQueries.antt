@@ -20,12 +20,17 @@ spelled_prop : (p : Plan) → IsProp (IsSpelledPlan p)
 spelled_prop p = hlevel props
 
 pub planned_sound : (p : Plan) → ∥ IsPlanned p ∥₁ → IsSoundPlan p
-planned_sound p some = ∥∥₁_elim some (sound_prop p) (λ h. kept_sound h.tree p (no_fault h.tree h.named) h.resolved)
+planned_sound p some = ∥∥₁_elim some (sound_prop p)
+    (λ h. kept_sound h.tree p (no_fault h.tree h.named) h.resolved)
 
 pub planned_within : (p : Plan) → ∥ IsPlanned p ∥₁ → IsPlanWithinLimits p
 planned_within p some =
-    ∥∥₁_elim some (limits_prop p) (λ h. kept_within h.tree p (meant_within h.tree h.meant) (no_fault h.tree h.named) h.resolved)
+    ∥∥₁_elim some (limits_prop p)
+    (λ h. kept_within h.tree p (meant_within h.tree h.meant) (no_fault h.tree h.named)
+    h.resolved)
 
 pub planned_spelled : (p : Plan) → ∥ IsPlanned p ∥₁ → IsSpelledPlan p
 planned_spelled p some =
-    ∥∥₁_elim some (spelled_prop p) (λ h. kept_spelled h.tree p (meant_within h.tree h.meant) (meant_spelled_so h.tree h.meant) h.resolved)
+    ∥∥₁_elim some (spelled_prop p)
+    (λ h. kept_spelled h.tree p (meant_within h.tree h.meant) (meant_spelled_so h.tree h.meant)
+    h.resolved)

@@ -62,7 +62,8 @@ pub answer_found : {X Y T : Type 0} (v : X → Y) (f : Y → Option PlanFault) (
     → AnswerSoFar v f xs i → x ≡ get_or xs i x → Some e ≡ f (v x)
     → result_err r ≡ first_answer f (map v xs)
 answer_found v f xs i x e r is_e within so_far at found =
-    plain.answer_found_at (λ y. f (v y)) xs i x e r is_e within (so_far_plain v f xs i so_far) at found
+    plain.answer_found_at (λ y. f (v y)) xs i x e r is_e within (so_far_plain v f xs i so_far) at
+    found
     ∙ answers v f xs
 
 -- the same where the element is a copy
@@ -77,7 +78,8 @@ answer_of_copy v f xs i d e r is_e within so_far found =
 -- ---- beside the elements before it
 
 besides : {X Y A : Type 0} (v : X → Y) (f : List Y → Y → Option A) (before xs : List X)
-    → first_after (λ seen x. f (map v seen) (v x)) before xs ≡ first_after f (map v before) (map v xs)
+    → first_after (λ seen x. f (map v seen) (v x)) before xs
+    ≡ first_after f (map v before) (map v xs)
 besides v f before [] = refl
 besides v f before (x ∷ xs) =
     ap (option_or (f (map v before) (v x)))
@@ -85,7 +87,8 @@ besides v f before (x ∷ xs) =
     ∙ ap (λ seen. first_after f seen (map v xs)) (map-append v before (x ∷ [])))
 
 -- a loop that has passed the elements before this one
-abbrev pub BesideSoFar : {X Y A : Type 0} (v : X → Y) (f : List Y → Y → Option A) → List X → ℕ → Type 0
+abbrev pub BesideSoFar : {X Y A : Type 0} (v : X → Y) (f : List Y → Y → Option A) → List X → ℕ
+    → Type 0
 BesideSoFar v f xs i =
     first_after f (map v (take i xs)) (map v (drop i xs)) ≡ first_beside f (map v xs)
 
@@ -96,11 +99,13 @@ beside_plain : {X Y A : Type 0} (v : X → Y) (f : List Y → Y → Option A) (x
 beside_plain v f xs i e = besides v f (take i xs) (drop i xs) ∙ e ∙ sym (besides v f [] xs)
 
 pub beside_passed : {X Y A : Type 0} (v : X → Y) (f : List Y → Y → Option A) (xs : List X) (i : ℕ)
-    (d : X) → i < length xs → BesideSoFar v f xs i → None ≡ f (map v (take i xs)) (v (get_or xs i d))
+    (d : X) → i < length xs → BesideSoFar v f xs i
+    → None ≡ f (map v (take i xs)) (v (get_or xs i d))
     → first_after f (map v (take (i + 1) xs)) (map v (drop (i + 1) xs)) ≡ first_beside f (map v xs)
 beside_passed v f xs i d within so_far passed =
     sym (besides v f (take (i + 1) xs) (drop (i + 1) xs))
-    ∙ plain.beside_passed (λ seen x. f (map v seen) (v x)) xs i d within (beside_plain v f xs i so_far) passed
+    ∙ plain.beside_passed (λ seen x. f (map v seen) (v x)) xs i d within
+    (beside_plain v f xs i so_far) passed
     ∙ besides v f [] xs
 
 pub beside_whole : {X Y A : Type 0} (v : X → Y) (f : List Y → Y → Option A) (xs : List X) (i : ℕ)

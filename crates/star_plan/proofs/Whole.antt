@@ -1,18 +1,14 @@
 -- A well named query has each part of its plan.
-use Rattle.std.proofs.Common.{◌≡◌, ◌∙◌, inl, inr, true, List, [], ◌++◌, Option, Some, None, Result, Ok, Err, IfErr}
+use Rattle.std.proofs.Common.{◌≡◌, true, List, [], ◌++◌, Some, None}
 use Rattle.std.specs.List.{AllByRecursion, list_all}
 use Rattle.std.specs.Option.{option_or}
-use Rattle.std.specs.Result.{IsErrAnd}
 use Rattle.star_common.proofs.Firsts.{or_none}
 use Rattle.star_schema.specs.declared.column.ColumnId.{ColumnId}
 use Rattle.star_schema.specs.declared.group.GroupColumn.{GroupColumn}
 use Rattle.star_schema.specs.declared.group.SortKey.{SortKey}
 use Rattle.star_common.specs.First.{first_answer}
-use Rattle.star_common.specs.Memory.{UnlessMemory}
 use Rattle.star_schema.specs.Schema.{table_of}
 use Rattle.star_query.specs.Tree.{Tree}
-use Rattle.star_plan.specs.declared.fault.PlanFault.{PlanFault}
-use Rattle.star_plan.specs.declared.fault.PlanFault.TheVariants.{OutOfMemory}
 use Rattle.star_plan.specs.declared.tree.Join.{Join}
 use Rattle.star_plan.specs.First.{first_beside}
 use Rattle.star_query.specs.Tree.{Measure}
@@ -21,14 +17,15 @@ use Rattle.star_plan.specs.Names.{column_at}
 use Rattle.star_plan.specs.Uses.{groups_uses, items_uses, uses_of, where_uses}
 use Rattle.star_plan.specs.Joins.{joins_of, where_pairs}
 use Rattle.star_plan.specs.Naming.{aggregate_names, resolved_key}
-use Rattle.star_plan.specs.Faults.{aggregates_fault, fact_fault, from_fault, group_fault, grouping_fault, item_fault, join_fault, key_fault, use_kind_fault, missing_fault, naming_fault, order_fault, pair_fault, plan_fault, scope_fault, select_fault, from_table_fault}
+use Rattle.star_plan.specs.Faults.{aggregates_fault, fact_fault, from_fault, group_fault, grouping_fault, item_fault, join_fault, key_fault, use_kind_fault}
+use Rattle.star_plan.specs.Faults.{missing_fault, naming_fault, order_fault, pair_fault, plan_fault, scope_fault, select_fault, from_table_fault}
 use Rattle.star_plan.specs.Resolved.{items_from, resolved_measures, option_all, where_conjuncts}
 use Rattle.star_plan.specs.Sound.{are_distinct, condition_is_sound, in_scope, measure_is_sound}
 use Rattle.star_plan.proofs.Known.{Reaches, each_left, each_none, each_right, groups_known, grouped, items_known, joined_each, measures_known, order_known, reaches, where_known, IsGrouped}
 use Rattle.star_plan.proofs.KeptJoins.{distinct}
 
--- what well named says of each part
-pub record Parts (t : Tree) : Type 0 where
+-- what it says that no name of a table or a column is at fault
+pub record Named (t : Tree) : Type 0 where
   pub tables : first_beside from_table_fault t.tables ≡ None
   pub fact : fact_fault t.tables ≡ None
   pub scoped : AllByRecursion (λ u. scope_fault t.tables u ≡ None) (uses_of t)
@@ -36,29 +33,32 @@ pub record Parts (t : Tree) : Type 0 where
   pub pairs : AllByRecursion (λ p. (j : Join) × (p.join ≡ Some j)) (where_pairs t.condition)
   pub joined : first_answer (missing_fault (where_pairs t.condition)) t.tables ≡ None
   pub reach : Reaches t.tables (joins_of (where_pairs t.condition))
+  pub apart : are_distinct (joins_of (where_pairs t.condition)) ≡ true
+
+-- what well named says of each part
+pub record Parts (t : Tree) : Type 0 where
+  pub named : Named t
   pub groups : first_beside group_fault t.grouping.columns ≡ None
   pub shown : first_beside (item_fault t.grouping.columns) t.items ≡ None
   pub items : AllByRecursion (IsGrouped t.grouping.columns) t.items
-  pub apart : are_distinct (joins_of (where_pairs t.condition)) ≡ true
   pub some : aggregates_fault (aggregate_names t.items) ≡ None
-  pub order : AllByRecursion (λ k. key_fault t.grouping.columns (aggregate_names t.items) k ≡ None) t.keys
+  pub order : AllByRecursion (λ k. key_fault t.grouping.columns (aggregate_names t.items) k ≡ None)
+      t.keys
 
-pub parts : (t : Tree) → plan_fault t ≡ None → Parts t
-parts t none =
+pub named : (t : Tree) → naming_fault t.tables (uses_of t) (where_pairs t.condition) ≡ None
+    → Named t
+named t none =
     let tables = t.tables in
-    let groups = t.grouping.columns in
-    let items = t.items in
-    let keys = t.keys in
     let ps = where_pairs t.condition in
-    let halves = or_none (naming_fault tables (uses_of t) ps) (grouping_fault groups items keys) none in
-    let names = or_none (from_fault tables) (option_or (first_answer (scope_fault tables) (uses_of t)) (option_or (join_fault tables ps) (first_answer use_kind_fault (uses_of t)))) halves.0 in
+    let names = or_none (from_fault tables)
+    (option_or (first_answer (scope_fault tables) (uses_of t))
+    (option_or (join_fault tables ps) (first_answer use_kind_fault (uses_of t)))) none in
     let from = or_none (first_beside from_table_fault tables) (fact_fault tables) names.0 in
-    let columns = or_none (first_answer (scope_fault tables) (uses_of t)) (option_or (join_fault tables ps) (first_answer use_kind_fault (uses_of t))) names.1 in
+    let columns = or_none (first_answer (scope_fault tables) (uses_of t))
+    (option_or (join_fault tables ps) (first_answer use_kind_fault (uses_of t))) names.1 in
     let rest = or_none (join_fault tables ps) (first_answer use_kind_fault (uses_of t)) columns.1 in
-    let joined = or_none (first_beside pair_fault ps) (first_answer (missing_fault ps) tables) rest.0 in
-    let grouping = or_none (first_beside group_fault groups) (option_or (select_fault groups items) (order_fault groups items keys)) halves.1 in
-    let select = or_none (select_fault groups items) (order_fault groups items keys) grouping.1 in
-    let shown = or_none (first_beside (item_fault groups) items) (aggregates_fault (aggregate_names items)) select.0 in
+    let joined = or_none (first_beside pair_fault ps) (first_answer (missing_fault ps) tables)
+    rest.0 in
     record {
       tables = from.0;
       fact = from.1;
@@ -67,41 +67,66 @@ parts t none =
       pairs = joined_each [] ps joined.0;
       joined = joined.1;
       reach = reaches tables ps joined.1;
+      apart = distinct [] ps joined.0;
+    }
+
+pub parts : (t : Tree) → plan_fault t ≡ None → Parts t
+parts t none =
+    let groups = t.grouping.columns in
+    let items = t.items in
+    let keys = t.keys in
+    let halves = or_none (naming_fault t.tables (uses_of t) (where_pairs t.condition))
+    (grouping_fault groups items keys) none in
+    let grouping = or_none (first_beside group_fault groups)
+    (option_or (select_fault groups items) (order_fault groups items keys)) halves.1 in
+    let select = or_none (select_fault groups items) (order_fault groups items keys) grouping.1 in
+    let shown = or_none (first_beside (item_fault groups) items)
+    (aggregates_fault (aggregate_names items)) select.0 in
+    record {
+      named = named t halves.0;
       groups = grouping.0;
       shown = shown.0;
       items = grouped groups [] items shown.0;
-      apart = distinct [] ps joined.0;
       some = shown.1;
       order = each_none (key_fault groups (aggregate_names items)) keys select.1;
     }
 
-pub conjuncts_there : (t : Tree) → Parts t → (xs : List RowCondition) × (where_conjuncts t.condition ≡ Some xs) × (list_all (condition_is_sound (joins_of (where_pairs t.condition))) xs ≡ true)
+pub conjuncts_there : (t : Tree) → Named t
+    → (xs : List RowCondition) × (where_conjuncts t.condition ≡ Some xs)
+    × (list_all (condition_is_sound (joins_of (where_pairs t.condition))) xs ≡ true)
 conjuncts_there t p =
     where_known t.tables (joins_of (where_pairs t.condition)) p.reach t.condition p.pairs
-    (each_left _ (where_uses t.condition) (groups_uses t.grouping.columns) (each_right _ (items_uses t.items) (where_uses t.condition ++ groups_uses t.grouping.columns) p.scoped))
-    (each_left _ (where_uses t.condition) (groups_uses t.grouping.columns) (each_right _ (items_uses t.items) (where_uses t.condition ++ groups_uses t.grouping.columns) p.fit))
+    (each_left _ (where_uses t.condition) (groups_uses t.grouping.columns)
+    (each_right _ (items_uses t.items)
+    (where_uses t.condition ++ groups_uses t.grouping.columns) p.scoped))
+    (each_left _ (where_uses t.condition) (groups_uses t.grouping.columns)
+    (each_right _ (items_uses t.items)
+    (where_uses t.condition ++ groups_uses t.grouping.columns) p.fit))
 
-pub keys_there : (t : Tree) → Parts t → (cs : List ColumnId) × (option_all column_at t.grouping.columns ≡ Some cs) × (list_all (λ c. in_scope (joins_of (where_pairs t.condition)) (table_of c)) cs ≡ true)
+pub keys_there : (t : Tree) → Named t
+    → (cs : List ColumnId) × (option_all column_at t.grouping.columns ≡ Some cs)
+    × (list_all (λ c. in_scope (joins_of (where_pairs t.condition)) (table_of c)) cs ≡ true)
 keys_there t p =
     groups_known t.tables (joins_of (where_pairs t.condition)) p.reach t.grouping.columns
-    (each_right _ (where_uses t.condition) (groups_uses t.grouping.columns) (each_right _ (items_uses t.items) (where_uses t.condition ++ groups_uses t.grouping.columns) p.scoped))
+    (each_right _ (where_uses t.condition) (groups_uses t.grouping.columns)
+    (each_right _ (items_uses t.items)
+    (where_uses t.condition ++ groups_uses t.grouping.columns) p.scoped))
 
-pub measures_there : (t : Tree) → Parts t → (ms : List (Measure ColumnId)) × (resolved_measures t.items ≡ Some ms) × (list_all (measure_is_sound (joins_of (where_pairs t.condition))) ms ≡ true)
+pub measures_there : (t : Tree) → Named t
+    → (ms : List (Measure ColumnId)) × (resolved_measures t.items ≡ Some ms)
+    × (list_all (measure_is_sound (joins_of (where_pairs t.condition))) ms ≡ true)
 measures_there t p =
     measures_known t.tables (joins_of (where_pairs t.condition)) p.reach t.items
-    (each_left _ (items_uses t.items) (where_uses t.condition ++ groups_uses t.grouping.columns) p.scoped)
-    (each_left _ (items_uses t.items) (where_uses t.condition ++ groups_uses t.grouping.columns) p.fit)
+    (each_left _ (items_uses t.items) (where_uses t.condition ++ groups_uses t.grouping.columns)
+    p.scoped)
+    (each_left _ (items_uses t.items) (where_uses t.condition ++ groups_uses t.grouping.columns)
+    p.fit)
 
-pub items_there : (t : Tree) → Parts t → (cs : List GroupColumn) × (items_from t.grouping.columns 0 t.items ≡ Some cs)
+pub items_there : (t : Tree) → Parts t
+    → (cs : List GroupColumn) × (items_from t.grouping.columns 0 t.items ≡ Some cs)
 items_there t p = items_known t.grouping.columns 0 t.items p.items
 
-pub order_there : (t : Tree) → Parts t → (ss : List SortKey) × (option_all (resolved_key t.grouping.columns (aggregate_names t.items)) t.keys ≡ Some ss)
+pub order_there : (t : Tree) → Parts t
+    → (ss : List SortKey) × (option_all (resolved_key t.grouping.columns (aggregate_names t.items))
+    t.keys ≡ Some ss)
 order_there t p = order_known t.grouping.columns (aggregate_names t.items) t.keys p.order
-
--- what is there is kept back by want of memory alone
-pub only_memory : {A T : Type 0} (o : Option A) (x : A) (e : PlanFault) (r : Result T PlanFault)
-    → UnlessMemory OutOfMemory e (None ≡ o) → o ≡ Some x → IsErrAnd r (λ y. y ≡ e)
-    → IfErr r (λ y. y ≡ OutOfMemory)
-only_memory o x e (Ok y) told there is_e = absurd is_e
-only_memory o x e (Err y) (inl memory) there is_e = is_e ∙ memory
-only_memory o x e (Err y) (inr missing) there is_e = absurd (cc)

@@ -61,7 +61,7 @@ impl PlanTree {
         Ok(())
     }
 
-    // Behind the joins.
+    // After the joins.
     fn write_conjuncts<W: fmt::Write>(&self, f: &mut fmt::Formatter<W>) -> fmt::Result {
         let mut separator = if self.joins.is_empty() {
             " where "

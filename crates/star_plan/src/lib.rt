@@ -11,6 +11,7 @@ mod fault;
 mod joins;
 pub mod law;
 mod names;
+mod order;
 mod planner;
 mod plans;
 mod resolve;

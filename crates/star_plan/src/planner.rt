@@ -1,28 +1,32 @@
-// How a plan is made: the faults in their order, and then the names resolved.
+// How a plan is made: its names are resolved, and its faults told in their order.
 
-ghost use Rattle.std.specs.Prelude.{◌≡◌, ◌≤◌, None, Some, IfErr, IfOk, length, map};
+ghost use Rattle.std.specs.Prelude.{◌≡◌, ◌≤◌, Some, IfErr, IfOk, length, map};
 ghost use Rattle.star_common.specs.Memory.{UnlessMemory};
 ghost use Rattle.star_query.specs.Maxima.{most_columns, most_items};
-ghost use Rattle.star_query.specs.Views.{item_view, key_view, name_view, tree_view};
+ghost use Rattle.star_query.specs.Views.{name_view, tree_view};
 ghost use Rattle.star_plan.specs.declared.fault.PlanFault.TheVariants.{OutOfMemory};
-ghost use Rattle.star_plan.specs.Private.Answers.{Tells};
+ghost use Rattle.star_plan.specs.Private.Answers.{Resolves, Tells};
 ghost use Rattle.star_plan.specs.Private.Found.{pairs_view, uses_view};
 ghost use Rattle.star_plan.specs.Faults.{grouping_fault, naming_fault, plan_fault};
+ghost use Rattle.star_plan.specs.Joins as spec;
+ghost use Rattle.star_plan.specs.Joins.{where_pairs};
+ghost use Rattle.star_plan.specs.Naming.{aggregate_names, resolved_key};
+ghost use Rattle.star_plan.specs.Uses.{uses_of};
 ghost use Rattle.star_plan.specs.WellNamed.{IsWellNamed};
-ghost use Rattle.star_plan.specs.Resolved.{IsResolved};
-ghost use Rattle.star_plan.specs.Views.{plan_view};
+ghost use Rattle.star_plan.specs.Resolved.{IsResolved, items_from, option_all};
+ghost use Rattle.star_plan.specs.Views.{names_view, plan_view};
 
 use crate::fault::PlanFault;
 use crate::joins::{Pair, check_joins, joins_of, pairs_of};
+use crate::order::sort_keys;
 use crate::plans::Plan;
-use crate::resolve::{
-    resolve_aggregates, resolve_groups, resolve_items, resolve_order, resolve_where,
-};
-use crate::select::{check_from, check_groups, check_order, check_select};
-use crate::tree::PlanTree;
+use crate::resolve::{resolve_aggregates, resolve_groups, resolve_where};
+use crate::select::{check_from, check_groups, select};
+use crate::tree::{Aggregate, Join, PlanTree};
 use crate::uses::{Use, check_kinds, check_scope, uses_of};
 use star_query::law::meant_trees_are_within_limits;
-use star_query::{Item, Name, Query, SortKey, Tree};
+use star_query::{Name, Query, Tree};
+use star_schema::{GroupColumn, SortKey};
 use std::alloc::Global;
 
 fn check_naming(tables: &[Name], uses: &[Use], pairs: &[Pair]) -> Result<(), PlanFault>
@@ -35,52 +39,62 @@ fn check_naming(tables: &[Name], uses: &[Use], pairs: &[Pair]) -> Result<(), Pla
     check_kinds(uses)
 }
 
-fn check_grouping(
-    alloc: Global,
-    groups: &[Name],
-    items: &[Item],
-    keys: &[SortKey],
-) -> Result<(), PlanFault>
-    requires { length items.now ≤ most_items }
-    ensures { Tells (grouping_fault (map name_view groups.now) (map item_view items.now)
-        (map key_view keys.now)) result }
-{
-    check_groups(groups)?;
-    let names = check_select(alloc, groups, items)?;
-    check_order(groups, &names, keys)
-}
-
-// Whether the query is well named.
-fn check(alloc: Global, tree: &Tree) -> Result<(), PlanFault>
-    requires { length tree.now.items.items ≤ most_items }
-    ensures { Tells (plan_fault (tree_view tree.now)) result }
+// The joins of a query, if nothing is wrong with its names of tables and columns.
+fn check_names(alloc: Global, tree: &Tree) -> Result<Vec<Join>, PlanFault>
+    ensures told { Tells (naming_fault (tree_view tree.now).tables (uses_of (tree_view tree.now))
+        (where_pairs (tree_view tree.now).condition)) result }
+    ensures joins { IfOk result (λ joins. joins.items
+        ≡ spec.joins_of (where_pairs (tree_view tree.now).condition)) }
 {
     let uses = uses_of(alloc, tree)?;
     let pairs = pairs_of(alloc, &tree.condition)?;
     check_naming(&tree.tables, &uses, &pairs)?;
-    check_grouping(alloc, &tree.grouping.columns, &tree.items, &tree.keys)
+    Ok(joins_of(alloc, &pairs)?)
 }
 
-// The query with its names resolved: each stands for something.
+// What is shown of a group, and in which order.
+#[derive(Drop)]
+struct Shown {
+    items: Vec<GroupColumn>,
+    sorts: Vec<SortKey>,
+}
+
+// What SELECT and ORDER BY say, if nothing is wrong with them and GROUP BY.
+fn show(alloc: Global, tree: &Tree, aggregates: &[Aggregate]) -> Result<Shown, PlanFault>
+    requires items { length tree.now.items.items ≤ most_items }
+    requires groups { length tree.now.grouping.columns.items ≤ most_columns }
+    requires few { length aggregates.now ≤ length tree.now.items.items }
+    requires named { names_view aggregates.now ≡ aggregate_names (tree_view tree.now).items }
+    ensures told { Tells (grouping_fault (tree_view tree.now).grouping.columns
+        (tree_view tree.now).items (tree_view tree.now).keys) result }
+    ensures items { Resolves (λ shown. shown.items.items)
+        (items_from (tree_view tree.now).grouping.columns 0 (tree_view tree.now).items) result }
+    ensures sorts { Resolves (λ shown. shown.sorts.items)
+        (option_all (resolved_key (tree_view tree.now).grouping.columns
+        (aggregate_names (tree_view tree.now).items)) (tree_view tree.now).keys) result }
+{
+    let groups = &tree.grouping.columns;
+    check_groups(groups)?;
+    let items = select(alloc, groups, aggregates, &tree.items)?;
+    let sorts = sort_keys(alloc, groups, aggregates, &tree.keys)?;
+    Ok(Shown { items, sorts })
+}
+
+// The query with its names resolved, if nothing is wrong with them.
 fn resolve(alloc: Global, tree: &Tree) -> Result<PlanTree, PlanFault>
     requires items { length tree.now.items.items ≤ most_items }
     requires groups { length tree.now.grouping.columns.items ≤ most_columns }
-    requires named { plan_fault (tree_view tree.now) ≡ None }
+    ensures told { Tells (plan_fault (tree_view tree.now)) result }
     ensures resolved { IfOk result (λ plan. IsResolved (tree_view tree.now) (plan_view plan)) }
-    ensures memory { IfErr result (λ fault. fault ≡ OutOfMemory) }
 {
-    let groups = &tree.grouping.columns;
-    let conjuncts = resolve_where(alloc, &tree.condition)?;
-    let keys = resolve_groups(alloc, groups)?;
+    let joins = check_names(alloc, tree)?;
     let aggregates = resolve_aggregates(alloc, &tree.items)?;
-    let items = resolve_items(alloc, groups, &tree.items)?;
-    let sorts = resolve_order(alloc, groups, &aggregates, &tree.keys)?;
-    let pairs = pairs_of(alloc, &tree.condition)?;
+    let Shown { items, sorts } = show(alloc, tree, &aggregates)?;
     Ok(PlanTree {
-        joins: joins_of(alloc, &pairs)?,
-        conjuncts,
+        joins,
+        conjuncts: resolve_where(alloc, &tree.condition)?,
         shape: tree.grouping.shape,
-        keys,
+        keys: resolve_groups(alloc, &tree.grouping.columns)?,
         aggregates,
         items,
         sorts,
@@ -101,7 +115,6 @@ pub fn plan(alloc: Global, query: &Query) -> Result<Plan, PlanFault>
 {
     meant_trees_are_within_limits();
     let query = query.tree();
-    check(alloc, query)?;
     let tree = resolve(alloc, query)?;
     Ok(Plan { tree })
 }

@@ -1,51 +1,46 @@
-// A query's names resolved. Each function tells a name that stands for nothing, which a well named
-// query doesn't have.
+// A query's names resolved, where each of them stands for something.
 
-ghost use Rattle.std.specs.Prelude.{◌≡◌, ◌+◌, ◌<◌, ◌≤◌, [], ◌∷◌, IfOk, IfSome, length, map, option_map, nat_eq};
-ghost use Rattle.std.specs.Option.{option_or};
+ghost use Rattle.std.specs.Prelude.{◌≡◌, ◌+◌, ◌≤◌, [], ◌∷◌, IfOk, length, map, option_map};
 ghost use Rattle.star_plan.specs.Naming as naming;
-ghost use Rattle.std.specs.Cmp.Lexicographic.{pointwise};
-ghost use Rattle.std.specs.List.{position};
-ghost use Rattle.star_query.specs.Limits.{aggregates_in};
-ghost use Rattle.star_query.specs.Maxima.{most_columns, most_items};
+ghost use Rattle.star_query.specs.Maxima.{most_items};
 ghost use Rattle.star_query.specs.Tree.{between, compare, comparison};
-ghost use Rattle.star_query.specs.Views.{aggregate_view, condition_view, expression_view, item_view, key_view, literal_view, measure_view, name_view, test_view};
-ghost use Rattle.star_plan.specs.Meaning as meaning;
+ghost use Rattle.star_query.specs.Views.{aggregate_view, condition_view, expression_view, item_view, literal_view, measure_view, name_view, test_view};
 ghost use Rattle.star_plan.specs.Names.{column_at};
 ghost use Rattle.star_plan.specs.Resolved as spec;
 ghost use Rattle.star_plan.specs.Views as shown;
+ghost use Rattle.star_plan.specs.WellNamed.{IsThere};
 ghost use Rattle.star_plan.specs.Private.Answers.{Resolves, conditions_view};
 
-use crate::fault::PlanFault;
 use crate::names::column_at;
-use crate::select::aggregate_name;
 use crate::tree::{Aggregate, RowCondition};
 use star_query as query;
 use star_query::{Comparison, Condition, Expression, Item, Literal, Measure, Name, Relation, Test};
-use star_schema::{ColumnId, GroupColumn, SortKey};
+use star_schema::ColumnId;
 use std::alloc::{AllocError, Global};
 
 // The column that a name stands for.
-fn resolve_column(name: &Name) -> Result<ColumnId, PlanFault>
-    ensures { Resolves (λ column. column) (column_at (name_view name.now)) result }
+fn resolve_column(name: &Name) -> ColumnId
+    requires { IsThere (column_at (name_view name.now)) }
+    ensures { Some result ≡ column_at (name_view name.now) }
 {
     match column_at(name) {
-        Some(column) => Ok(column),
-        None => Err(PlanFault::UnknownName { at: name.place }),
+        Some(column) => column,
+        None => unreachable!(),
     }
 }
 
-#[tactic(auto, using(crate::proofs::Options::left_missing, crate::proofs::Options::right_missing, crate::proofs::Options::both_there))]
+#[tactic(auto, using(crate::proofs::Options::left_there, crate::proofs::Options::right_there, crate::proofs::Options::both_there, crate::proofs::Options::mapped_there))]
 #[cycle(expression)]
 fn resolve_expression(
     alloc: Global,
     expression: &Expression<Name>,
-) -> Result<Expression<ColumnId>, PlanFault>
+) -> Result<Expression<ColumnId>, AllocError>
+    requires { IsThere (spec.resolved_expression (expression_view expression.now)) }
     ensures { Resolves shown.column_expression_view
         (spec.resolved_expression (expression_view expression.now)) result }
 {
     match expression {
-        Expression::Column(name) => Ok(Expression::Column(resolve_column(name)?)),
+        Expression::Column(name) => Ok(Expression::Column(resolve_column(name))),
         Expression::Number(number) => Ok(Expression::Number(*number)),
         Expression::Add(left, right) => Ok(Expression::Add(
             resolve_operand(alloc, left)?,
@@ -67,7 +62,8 @@ fn resolve_expression(
 fn resolve_operand(
     alloc: Global,
     operand: &Expression<Name>,
-) -> Result<Box<Expression<ColumnId>>, PlanFault>
+) -> Result<Box<Expression<ColumnId>>, AllocError>
+    requires { IsThere (spec.resolved_expression (expression_view operand.now)) }
     ensures { Resolves (λ boxed. shown.column_expression_view boxed.value)
         (spec.resolved_expression (expression_view operand.now)) result }
 {
@@ -76,7 +72,8 @@ fn resolve_operand(
 }
 
 /// What an aggregate computes.
-fn resolve_measure(alloc: Global, measure: &Measure<Name>) -> Result<Measure<ColumnId>, PlanFault>
+fn resolve_measure(alloc: Global, measure: &Measure<Name>) -> Result<Measure<ColumnId>, AllocError>
+    requires { IsThere (spec.resolved_measure (measure_view measure.now)) }
     ensures { Resolves shown.column_measure_view (spec.resolved_measure (measure_view measure.now))
         result }
 {
@@ -103,11 +100,12 @@ fn resolve_compare(
     name: &Name,
     relation: Relation,
     literal: &Literal,
-) -> Result<Comparison<ColumnId>, PlanFault>
+) -> Result<Comparison<ColumnId>, AllocError>
+    requires { IsThere (column_at (name_view name.now)) }
     ensures { Resolves shown.comparison_view (spec.resolved_test (comparison (compare
         (name_view name.now) relation (literal_view literal.now)))) result }
 {
-    let column = resolve_column(name)?;
+    let column = resolve_column(name);
     let literal = copy_literal(alloc, literal)?;
     Ok(Comparison::Compare(column, relation, literal))
 }
@@ -117,22 +115,24 @@ fn resolve_between(
     name: &Name,
     from: &Literal,
     upto: &Literal,
-) -> Result<Comparison<ColumnId>, PlanFault>
+) -> Result<Comparison<ColumnId>, AllocError>
+    requires { IsThere (column_at (name_view name.now)) }
     ensures { Resolves shown.comparison_view (spec.resolved_test (comparison (between
         (name_view name.now) (literal_view from.now) (literal_view upto.now)))) result }
 {
-    let column = resolve_column(name)?;
+    let column = resolve_column(name);
     let from = copy_literal(alloc, from)?;
     let upto = copy_literal(alloc, upto)?;
     Ok(Comparison::Between(column, from, upto))
 }
 
 // What a test of a row compares.
-fn resolve_test(alloc: Global, test: &Test) -> Result<Comparison<ColumnId>, PlanFault>
+fn resolve_test(alloc: Global, test: &Test) -> Result<Comparison<ColumnId>, AllocError>
+    requires { IsThere (spec.resolved_test (test_view test.now)) }
     ensures { Resolves shown.comparison_view (spec.resolved_test (test_view test.now)) result }
 {
     match test {
-        Test::Pair(name, _) => Err(PlanFault::NotAKeyPair { at: name.place }),
+        Test::Pair(_, _) => unreachable!(),
         Test::Comparison(Comparison::Compare(name, relation, literal)) => {
             resolve_compare(alloc, name, *relation, literal)
         }
@@ -143,9 +143,10 @@ fn resolve_test(alloc: Global, test: &Test) -> Result<Comparison<ColumnId>, Plan
 }
 
 // A condition in which no two columns are compared.
-#[tactic(auto, using(crate::proofs::Options::left_missing, crate::proofs::Options::right_missing, crate::proofs::Options::both_there))]
+#[tactic(auto, using(crate::proofs::Options::left_there, crate::proofs::Options::right_there, crate::proofs::Options::both_there, crate::proofs::Options::mapped_there))]
 #[cycle(condition)]
-fn resolve_condition(alloc: Global, condition: &Condition<Test>) -> Result<RowCondition, PlanFault>
+fn resolve_condition(alloc: Global, condition: &Condition<Test>) -> Result<RowCondition, AllocError>
+    requires { IsThere (spec.resolved_condition (condition_view condition.now)) }
     ensures { Resolves shown.row_condition_view (spec.resolved_condition
         (condition_view condition.now)) result }
 {
@@ -163,7 +164,8 @@ fn resolve_condition(alloc: Global, condition: &Condition<Test>) -> Result<RowCo
 
 // What a logical operator joins.
 #[cycle(condition)]
-fn resolve_part(alloc: Global, part: &Condition<Test>) -> Result<Box<RowCondition>, PlanFault>
+fn resolve_part(alloc: Global, part: &Condition<Test>) -> Result<Box<RowCondition>, AllocError>
+    requires { IsThere (spec.resolved_condition (condition_view part.now)) }
     ensures { Resolves (λ boxed. shown.row_condition_view boxed.value)
         (spec.resolved_condition (condition_view part.now)) result }
 {
@@ -171,7 +173,13 @@ fn resolve_part(alloc: Global, part: &Condition<Test>) -> Result<Box<RowConditio
     Ok(Box::new(alloc, part)?)
 }
 
-fn lone_conjunct(alloc: Global, condition: &Condition<Test>) -> Result<Vec<RowCondition>, PlanFault>
+#[tactic(auto, using(crate::proofs::Options::mapped_there))]
+fn lone_conjunct(
+    alloc: Global,
+    condition: &Condition<Test>,
+) -> Result<Vec<RowCondition>, AllocError>
+    requires { IsThere (option_map (λ c. c ∷ [])
+        (spec.resolved_condition (condition_view condition.now))) }
     ensures { Resolves conditions_view (option_map (λ c. c ∷ [])
         (spec.resolved_condition (condition_view condition.now))) result }
 {
@@ -182,8 +190,9 @@ fn lone_conjunct(alloc: Global, condition: &Condition<Test>) -> Result<Vec<RowCo
 }
 
 // The conjuncts that don't compare two columns, from the left.
-#[tactic(auto, using(crate::proofs::Options::left_missing, crate::proofs::Options::right_missing, crate::proofs::Options::both_there, crate::proofs::Options::conditions_join))]
-fn conjuncts_of(alloc: Global, condition: &Condition<Test>) -> Result<Vec<RowCondition>, PlanFault>
+#[tactic(auto, using(crate::proofs::Options::left_there, crate::proofs::Options::right_there, crate::proofs::Options::both_there, crate::proofs::Options::mapped_there, crate::proofs::Options::conditions_join))]
+fn conjuncts_of(alloc: Global, condition: &Condition<Test>) -> Result<Vec<RowCondition>, AllocError>
+    requires { IsThere (spec.conjuncts_of (condition_view condition.now)) }
     ensures { Resolves conditions_view (spec.conjuncts_of (condition_view condition.now)) result }
 {
     match condition {
@@ -204,7 +213,8 @@ fn conjuncts_of(alloc: Global, condition: &Condition<Test>) -> Result<Vec<RowCon
 pub(crate) fn resolve_where(
     alloc: Global,
     condition: &Option<Condition<Test>>,
-) -> Result<Vec<RowCondition>, PlanFault>
+) -> Result<Vec<RowCondition>, AllocError>
+    requires { IsThere (spec.where_conjuncts (option_map condition_view condition.now)) }
     ensures { Resolves conditions_view (spec.where_conjuncts
         (option_map condition_view condition.now)) result }
 {
@@ -215,152 +225,58 @@ pub(crate) fn resolve_where(
 }
 
 /// The group columns.
-#[tactic(auto, using(crate::proofs::Options::all_missing, crate::proofs::Options::all_more, crate::proofs::Options::all_whole, crate::proofs::Options::all_first))]
-pub(crate) fn resolve_groups(alloc: Global, groups: &[Name]) -> Result<Vec<ColumnId>, PlanFault>
+#[tactic(auto, using(crate::proofs::Options::all_there, crate::proofs::Options::all_more, crate::proofs::Options::all_whole, crate::proofs::Options::all_first))]
+pub(crate) fn resolve_groups(alloc: Global, groups: &[Name]) -> Result<Vec<ColumnId>, AllocError>
+    requires { IsThere (spec.option_all column_at (map name_view groups.now)) }
     ensures { Resolves (λ keys. keys.items) (spec.option_all column_at (map name_view groups.now))
         result }
 {
     let mut keys = Vec::new(alloc);
     for name in groups {
-        keys.push(resolve_column(name)?)?;
+        keys.push(resolve_column(name))?;
     }
     Ok(keys)
 }
 
-fn name_place(groups: &[Name], text: &[u8]) -> Option<usize>
-    ensures place { result ≡ position (λ n. pointwise nat_eq n.text.items text.now) groups.now }
-    ensures within { IfSome result (λ place. place < length groups.now) }
+// The word of an aggregate's function.
+#[tactic(auto, unfolding(crate::specs::Naming::function_word))]
+fn function_word(measure: &Measure<Name>) -> &'static str
+    ensures { result.now ≡ naming.function_word (measure_view measure.now) }
 {
-    groups.iter().position(|name| name.text.as_slice() == text)
-}
-
-fn aggregate_place(aggregates: &[Aggregate], text: &[u8]) -> Option<usize>
-    ensures place { result ≡ position (λ a. pointwise nat_eq a.name.items text.now) aggregates.now }
-    ensures within { IfSome result (λ place. place < length aggregates.now) }
-{
-    aggregates
-        .iter()
-        .position(|aggregate| aggregate.name.as_slice() == text)
-}
-
-// The group column that reads so.
-fn key_column(groups: &[Name], text: &[u8]) -> Option<GroupColumn>
-    requires { length groups.now ≤ most_columns }
-    ensures { result ≡ naming.key_column (map name_view groups.now) text.now }
-{
-    match name_place(groups, text) {
-        None => None,
-        Some(place) => Some(GroupColumn::Key(place as u16)),
+    match measure {
+        Measure::Count => "count",
+        Measure::Fold(query::Fold::Sum, _) => "sum",
+        Measure::Fold(query::Fold::Min, _) => "min",
+        Measure::Fold(query::Fold::Max, _) => "max",
     }
 }
 
-// The aggregate that is named so.
-fn aggregate_column(aggregates: &[Aggregate], text: &[u8]) -> Option<GroupColumn>
-    requires { length aggregates.now ≤ most_items }
-    ensures { result ≡ naming.aggregate_column (shown.names_view aggregates.now) text.now }
-{
-    match aggregate_place(aggregates, text) {
-        None => None,
-        Some(place) => Some(GroupColumn::Aggregate(place as u16)),
-    }
-}
-
-// What an item shows, where so many aggregates come before it.
-fn item_column(groups: &[Name], before: u16, item: &Item) -> Result<GroupColumn, PlanFault>
-    requires { length groups.now ≤ most_columns }
-    ensures { Resolves (λ column. column) (spec.item_column (map name_view groups.now) before
-        (item_view item.now)) result }
-{
-    match item {
-        Item::Column(name) => match key_column(groups, &name.text) {
-            Some(column) => Ok(column),
-            None => Err(PlanFault::NotGrouped { at: name.place }),
-        },
-        Item::Aggregate(_) => Ok(GroupColumn::Aggregate(before)),
-    }
-}
-
-fn aggregates_in(item: &Item) -> u16
-    ensures count { result ≡ aggregates_in (item_view item.now) }
-    ensures few { result ≤ 1 }
-{
-    match item {
-        Item::Column(_) => 0,
-        Item::Aggregate(_) => 1,
-    }
-}
-
-/// What the items show.
-pub(crate) fn resolve_items(
+fn default_name(
     alloc: Global,
-    groups: &[Name],
-    items: &[Item],
-) -> Result<Vec<GroupColumn>, PlanFault>
-    requires groups { length groups.now ≤ most_columns }
-    requires items { length items.now ≤ most_items }
-    ensures { Resolves (λ columns. columns.items)
-        (spec.items_from (map name_view groups.now) 0 (map item_view items.now)) result }
+    measure: &Measure<Name>,
+    number: usize,
+) -> Result<Vec<u8>, AllocError>
+    ensures { IfOk result (λ name. name.items
+        ≡ naming.default_name (measure_view measure.now) number) }
 {
-    let mut columns = Vec::new(alloc);
-    let mut before = 0;
-    for item in items {
-        columns.push(item_column(groups, before, item)?)?;
-        before += aggregates_in(item);
-    }
-    Ok(columns)
+    let word = function_word(measure);
+    let name = format!(in alloc; "{word}{number}")?;
+    Ok(name.into_bytes())
 }
 
-fn group_column(groups: &[Name], aggregates: &[Aggregate], text: &[u8]) -> Option<GroupColumn>
-    requires groups { length groups.now ≤ most_columns }
-    requires aggregates { length aggregates.now ≤ most_items }
-    ensures { result ≡ option_or (naming.key_column (map name_view groups.now) text.now)
-        (naming.aggregate_column (shown.names_view aggregates.now) text.now) }
-{
-    match key_column(groups, text) {
-        Some(column) => Some(column),
-        None => aggregate_column(aggregates, text),
-    }
-}
-
-fn sort_key(
-    groups: &[Name],
-    aggregates: &[Aggregate],
-    key: &query::SortKey,
-) -> Result<SortKey, PlanFault>
-    requires groups { length groups.now ≤ most_columns }
-    requires aggregates { length aggregates.now ≤ most_items }
-    ensures { Resolves (λ sort. sort) (naming.resolved_key (map name_view groups.now)
-        (shown.names_view aggregates.now) (key_view key.now)) result }
-{
-    let name = &key.name;
-    match group_column(groups, aggregates, &name.text) {
-        None => Err(PlanFault::UnknownOrderKey { at: name.place }),
-        Some(column) => Ok(SortKey {
-            column,
-            direction: key.direction,
-        }),
-    }
-}
-
-/// The order of the groups.
-#[tactic(auto, using(crate::proofs::Options::all_missing, crate::proofs::Options::all_more, crate::proofs::Options::all_whole, crate::proofs::Options::all_first))]
-pub(crate) fn resolve_order(
+// The name of an aggregate: its own, or its function and its number among the aggregates.
+fn aggregate_name(
     alloc: Global,
-    groups: &[Name],
-    aggregates: &[Aggregate],
-    keys: &[query::SortKey],
-) -> Result<Vec<SortKey>, PlanFault>
-    requires groups { length groups.now ≤ most_columns }
-    requires aggregates { length aggregates.now ≤ most_items }
-    ensures { Resolves (λ sorts. sorts.items)
-        (spec.option_all (naming.resolved_key (map name_view groups.now)
-        (shown.names_view aggregates.now)) (map key_view keys.now)) result }
+    number: usize,
+    aggregate: &query::Aggregate,
+) -> Result<Vec<u8>, AllocError>
+    ensures { IfOk result (λ name. name.items
+        ≡ naming.name_of_aggregate number (aggregate_view aggregate.now)) }
 {
-    let mut sorts = Vec::new(alloc);
-    for key in keys {
-        sorts.push(sort_key(groups, aggregates, key)?)?;
+    match &aggregate.name {
+        Some(name) => name.text.clone(),
+        None => default_name(alloc, &aggregate.measure, number),
     }
-    Ok(sorts)
 }
 
 // An aggregate, with its number among the aggregates.
@@ -368,7 +284,8 @@ fn resolve_aggregate(
     alloc: Global,
     number: usize,
     aggregate: &query::Aggregate,
-) -> Result<Aggregate, PlanFault>
+) -> Result<Aggregate, AllocError>
+    requires { IsThere (spec.resolved_measure (measure_view aggregate.now.measure)) }
     ensures measure { Resolves (λ a. shown.column_measure_view a.measure)
         (spec.resolved_measure (measure_view aggregate.now.measure)) result }
     ensures name { IfOk result (λ a. a.name.items
@@ -380,8 +297,12 @@ fn resolve_aggregate(
 }
 
 /// The aggregates, from the left.
-pub(crate) fn resolve_aggregates(alloc: Global, items: &[Item]) -> Result<Vec<Aggregate>, PlanFault>
-    requires { length items.now ≤ most_items }
+pub(crate) fn resolve_aggregates(
+    alloc: Global,
+    items: &[Item],
+) -> Result<Vec<Aggregate>, AllocError>
+    requires there { IsThere (spec.resolved_measures (map item_view items.now)) }
+    requires few { length items.now ≤ most_items }
     ensures measures { Resolves (λ aggregates. shown.measures_view aggregates.items)
         (spec.resolved_measures (map item_view items.now)) result }
     ensures names { IfOk result (λ aggregates. shown.names_view aggregates.items

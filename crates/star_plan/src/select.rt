@@ -1,22 +1,29 @@
-// The tables of FROM, the groups, the items and the order of a query.
+// The tables of FROM, the groups and the items of a query.
 
-ghost use Rattle.std.specs.Prelude.{◌≡◌, ◌+◌, ◌≤◌, ◌++◌, [], ◌∷◌, IfOk, OnOk, length, map, nat_eq};
+ghost use Rattle.std.specs.Prelude.{◌≡◌, ◌+◌, ◌<◌, ◌≤◌, ◌||◌, [], get_or, length, map, nat_eq, take};
 ghost use Rattle.std.specs.List.{list_any};
 ghost use Rattle.std.specs.Cmp.Lexicographic.{pointwise};
 ghost use Rattle.std.specs.Result.{result_err};
-ghost use Rattle.star_common.specs.First.{first_answer};
-ghost use Rattle.star_query.specs.Maxima.{most_items};
-ghost use Rattle.star_query.specs.Views.{aggregate_view, item_view, key_view, measure_view, name_view};
+ghost use Rattle.star_query.specs.Limits.{aggregates_in};
+ghost use Rattle.star_query.specs.Maxima.{most_columns, most_items};
+ghost use Rattle.star_query.specs.Views.{aggregate_view, item_view, name_view};
 ghost use Rattle.star_plan.specs.First.{first_beside};
+ghost use Rattle.star_plan.specs.Names.{has_name};
 ghost use Rattle.star_plan.specs.Naming as spec;
 ghost use Rattle.star_plan.specs.Faults as faults;
-ghost use Rattle.star_plan.specs.Private.Answers.{Tells};
+ghost use Rattle.star_plan.specs.Resolved.{items_from};
+ghost use Rattle.star_plan.specs.Resolved as resolved;
+ghost use Rattle.star_plan.specs.Views.{names_view};
+ghost use Rattle.star_plan.specs.Private.Answers.{IsNamedAt, Resolves, Tells};
 
 use crate::fault::PlanFault;
 use crate::names::{has_name, table_at};
-use star_query::{Aggregate, Fold, Item, Measure, Name, SortKey};
-use star_schema::{TableId, name_of};
-use std::alloc::{AllocError, Global};
+use crate::order::key_column;
+use crate::tree::Aggregate;
+use star_query as query;
+use star_query::{Item, Name};
+use star_schema::{GroupColumn, TableId, name_of};
+use std::alloc::Global;
 
 // Whether a name is a table's that isn't named before.
 fn check_table(before: &[Name], name: &Name) -> Result<(), PlanFault>
@@ -63,8 +70,8 @@ fn check_group(before: &[Name], name: &Name) -> Result<(), PlanFault>
     }
 }
 
-#[tactic(auto, using(crate::proofs::Viewed::beside_passed, crate::proofs::Viewed::beside_whole))]
 /// Whether each group column is named once.
+#[tactic(auto, using(crate::proofs::Viewed::beside_passed, crate::proofs::Viewed::beside_whole))]
 pub(crate) fn check_groups(groups: &[Name]) -> Result<(), PlanFault>
     ensures { result_err result ≡ first_beside faults.group_fault (map name_view groups.now) }
 {
@@ -74,61 +81,22 @@ pub(crate) fn check_groups(groups: &[Name]) -> Result<(), PlanFault>
     Ok(())
 }
 
-// The word of an aggregate's function.
-#[tactic(auto, unfolding(crate::specs::Naming::function_word))]
-fn function_word(measure: &Measure<Name>) -> &'static str
-    ensures { result.now ≡ spec.function_word (measure_view measure.now) }
+fn any_named(aggregates: &[Aggregate], name: &[u8]) -> bool
+    ensures { result ≡ list_any (λ a. pointwise nat_eq a.name.items name.now) aggregates.now }
 {
-    match measure {
-        Measure::Count => "count",
-        Measure::Fold(Fold::Sum, _) => "sum",
-        Measure::Fold(Fold::Min, _) => "min",
-        Measure::Fold(Fold::Max, _) => "max",
-    }
+    aggregates
+        .iter()
+        .any(|aggregate| aggregate.name.as_slice() == name)
 }
 
-fn default_name(
-    alloc: Global,
-    measure: &Measure<Name>,
-    number: usize,
-) -> Result<Vec<u8>, AllocError>
-    ensures { IfOk result (λ name. name.items
-        ≡ spec.default_name (measure_view measure.now) number) }
+// Whether one of the aggregates has this name.
+fn has_aggregate(aggregates: &[Aggregate], name: &[u8]) -> bool
+    ensures { result ≡ spec.has_text (names_view aggregates.now) name.now }
 {
-    let word = function_word(measure);
-    let name = format!(in alloc; "{word}{number}")?;
-    Ok(name.into_bytes())
+    any_named(aggregates, name)
 }
 
-/// The name of an aggregate: its own, or its function and its number among the aggregates.
-pub(crate) fn aggregate_name(
-    alloc: Global,
-    number: usize,
-    aggregate: &Aggregate,
-) -> Result<Vec<u8>, AllocError>
-    ensures { IfOk result (λ name. name.items
-        ≡ spec.name_of_aggregate number (aggregate_view aggregate.now)) }
-{
-    match &aggregate.name {
-        Some(name) => name.text.clone(),
-        None => default_name(alloc, &aggregate.measure, number),
-    }
-}
-
-fn is_among(texts: &[Vec<u8>], text: &[u8]) -> bool
-    ensures { result ≡ list_any (λ t. pointwise nat_eq t.items text.now) texts.now }
-{
-    texts.iter().any(|known| known.as_slice() == text)
-}
-
-/// Whether one of the texts is this one.
-fn has_text(texts: &[Vec<u8>], text: &[u8]) -> bool
-    ensures { result ≡ spec.has_text (map (λ t. t.items) texts.now) text.now }
-{
-    is_among(texts, text)
-}
-
-fn name_place(aggregate: &Aggregate) -> usize
+fn name_place(aggregate: &query::Aggregate) -> usize
     ensures { result ≡ spec.name_place (aggregate_view aggregate.now) }
 {
     match &aggregate.name {
@@ -137,121 +105,114 @@ fn name_place(aggregate: &Aggregate) -> usize
     }
 }
 
-// Whether a plain column is among the group columns.
-fn check_column(groups: &[Name], name: &Name) -> Result<(), PlanFault>
-    ensures { result_err result ≡ faults.column_fault (map name_view groups.now)
-        (name_view name.now) }
+fn is_taken(groups: &[Name], earlier: &[Aggregate], name: &[u8]) -> bool
+    ensures { result ≡ (spec.has_text (names_view earlier.now) name.now
+        || has_name (map name_view groups.now) name.now) }
 {
-    if has_name(groups, &name.text) {
-        Ok(())
-    } else {
-        Err(PlanFault::NotGrouped { at: name.place })
-    }
+    has_aggregate(earlier, name) || has_name(groups, name)
 }
 
-// The name of the next aggregate, if no earlier one and no group column has it.
+// Whether no aggregate before this place, and no group column, has the name of the aggregate there.
 fn check_alias(
-    alloc: Global,
     groups: &[Name],
-    names: &[Vec<u8>],
-    aggregate: &Aggregate,
-) -> Result<Vec<u8>, PlanFault>
-    ensures told { Tells (faults.alias_fault (map name_view groups.now)
-        (map (λ n. n.items) names.now) (aggregate_view aggregate.now)) result }
-    ensures named { IfOk result (λ name. name.items
-        ≡ spec.name_of_aggregate (length names.now + 1) (aggregate_view aggregate.now)) }
+    aggregates: &[Aggregate],
+    place: u16,
+    aggregate: &query::Aggregate,
+) -> Result<(), PlanFault>
+    requires there { place < length aggregates.now }
+    requires named { get_or (names_view aggregates.now) place []
+        ≡ spec.name_of_aggregate (place + 1) (aggregate_view aggregate.now) }
+    ensures { result_err result ≡ faults.alias_fault (map name_view groups.now)
+        (take place (names_view aggregates.now)) (aggregate_view aggregate.now) }
 {
-    let name = aggregate_name(alloc, names.len() + 1, aggregate)?;
-    if has_text(names, &name) || has_name(groups, &name) {
+    let place = place as usize;
+    let name = aggregates[place].name.as_slice();
+    if is_taken(groups, &aggregates[..place], name) {
         let at = name_place(aggregate);
-        return Err(PlanFault::DuplicateAlias { at });
+        Err(PlanFault::DuplicateAlias { at })
+    } else {
+        Ok(())
     }
-    Ok(name)
 }
 
-// Adds the name of an item's aggregate.
-fn check_item(
-    alloc: Global,
+// What an item shows, where `before` aggregates come before it.
+fn show_item(
     groups: &[Name],
-    names: &mut Vec<Vec<u8>>,
+    aggregates: &[Aggregate],
+    before: u16,
     item: &Item,
-) -> Result<(), PlanFault>
-    ensures told { Tells (faults.item_fault_after (map name_view groups.now)
-        (map (λ n. n.items) names.old.items) (item_view item.now)) result }
-    ensures named { OnOk result (map (λ n. n.items) names.new.items
-        ≡ map (λ n. n.items) names.old.items ++ spec.names_from (length names.old.items + 1)
-        (item_view item.now ∷ [])) }
+) -> Result<GroupColumn, PlanFault>
+    requires groups { length groups.now ≤ most_columns }
+    requires named { IsNamedAt (names_view aggregates.now) before (item_view item.now) }
+    ensures told { result_err result ≡ faults.item_fault_after (map name_view groups.now)
+        (take before (names_view aggregates.now)) (item_view item.now) }
+    ensures shown { Resolves (λ column. column) (resolved.item_column (map name_view groups.now)
+        before (item_view item.now)) result }
 {
     match item {
-        Item::Column(name) => check_column(groups, name),
+        Item::Column(name) => match key_column(groups, &name.text) {
+            Some(column) => Ok(column),
+            None => Err(PlanFault::NotGrouped { at: name.place }),
+        },
         Item::Aggregate(aggregate) => {
-            let name = check_alias(alloc, groups, names, aggregate)?;
-            names.push(name)?;
-            Ok(())
+            check_alias(groups, aggregates, before, aggregate)?;
+            Ok(GroupColumn::Aggregate(before))
         }
     }
 }
 
-// The names of the aggregates, if each item is grouped or has a new name.
-fn check_items(alloc: Global, groups: &[Name], items: &[Item]) -> Result<Vec<Vec<u8>>, PlanFault>
-    requires { length items.now ≤ most_items }
-    ensures told { Tells (first_beside (faults.item_fault (map name_view groups.now))
-        (map item_view items.now)) result }
-    ensures named { IfOk result (λ names. map (λ n. n.items) names.items
-        ≡ spec.aggregate_names (map item_view items.now)) }
+fn aggregates_in(item: &Item) -> u16
+    ensures count { result ≡ aggregates_in (item_view item.now) }
+    ensures few { result ≤ 1 }
 {
-    let mut names = Vec::new(alloc);
-    for item in items {
-        check_item(alloc, groups, &mut names, item)?;
+    match item {
+        Item::Column(_) => 0,
+        Item::Aggregate(_) => 1,
     }
-    Ok(names)
 }
 
-/// The names of the aggregates, if there is one and the items are right.
-pub(crate) fn check_select(
+// What the items show, if each plain column is grouped and each aggregate has a new name.
+fn show_items(
     alloc: Global,
     groups: &[Name],
+    aggregates: &[Aggregate],
     items: &[Item],
-) -> Result<Vec<Vec<u8>>, PlanFault>
-    requires { length items.now ≤ most_items }
+) -> Result<Vec<GroupColumn>, PlanFault>
+    requires groups { length groups.now ≤ most_columns }
+    requires few { length items.now ≤ most_items }
+    requires named { names_view aggregates.now ≡ spec.aggregate_names (map item_view items.now) }
+    ensures told { Tells (first_beside (faults.item_fault (map name_view groups.now))
+        (map item_view items.now)) result }
+    ensures shown { Resolves (λ columns. columns.items)
+        (items_from (map name_view groups.now) 0 (map item_view items.now)) result }
+{
+    let mut columns = Vec::new(alloc);
+    let mut before = 0;
+    for item in items {
+        columns.push(show_item(groups, aggregates, before, item)?)?;
+        before += aggregates_in(item);
+    }
+    Ok(columns)
+}
+
+/// What SELECT shows, if there is an aggregate and the items are right.
+pub(crate) fn select(
+    alloc: Global,
+    groups: &[Name],
+    aggregates: &[Aggregate],
+    items: &[Item],
+) -> Result<Vec<GroupColumn>, PlanFault>
+    requires groups { length groups.now ≤ most_columns }
+    requires few { length items.now ≤ most_items }
+    requires named { names_view aggregates.now ≡ spec.aggregate_names (map item_view items.now) }
     ensures told { Tells (faults.select_fault (map name_view groups.now) (map item_view items.now))
         result }
-    ensures named { IfOk result (λ names. map (λ n. n.items) names.items
-        ≡ spec.aggregate_names (map item_view items.now)) }
+    ensures shown { Resolves (λ columns. columns.items)
+        (items_from (map name_view groups.now) 0 (map item_view items.now)) result }
 {
-    let names = check_items(alloc, groups, items)?;
-    if names.is_empty() {
+    let columns = show_items(alloc, groups, aggregates, items)?;
+    if aggregates.is_empty() {
         return Err(PlanFault::NoAggregate);
     }
-    Ok(names)
-}
-
-// Whether a sort key is a group column or an aggregate's name.
-fn check_key(groups: &[Name], names: &[Vec<u8>], key: &SortKey) -> Result<(), PlanFault>
-    ensures { result_err result ≡ faults.key_fault (map name_view groups.now)
-        (map (λ n. n.items) names.now) (key_view key.now) }
-{
-    let name = &key.name;
-    if has_name(groups, &name.text) || has_text(names, &name.text) {
-        Ok(())
-    } else {
-        Err(PlanFault::UnknownOrderKey { at: name.place })
-    }
-}
-
-/// Whether each sort key is a group column or an aggregate's name.
-#[tactic(auto, using(crate::proofs::Viewed::answer_passed, crate::proofs::Viewed::answer_whole))]
-pub(crate) fn check_order(
-    groups: &[Name],
-    names: &[Vec<u8>],
-    keys: &[SortKey],
-) -> Result<(), PlanFault>
-    ensures { result_err result ≡ first_answer
-        (faults.key_fault (map name_view groups.now) (map (λ n. n.items) names.now))
-        (map key_view keys.now) }
-{
-    for key in keys {
-        check_key(groups, names, key)?;
-    }
-    Ok(())
+    Ok(columns)
 }

@@ -12,22 +12,27 @@ module _ {A : Type 0} (w : ℕ) where
   length-cut zero items = refl
   length-cut (suc n) items = ap suc (length-cut n (drop w items))
 
-  pub cut_at : (n : ℕ) (items : List A) (i : ℕ) → i < n → get_or (cut w n items) i [] ≡ take w (drop (i * w) items)
+  pub cut_at : (n : ℕ) (items : List A) (i : ℕ) → i < n
+      → get_or (cut w n items) i [] ≡ take w (drop (i * w) items)
   unfolding cut
   cut_at zero items i h = absurd (omega (arith, h))
   cut_at (suc n) items zero h = ap (λ m. take w (drop m items)) (sym (zero-mul w))
   cut_at (suc n) items (suc i) h =
-      cut_at n (drop w items) i (omega (arith, h)) ∙ ap (take w) (drop-drop (i * w) w items ∙ ap (λ m. drop m items) (add_comm w (i * w) ∙ sym (suc-mul i w)))
+      cut_at n (drop w items) i (omega (arith, h))
+      ∙ ap (take w) (drop-drop (i * w) w items
+      ∙ ap (λ m. drop m items) (add_comm w (i * w) ∙ sym (suc-mul i w)))
 
   pub cut_past : (n : ℕ) (items : List A) (i : ℕ) → n ≤ i → get_or (cut w n items) i [] ≡ []
-  cut_past n items i past = get_or_past (cut w n items) i [] (omega (arith, past, length-cut n items))
+  cut_past n items i past =
+      get_or_past (cut w n items) i [] (omega (arith, past, length-cut n items))
 
 -- rows that were gathered one after another are these rows again
 module _ {A B : Type 0} (w : ℕ) (row : B → List A) (wide : (x : B) → length (row x) ≡ w) where
   pub length-rows : (xs : List B) → length (flat_map row xs) ≡ length xs * w
   length-rows [] = sym (zero-mul w)
   length-rows (x ∷ xs) =
-      length-append (row x) (flat_map row xs) ∙ (λ i. wide x i + length-rows xs i) ∙ add_comm w (length xs * w) ∙ sym (suc-mul (length xs) w)
+      length-append (row x) (flat_map row xs) ∙ (λ i. wide x i + length-rows xs i)
+      ∙ add_comm w (length xs * w) ∙ sym (suc-mul (length xs) w)
 
   pub cut_rows : (xs : List B) → cut w (length xs) (flat_map row xs) ≡ map row xs
   unfolding cut
@@ -35,5 +40,6 @@ module _ {A B : Type 0} (w : ℕ) (row : B → List A) (wide : (x : B) → lengt
   cut_rows (x ∷ xs) =
       let rest = flat_map row xs in
       (λ i. (ap (λ m. take m (row x ++ rest)) (sym (wide x)) ∙ take-append_seam (row x) rest) i
-      ∷ cut w (length xs) ((ap (λ m. drop m (row x ++ rest)) (sym (wide x)) ∙ drop-append_seam (row x) rest) i))
+      ∷ cut w (length xs) ((ap (λ m. drop m (row x ++ rest)) (sym (wide x))
+      ∙ drop-append_seam (row x) rest) i))
       ∙ ap (λ rows. row x ∷ rows) (cut_rows xs)

@@ -68,7 +68,9 @@ line_sizes Lineorder = 10
 line_sizes t = 0
 
 abbrev line_number : ColumnId → ℕ → ℤ
-line_number LoLinenumber row = slice_index_or (pos 1 ∷ pos 2 ∷ pos 3 ∷ pos 4 ∷ pos 5 ∷ pos 6 ∷ pos 7 ∷ pos 8 ∷ pos 9 ∷ pos 10 ∷ []) row (pos 0)
+line_number LoLinenumber row =
+    slice_index_or (pos 1 ∷ pos 2 ∷ pos 3 ∷ pos 4 ∷ pos 5 ∷ pos 6 ∷ pos 7 ∷ pos 8 ∷ pos 9 ∷ pos 10
+    ∷ []) row (pos 0)
 line_number LoExtendedprice row = pos 900000000000000000
 line_number _ row = pos 0
 
@@ -107,27 +109,36 @@ counting body = program 3 (plain (aggregate.Count ∷ []) ∷ []) 0 body
 
 -- lines priced above the average
 abbrev pub above_average : Parts
-above_average = program 8 (plain (aggregate.Sum ∷ aggregate.Count ∷ []) ∷ plain (aggregate.Count ∷ []) ∷ []) 1
-    (Each Lineorder 0 (assign 1 (operation.Load LoExtendedprice 0) (Then (op.Put 0 [] (1 ∷ [])) Stop))
+above_average = program 8
+    (plain (aggregate.Sum ∷ aggregate.Count ∷ []) ∷ plain (aggregate.Count ∷ []) ∷ []) 1
+    (Each Lineorder 0 (assign 1 (operation.Load LoExtendedprice 0)
+    (Then (op.Put 0 [] (1 ∷ [])) Stop))
     (assign 2 (operation.Read 0 0 (pos 0)) (assign 3 (operation.Read 0 1 (pos 0))
-    (Each Lineorder 4 (assign 5 (operation.Load LoExtendedprice 4) (assign 6 (operation.Binary operator.Mul 5 3) (assign 7 (operation.Binary operator.Less 2 6) (Then (op.Keep 7) (Then (op.Put 1 [] []) Stop))))) Stop))))
+    (Each Lineorder 4 (assign 5 (operation.Load LoExtendedprice 4)
+    (assign 6 (operation.Binary operator.Mul 5 3)
+    (assign 7 (operation.Binary operator.Less 2 6)
+    (Then (op.Keep 7) (Then (op.Put 1 [] []) Stop))))) Stop))))
 
 -- a row of the dates by a quantity
 abbrev pub find_by_quantity : Parts
 find_by_quantity = counting
-    (Each Lineorder 0 (assign 1 (operation.Load LoQuantity 0) (assign 2 (operation.Find Date 1) (Then (op.Put 0 [] []) Stop))) Stop)
+    (Each Lineorder 0 (assign 1 (operation.Load LoQuantity 0)
+    (assign 2 (operation.Find Date 1) (Then (op.Put 0 [] []) Stop))) Stop)
 
 -- a read in the scan that puts
 abbrev pub read_while_putting : Parts
-read_while_putting = counting (Each Lineorder 0 (Then (op.Put 0 [] []) (assign 1 (operation.Read 0 0 (pos 0)) Stop)) Stop)
+read_while_putting = counting
+    (Each Lineorder 0 (Then (op.Put 0 [] []) (assign 1 (operation.Read 0 0 (pos 0)) Stop)) Stop)
 
 -- a register that is written twice and then put
 abbrev pub written_twice : Parts
 written_twice = program 3 (plain (aggregate.Sum ∷ []) ∷ []) 0
-    (assign 0 (operation.Const (pos 1)) (assign 0 (operation.Const (pos 2)) (Then (op.Put 0 [] (0 ∷ [])) Stop)))
+    (assign 0 (operation.Const (pos 1))
+    (assign 0 (operation.Const (pos 2)) (Then (op.Put 0 [] (0 ∷ [])) Stop)))
 
 abbrev pub keep_outside : Parts
-keep_outside = counting (assign 0 (operation.Const (pos 1)) (assign 1 (operation.Binary operator.Equal 0 0) (Then (op.Keep 1) Stop)))
+keep_outside = counting (assign 0 (operation.Const (pos 1))
+    (assign 1 (operation.Binary operator.Equal 0 0) (Then (op.Keep 1) Stop)))
 
 -- a key of a group without keys is shown
 abbrev pub shows_no_key : Parts
@@ -147,23 +158,37 @@ scan_in_scan = counting (Each Date 0 (Each Supplier 1 (Then (op.Put 0 [] []) Sto
 abbrev pub doubled_difference : Parts
 doubled_difference = program 10 (plain (aggregate.Sum ∷ []) ∷ plain (aggregate.Max ∷ []) ∷ []) 1
     (Each Lineorder 0
-    (assign 1 (operation.Load LoLinenumber 0) (assign 2 (operation.Const (pos 1)) (assign 3 (operation.Binary operator.Equal 1 2) (Then (op.Keep 3)
+    (assign 1 (operation.Load LoLinenumber 0)
+    (assign 2 (operation.Const (pos 1))
+    (assign 3 (operation.Binary operator.Equal 1 2) (Then (op.Keep 3)
     (assign 4 (operation.Load LoExtendedprice 0) (Then (op.Put 0 [] (4 ∷ [])) Stop))))))
-    (assign 5 (operation.Read 0 0 (pos 0)) (assign 6 (operation.Const (pos 9000000000000000000)) (assign 7 (operation.Binary operator.Sub 5 6)
-    (assign 8 (operation.Const (pos 2)) (assign 9 (operation.Binary operator.Mul 7 8) (Then (op.Put 1 [] (9 ∷ [])) Stop)))))))
+    (assign 5 (operation.Read 0 0 (pos 0))
+    (assign 6 (operation.Const (pos 9000000000000000000))
+    (assign 7 (operation.Binary operator.Sub 5 6)
+    (assign 8 (operation.Const (pos 2))
+    (assign 9 (operation.Binary operator.Mul 7 8) (Then (op.Put 1 [] (9 ∷ [])) Stop)))))))
 
 abbrev pub two_keys : GroupDecl
-two_keys = record { shape = Cube; keys = key.Number ∷ key.Number ∷ []; aggregates = aggregate.Sum ∷ aggregate.Count ∷ [] }
+two_keys = record {
+  shape = Cube;
+  keys = key.Number ∷ key.Number ∷ [];
+  aggregates =
+      aggregate.Sum ∷ aggregate.Count ∷ [];
+}
 
 -- one update of a cube of these keys, of which all is shown
 abbrev pub one_put : Parts
 one_put = record {
   registers = 3;
   groups = two_keys ∷ [];
-  body = assign 0 (operation.Const (pos 1)) (assign 1 (operation.Const (pos 2)) (assign 2 (operation.Const (pos 7)) (Then (op.Put 0 (0 ∷ 1 ∷ []) (2 ∷ [])) Stop)));
+  body = assign 0 (operation.Const (pos 1))
+      (assign 1 (operation.Const (pos 2))
+      (assign 2 (operation.Const (pos 7)) (Then (op.Put 0 (0 ∷ 1 ∷ []) (2 ∷ [])) Stop)));
   report = 0;
   shows =
-      record { name = codes "a"; column = column.Key 0 } ∷ record { name = codes "b"; column = column.Key 1 }
-      ∷ record { name = codes "s"; column = column.Aggregate 0 } ∷ record { name = codes "n"; column = column.Aggregate 1 } ∷ [];
+      record { name = codes "a"; column = column.Key 0 }
+      ∷ record { name = codes "b"; column = column.Key 1 }
+      ∷ record { name = codes "s"; column = column.Aggregate 0 }
+      ∷ record { name = codes "n"; column = column.Aggregate 1 } ∷ [];
   sorts = [];
 }

@@ -1,5 +1,6 @@
 -- Which cells stand in a column, and which don't, by computation.
-use Rattle.std.proofs.Common.{[], ◌∷◌, codes, pos, refl, arith}
+use Rattle.std.proofs.Common.{◌≡◌, [], ◌∷◌, ℕ, List, codes, pos, refl, arith}
+use Rattle.std.specs.Borrow.{Bor}
 use Rattle.star_schema.specs.declared.column.ColumnId.TheVariants.{CRegion}
 use Rattle.star_schema.specs.declared.group.Aggregate.TheVariants.{Sum, Count}
 use Rattle.star_schema.specs.declared.group.GroupColumn.TheVariants as column
@@ -7,7 +8,9 @@ use Rattle.star_schema.specs.declared.group.Shape.TheVariants.{Plain}
 use Rattle.star_program.specs.declared.group.GroupDecl.{GroupDecl}
 use Rattle.star_program.specs.declared.group.GroupKey.TheVariants as declared
 use Rattle.star_program.specs.declared.outcome.Cell.TheVariants as cell
+use Rattle.star_program.specs.declared.outcome.CellView.TheVariants as lent
 use Rattle.star_program.specs.Cells.{IsCellOf}
+use Rattle.star_program.specs.CellViews.{cell_viewed}
 use Rattle.star_program.proofs.Sample.{sample}
 
 -- years and regions, with a count and a sum
@@ -51,3 +54,11 @@ no_all_sum h = h.1
 
 no_third_aggregate : IsCellOf sample years (column.Aggregate 2) (cell.Number (pos 1)) → ⊥
 no_third_aggregate h = let p = h.0 in omega (arith, p)
+
+-- each is lent as it is
+
+text_lent : (text : Bor (List ℕ)) → cell_viewed (lent.Text text) ≡ cell.Text text.now
+text_lent text = refl
+
+others_lent : (cell_viewed (lent.Number (pos 1997)) ≡ cell.Number (pos 1997)) × (cell_viewed lent.All ≡ cell.All) × (cell_viewed lent.Null ≡ cell.Null)
+others_lent = (refl, refl, refl)

@@ -1,4 +1,5 @@
--- One update of a cube and of a rollup of two keys: its rows; what the run of the cube ends with, and its report.
+-- One update of a cube and of a rollup of two keys: its rows; what the run of the cube ends with,
+-- and its report.
 use Rattle.std.proofs.Common.{◌≡◌, ◌∙◌, ap, inl, inr, ⊎_elim, ℕ, zero, suc, ◌<◌, true, false, ℤ, List, [], ◌∷◌, Option, Some, None, pos, codes, refl, sym, subst, arith}
 use Rattle.std.specs.Prelude.{Contains, map, slice_index_or}
 use Rattle.std.specs.List.Sorted.{IsStrictlySortedBy}
@@ -23,19 +24,29 @@ abbrev update : Update
 update = record { keys = Number (pos 1) ∷ Number (pos 2) ∷ []; values = pos 7 ∷ pos 1 ∷ [] }
 
 abbrev row : Option ℤ → Option ℤ → GroupRow KeyValue
-row a b = record { keys = option_map Number a ∷ option_map Number b ∷ []; totals = Some (pos 7) ∷ Some (pos 1) ∷ [] }
+row a b = record {
+  keys = option_map Number a ∷ option_map Number b ∷ [];
+  totals =
+      Some (pos 7) ∷ Some (pos 1) ∷ [];
+}
 
 -- one for each subset of the keys
 abbrev rows : List (GroupRow KeyValue)
-rows = row (Some (pos 1)) (Some (pos 2)) ∷ row (Some (pos 1)) None ∷ row None (Some (pos 2)) ∷ row None None ∷ []
+rows = row (Some (pos 1)) (Some (pos 2)) ∷ row (Some (pos 1)) None ∷ row None (Some (pos 2))
+    ∷ row None None ∷ []
 
 abbrev IsRight : GroupRow KeyValue → Type 0
-IsRight group = IsGroup Cube 2 (update ∷ []) group.keys × (group.totals ≡ totals_of (Sum ∷ Count ∷ []) (members key_value_cmp group.keys (update ∷ [])))
+IsRight group = IsGroup Cube 2 (update ∷ []) group.keys
+    × (group.totals ≡ totals_of (Sum ∷ Count ∷ []) (members key_value_cmp group.keys (update ∷ [])))
 
-each_is_a_group : (group : GroupRow KeyValue) (k : ℕ) → k < 4 → slice_index_or rows k group ≡ group → IsRight group
-each_is_a_group group zero less e = subst IsRight e ((refl, inl (update, (0, omega arith, refl), (refl, (refl, tt)))), refl)
-each_is_a_group group (suc zero) less e = subst IsRight e ((refl, inl (update, (0, omega arith, refl), (refl, tt))), refl)
-each_is_a_group group (suc (suc zero)) less e = subst IsRight e ((refl, inl (update, (0, omega arith, refl), (refl, tt))), refl)
+each_is_a_group : (group : GroupRow KeyValue) (k : ℕ) → k < 4 → slice_index_or rows k group ≡ group
+    → IsRight group
+each_is_a_group group zero less e =
+    subst IsRight e ((refl, inl (update, (0, omega arith, refl), (refl, (refl, tt)))), refl)
+each_is_a_group group (suc zero) less e =
+    subst IsRight e ((refl, inl (update, (0, omega arith, refl), (refl, tt))), refl)
+each_is_a_group group (suc (suc zero)) less e =
+    subst IsRight e ((refl, inl (update, (0, omega arith, refl), (refl, tt))), refl)
 each_is_a_group group (suc (suc (suc zero))) less e = subst IsRight e ((refl, inr refl), refl)
 each_is_a_group group (suc (suc (suc (suc k)))) less e = absurd (omega (arith, less))
 
@@ -43,9 +54,15 @@ abbrev Stands : List (Option KeyValue) → Type 0
 Stands keys = (group : GroupRow KeyValue) × Contains rows group × (group.keys ≡ keys)
 
 each_mask_stands : (keys : List (Option KeyValue)) → IsMasked keys update.keys → Stands keys
-each_mask_stands (Some a ∷ Some b ∷ []) h = (row (Some (pos 1)) (Some (pos 2)), (0, omega arith, refl), λ i. Some (sym h.0 i) ∷ Some (sym h.1.0 i) ∷ [])
-each_mask_stands (Some a ∷ None ∷ []) h = (row (Some (pos 1)) None, (1, omega arith, refl), λ i. Some (sym h.0 i) ∷ None ∷ [])
-each_mask_stands (None ∷ Some b ∷ []) h = (row None (Some (pos 2)), (2, omega arith, refl), λ i. None ∷ Some (sym h.0 i) ∷ [])
+each_mask_stands (Some a ∷ Some b ∷ []) h = (
+  row (Some (pos 1)) (Some (pos 2)),
+  (0, omega arith, refl),
+  λ i. Some (sym h.0 i) ∷ Some (sym h.1.0 i) ∷ [],
+)
+each_mask_stands (Some a ∷ None ∷ []) h =
+    (row (Some (pos 1)) None, (1, omega arith, refl), λ i. Some (sym h.0 i) ∷ None ∷ [])
+each_mask_stands (None ∷ Some b ∷ []) h =
+    (row None (Some (pos 2)), (2, omega arith, refl), λ i. None ∷ Some (sym h.0 i) ∷ [])
 each_mask_stands (None ∷ None ∷ []) h = (row None None, (3, omega arith, refl), refl)
 each_mask_stands [] h = absurd h
 each_mask_stands (Some a ∷ []) h = absurd h.1
@@ -59,13 +76,16 @@ each_mask_stands (None ∷ Some b ∷ None ∷ ms) h = absurd h.1
 each_mask_stands (None ∷ None ∷ Some c ∷ ms) h = absurd h
 each_mask_stands (None ∷ None ∷ None ∷ ms) h = absurd h
 
-each_group_stands : (keys : List (Option KeyValue)) → IsGroup Cube 2 (update ∷ []) keys → Stands keys
+each_group_stands : (keys : List (Option KeyValue)) → IsGroup Cube 2 (update ∷ []) keys
+    → Stands keys
 each_group_stands keys h = ⊎_elim
     (λ p. of_row p.0 p.1.0 p.1.1 p.1.2 p.2)
     (λ all. (row None None, (3, omega arith, refl), sym all)) h.1
   where
-    of_row : (other : Update) (k : ℕ) → k < 1 → slice_index_or (update ∷ []) k other ≡ other → IsMasked keys other.keys → Stands keys
-    of_row other zero less e mask = each_mask_stands keys (subst (λ u. IsMasked keys u.keys) (sym e) mask)
+    of_row : (other : Update) (k : ℕ) → k < 1 → slice_index_or (update ∷ []) k other ≡ other
+        → IsMasked keys other.keys → Stands keys
+    of_row other zero less e mask =
+        each_mask_stands keys (subst (λ u. IsMasked keys u.keys) (sym e) mask)
     of_row other (suc k) less e mask = absurd (omega (arith, less))
 
 are_groups : AreGroups key_value_cmp Cube 2 (Sum ∷ Count ∷ []) (update ∷ []) rows
@@ -80,11 +100,15 @@ abbrev prefixes : List (GroupRow KeyValue)
 prefixes = row (Some (pos 1)) (Some (pos 2)) ∷ row (Some (pos 1)) None ∷ row None None ∷ []
 
 abbrev IsRightPrefix : GroupRow KeyValue → Type 0
-IsRightPrefix group = IsGroup Rollup 2 (update ∷ []) group.keys × (group.totals ≡ totals_of (Sum ∷ Count ∷ []) (members key_value_cmp group.keys (update ∷ [])))
+IsRightPrefix group = IsGroup Rollup 2 (update ∷ []) group.keys
+    × (group.totals ≡ totals_of (Sum ∷ Count ∷ []) (members key_value_cmp group.keys (update ∷ [])))
 
-each_is_of_a_prefix : (group : GroupRow KeyValue) (k : ℕ) → k < 3 → slice_index_or prefixes k group ≡ group → IsRightPrefix group
-each_is_of_a_prefix group zero less e = subst IsRightPrefix e ((refl, inl (update, (0, omega arith, refl), (refl, (refl, tt)))), refl)
-each_is_of_a_prefix group (suc zero) less e = subst IsRightPrefix e ((refl, inl (update, (0, omega arith, refl), (refl, tt))), refl)
+each_is_of_a_prefix : (group : GroupRow KeyValue) (k : ℕ) → k < 3
+    → slice_index_or prefixes k group ≡ group → IsRightPrefix group
+each_is_of_a_prefix group zero less e =
+    subst IsRightPrefix e ((refl, inl (update, (0, omega arith, refl), (refl, (refl, tt)))), refl)
+each_is_of_a_prefix group (suc zero) less e =
+    subst IsRightPrefix e ((refl, inl (update, (0, omega arith, refl), (refl, tt))), refl)
 each_is_of_a_prefix group (suc (suc zero)) less e = subst IsRightPrefix e ((refl, inr refl), refl)
 each_is_of_a_prefix group (suc (suc (suc k))) less e = absurd (omega (arith, less))
 
@@ -92,13 +116,20 @@ abbrev StandsFirst : List (Option KeyValue) → Type 0
 StandsFirst keys = (group : GroupRow KeyValue) × Contains prefixes group × (group.keys ≡ keys)
 
 -- those of a cube, but for the one that is no grouping of a rollup
-each_prefix_stands : (keys : List (Option KeyValue)) → is_grouping Rollup keys ≡ true → Stands keys → StandsFirst keys
-each_prefix_stands keys h (group, (zero, less, e), same) = (row (Some (pos 1)) (Some (pos 2)), (0, omega arith, refl), ap (λ g. g.keys) e ∙ same)
-each_prefix_stands keys h (group, (suc zero, less, e), same) = (row (Some (pos 1)) None, (1, omega arith, refl), ap (λ g. g.keys) e ∙ same)
+each_prefix_stands : (keys : List (Option KeyValue)) → is_grouping Rollup keys ≡ true → Stands keys
+    → StandsFirst keys
+each_prefix_stands keys h (group, (zero, less, e), same) =
+    (row (Some (pos 1)) (Some (pos 2)), (0, omega arith, refl), ap (λ g. g.keys) e ∙ same)
+each_prefix_stands keys h (group, (suc zero, less, e), same) =
+    (row (Some (pos 1)) None, (1, omega arith, refl), ap (λ g. g.keys) e ∙ same)
 each_prefix_stands keys h (group, (suc (suc zero), less, e), same) =
-    let shown : false ≡ true = ap (λ g. is_grouping Rollup g.keys) e ∙ ap (is_grouping Rollup) same ∙ h in absurd (cc shown)
-each_prefix_stands keys h (group, (suc (suc (suc zero)), less, e), same) = (row None None, (2, omega arith, refl), ap (λ g. g.keys) e ∙ same)
-each_prefix_stands keys h (group, (suc (suc (suc (suc k))), less, e), same) = absurd (omega (arith, less))
+    let shown : false ≡ true =
+    ap (λ g. is_grouping Rollup g.keys) e ∙ ap (is_grouping Rollup) same ∙ h in
+    absurd (cc shown)
+each_prefix_stands keys h (group, (suc (suc (suc zero)), less, e), same) =
+    (row None None, (2, omega arith, refl), ap (λ g. g.keys) e ∙ same)
+each_prefix_stands keys h (group, (suc (suc (suc (suc k))), less, e), same) =
+    absurd (omega (arith, less))
 
 are_prefixes : AreGroups key_value_cmp Rollup 2 (Sum ∷ Count ∷ []) (update ∷ []) prefixes
 are_prefixes = record {

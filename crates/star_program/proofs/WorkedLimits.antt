@@ -1,4 +1,5 @@
--- Programs at the limits and one past them; how keys compare; what stands in cells and is read from codes.
+-- Programs at the limits and one past them; how keys compare; what stands in cells and is read from
+-- codes.
 use Rattle.std.proofs.Common.{◌≡◌, ◌≤◌, ℕ, zero, suc, [], ◌∷◌, Some, None, true, false, pos, negsuc, refl, arith}
 use Rattle.std.specs.Prelude.{codes, replicate}
 use Rattle.std.specs.declared.cmp.Ordering.TheVariants.{Less, Equal, Greater}
@@ -30,7 +31,13 @@ use Rattle.star_program.proofs.Sample.{sample}
 -- ---- limits
 
 abbrev of_size : ℕ → ℕ → GroupDecl
-of_size keys aggregates = record { shape = Plain; keys = replicate keys declared.Number; aggregates = replicate aggregates Sum }
+of_size keys aggregates =
+    record {
+      shape = Plain;
+      keys = replicate keys declared.Number;
+      aggregates =
+          replicate aggregates Sum;
+    }
 
 small : IsSmall (of_size 6 8)
 small = record { keys = omega arith; aggregates = omega arith }
@@ -72,7 +79,8 @@ within : IsWithinLimits (of_sizes 4096 8 nested 16 16)
 within = record {
   registers = omega arith;
   groups = omega arith;
-  each_group = All-from_recursion IsSmall (replicate 8 (of_size 6 8)) (small, (small, (small, (small, (small, (small, (small, (small, tt))))))));
+  each_group = All-from_recursion IsSmall (replicate 8 (of_size 6 8))
+      (small, (small, (small, (small, (small, (small, (small, (small, tt))))))));
   instructions = omega arith;
   scans = omega arith;
   shows = omega arith;
@@ -117,28 +125,45 @@ too_many_sorts h = let e : 17 ≤ 16 = h.sorts in omega (arith, e)
 
 -- ---- how keys compare
 
-keys : (key_value_cmp (key.Number (pos 9)) (key.Number (pos 10)) ≡ Less) × (key_value_cmp (key.Number (pos 1)) (key.Number (negsuc 4)) ≡ Greater) × (key_value_cmp (key.Code 9) (key.Code 10) ≡ Less) × (key_value_cmp (key.Code 3) (key.Code 3) ≡ Equal) × (key_value_cmp (key.Number (pos 9)) (key.Code 0) ≡ Less) × (key_value_cmp (key.Code 0) (key.Number (pos 9)) ≡ Greater)
+keys : (key_value_cmp (key.Number (pos 9)) (key.Number (pos 10)) ≡ Less)
+    × (key_value_cmp (key.Number (pos 1)) (key.Number (negsuc 4)) ≡ Greater)
+    × (key_value_cmp (key.Code 9) (key.Code 10) ≡ Less)
+    × (key_value_cmp (key.Code 3) (key.Code 3) ≡ Equal)
+    × (key_value_cmp (key.Number (pos 9)) (key.Code 0) ≡ Less)
+    × (key_value_cmp (key.Code 0) (key.Number (pos 9)) ≡ Greater)
 keys = (refl, refl, refl, refl, refl, refl)
 
 -- ---- what leaves its bits: a SUM 128, a COUNT 64
 
-sums_leaving : (leaves Sum (Some (pos 170141183460469231731687303715884105728)) ≡ true) × (leaves Sum (Some (pos 170141183460469231731687303715884105727)) ≡ false) × (leaves Sum (Some (negsuc 170141183460469231731687303715884105728)) ≡ true) × (leaves Sum (Some (negsuc 170141183460469231731687303715884105727)) ≡ false) × (leaves Sum (Some (pos 9223372036854775808)) ≡ false) × (leaves Sum None ≡ false)
+sums_leaving : (leaves Sum (Some (pos 170141183460469231731687303715884105728)) ≡ true)
+    × (leaves Sum (Some (pos 170141183460469231731687303715884105727)) ≡ false)
+    × (leaves Sum (Some (negsuc 170141183460469231731687303715884105728)) ≡ true)
+    × (leaves Sum (Some (negsuc 170141183460469231731687303715884105727)) ≡ false)
+    × (leaves Sum (Some (pos 9223372036854775808)) ≡ false) × (leaves Sum None ≡ false)
 unfolding is_i128
 sums_leaving = (refl, refl, refl, refl, refl, refl)
 
-counts_leaving : (leaves Count (Some (pos 9223372036854775808)) ≡ true) × (leaves Count (Some (pos 9223372036854775807)) ≡ false) × (leaves Max (Some (pos 170141183460469231731687303715884105728)) ≡ false)
+counts_leaving : (leaves Count (Some (pos 9223372036854775808)) ≡ true)
+    × (leaves Count (Some (pos 9223372036854775807)) ≡ false)
+    × (leaves Max (Some (pos 170141183460469231731687303715884105728)) ≡ false)
 unfolding is_i64
 counts_leaving = (refl, refl, refl)
 
 -- ---- rows of tables, cells and codes
 
-rows_of_tables : (is_row_of Date (Some (kind.Row Date)) ≡ true) × (is_row_of Date (Some (kind.Row Customer)) ≡ false) × (is_row_of Date (Some kind.Number) ≡ false) × (is_row_of Date None ≡ false)
+rows_of_tables : (is_row_of Date (Some (kind.Row Date)) ≡ true)
+    × (is_row_of Date (Some (kind.Row Customer)) ≡ false)
+    × (is_row_of Date (Some kind.Number) ≡ false) × (is_row_of Date None ≡ false)
 rows_of_tables = (refl, refl, refl, refl)
 
-decoded_keys : (decoded sample declared.Number (key.Number (negsuc 0)) ≡ Number (negsuc 0)) × (decoded (record sample { text = λ c code. codes "ASIA" }) (declared.Text CRegion) (key.Code 1) ≡ Text (codes "ASIA")) × (decoded sample declared.Number (key.Code 7) ≡ Number (pos 7))
+decoded_keys : (decoded sample declared.Number (key.Number (negsuc 0)) ≡ Number (negsuc 0))
+    × (decoded (record sample { text = λ c code. codes "ASIA" }) (declared.Text CRegion)
+    (key.Code 1) ≡ Text (codes "ASIA"))
+    × (decoded sample declared.Number (key.Code 7) ≡ Number (pos 7))
 decoded_keys = (refl, refl, refl)
 
-totals : IsTotalCell Sum (cell.Number (pos 1)) × IsTotalCell Count (cell.Number (pos 1)) × IsTotalCell Max cell.Null
+totals : IsTotalCell Sum (cell.Number (pos 1)) × IsTotalCell Count (cell.Number (pos 1))
+    × IsTotalCell Max cell.Null
 totals = (tt, tt, tt)
 
 no_text_total : IsTotalCell Sum (cell.Text []) → ⊥
@@ -147,7 +172,8 @@ no_text_total h = h
 abbrev by_a_number : GroupDecl
 by_a_number = record { shape = Plain; keys = declared.Number ∷ []; aggregates = Sum ∷ [] }
 
-its_number : IsCellOf sample by_a_number (column.Key 0) (cell.Number (pos 1)) × IsCellOf sample by_a_number (column.Aggregate 0) (cell.Number (pos 1))
+its_number : IsCellOf sample by_a_number (column.Key 0) (cell.Number (pos 1))
+    × IsCellOf sample by_a_number (column.Aggregate 0) (cell.Number (pos 1))
 its_number = ((omega arith, tt), (omega arith, tt))
 
 no_second_key : IsCellOf sample by_a_number (column.Key 1) cell.All → ⊥

@@ -17,14 +17,17 @@ use Rattle.star_program.specs.declared.fault.TrapKind.TheVariants.{Wrong, Absent
 use Rattle.star_program.specs.Run.{End, Ended, Trapped, Limited, run_of, bounded_run_of}
 use Rattle.star_program.proofs.Sample.{sample, great_prices, assign, counting, plain, program, above_average, find_by_quantity, read_while_putting, written_twice, keep_outside, shows_no_key, scan_in_scan, doubled_difference}
 
--- what a run ends with: the three counts, and the first aggregate over all updates of the reported group
+-- what a run ends with: the three counts, and the first aggregate over all updates of the reported
+-- group
 abbrev shown : Parts → End → List (Option ℤ)
-shown parts (Ended s) = Some (pos s.visits) ∷ Some (pos s.lookups) ∷ Some (pos s.updates) ∷ total_over (group_at parts parts.report).aggregates 0 (s.updates_of parts.report) ∷ []
+shown parts (Ended s) = Some (pos s.visits) ∷ Some (pos s.lookups) ∷ Some (pos s.updates)
+    ∷ total_over (group_at parts parts.report).aggregates 0 (s.updates_of parts.report) ∷ []
 shown parts (Trapped at trap) = None ∷ []
 shown parts Limited = []
 
 -- two of five lines are priced above the average, and each is visited twice
-above_average_runs : shown above_average (run_of sample above_average) ≡ Some (pos 10) ∷ Some (pos 0) ∷ Some (pos 7) ∷ Some (pos 2) ∷ []
+above_average_runs : shown above_average (run_of sample above_average)
+    ≡ Some (pos 10) ∷ Some (pos 0) ∷ Some (pos 7) ∷ Some (pos 2) ∷ []
 unfolding column_of is_i64 is_i128
 above_average_runs = refl
 
@@ -34,7 +37,8 @@ unfolding column_of is_i64 is_i128
 above_average_limited = refl
 
 -- and ten are enough for it
-above_average_bounded : shown above_average (bounded_run_of sample 10 above_average) ≡ shown above_average (run_of sample above_average)
+above_average_bounded : shown above_average (bounded_run_of sample 10 above_average)
+    ≡ shown above_average (run_of sample above_average)
 unfolding column_of is_i64 is_i128
 above_average_bounded = refl
 
@@ -43,12 +47,15 @@ unfolding column_of is_i64 is_i128
 find_by_quantity_traps = refl
 
 -- five turns may begin where five are allowed
-read_while_putting_runs : shown read_while_putting (bounded_run_of sample 5 read_while_putting) ≡ Some (pos 5) ∷ Some (pos 0) ∷ Some (pos 5) ∷ Some (pos 5) ∷ []
+read_while_putting_runs :
+    shown read_while_putting (bounded_run_of sample 5 read_while_putting)
+    ≡ Some (pos 5) ∷ Some (pos 0) ∷ Some (pos 5) ∷ Some (pos 5) ∷ []
 unfolding column_of is_i64 is_i128
 read_while_putting_runs = refl
 
 -- what is written twice holds what was written last
-written_twice_runs : shown written_twice (run_of sample written_twice) ≡ Some (pos 0) ∷ Some (pos 0) ∷ Some (pos 1) ∷ Some (pos 2) ∷ []
+written_twice_runs : shown written_twice (run_of sample written_twice)
+    ≡ Some (pos 0) ∷ Some (pos 0) ∷ Some (pos 1) ∷ Some (pos 2) ∷ []
 unfolding is_i64 is_i128
 written_twice_runs = refl
 
@@ -59,7 +66,8 @@ shows_no_key_traps : bounded_run_of sample 0 shows_no_key ≡ Trapped 0 (Wrong B
 shows_no_key_traps = refl
 
 -- a scan in a scan counts each time that it is met
-scan_in_scan_runs : shown scan_in_scan (run_of sample scan_in_scan) ≡ Some (pos 9) ∷ Some (pos 0) ∷ Some (pos 6) ∷ Some (pos 6) ∷ []
+scan_in_scan_runs : shown scan_in_scan (run_of sample scan_in_scan)
+    ≡ Some (pos 9) ∷ Some (pos 0) ∷ Some (pos 6) ∷ Some (pos 6) ∷ []
 unfolding is_i64 is_i128
 scan_in_scan_runs = refl
 
@@ -72,13 +80,17 @@ abbrev quantities : Parts
 quantities = program 3 (plain (Sum ∷ []) ∷ []) 0
     (Each Lineorder 0 (assign 1 (Load LoQuantity 0) (Then (Put 0 [] (1 ∷ [])) Stop)) Stop)
 
-quantities_run : shown quantities (run_of sample quantities) ≡ Some (pos 5) ∷ Some (pos 0) ∷ Some (pos 5) ∷ Some (pos 115) ∷ []
+quantities_run : shown quantities (run_of sample quantities)
+    ≡ Some (pos 5) ∷ Some (pos 0) ∷ Some (pos 5) ∷ Some (pos 115) ∷ []
 unfolding column_of is_i64 is_i128
 quantities_run = refl
 
 -- of the three registers the last may be a scan's, and the next traps also over a table of no rows
-last_register_runs : shown (counting (Each Date 2 Stop Stop)) (run_of great_prices (counting (Each Date 2 Stop Stop))) ≡ Some (pos 0) ∷ Some (pos 0) ∷ Some (pos 0) ∷ Some (pos 0) ∷ []
+last_register_runs : shown (counting (Each Date 2 Stop Stop))
+    (run_of great_prices (counting (Each Date 2 Stop Stop)))
+    ≡ Some (pos 0) ∷ Some (pos 0) ∷ Some (pos 0) ∷ Some (pos 0) ∷ []
 last_register_runs = refl
 
-next_register_traps : run_of great_prices (counting (Each Date 3 Stop Stop)) ≡ Trapped 1 (Wrong BadRegister)
+next_register_traps : run_of great_prices (counting (Each Date 3 Stop Stop))
+    ≡ Trapped 1 (Wrong BadRegister)
 next_register_traps = refl

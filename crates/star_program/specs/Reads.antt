@@ -1,5 +1,5 @@
 -- What an instruction reads: registers in which something of the right kind stands, and groups that are there.
-use Rattle.std.specs.Prelude.{◌≡◌, ℕ, ◌<◌, Bool, true, length, All, Option, Some, None}
+use Rattle.std.specs.Prelude.{◌≡◌, ◌<◌, Bool, true, length, All, Option, Some, None}
 use Rattle.std.specs.List.{AllZip}
 use Rattle.star_schema.specs.Schema.{table_of}
 use Rattle.star_program.specs.declared.op.Op.{Op}

@@ -1,4 +1,4 @@
-// The instructions of a program, one after another, with scans round some.
+// The instructions of a program, one after another, with scans around some.
 
 ghost use Rattle.std.specs.Prelude.{◌≡◌, ◌≤◌, ◌<◌, ◌+◌, ◌↔◌, IsTrue, IfSome, IfNone, OnOk};
 ghost use Rattle.star_program.specs.Code.{code_size, scan_depth};
@@ -69,7 +69,7 @@ impl Body {
         steps
     }
 
-    // Adds a step behind the others.
+    // Adds a step after the others.
     pub(crate) fn push(&mut self, step: Step) -> Result<(), AllocError>
         ensures { OnOk result (self.new ≡ followed self.old (code_of_step step)) }
     {
@@ -84,7 +84,7 @@ impl Body {
         &self.steps
     }
 
-    // What is left of room for so many instructions after those of the body, if there is enough.
+    // What is left of room for `room` instructions after those of the body, if there is enough.
     #[cycle(room)]
     pub(crate) fn room_left(&self, room: u16) -> Option<u16>
         ensures enough { IfSome result (λ left. left + code_size self.now ≡ room) }
@@ -97,7 +97,7 @@ impl Body {
         Some(left)
     }
 
-    // Whether at most so many scans stand one in another.
+    // Whether at most `scans` scans stand one in another.
     #[cycle(nesting)]
     pub(crate) fn is_nested_within(&self, scans: u8) -> bool
         ensures { IsTrue result ↔ (scan_depth self.now ≤ scans) }

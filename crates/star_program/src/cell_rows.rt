@@ -27,8 +27,8 @@ impl Model for CellRows {
     ghost invariant = { λ rows. length rows.cells.items ≡ rows.len * rows.width };
 }
 
-/// The row of a number from 0, of so many rows of so many items each, one after another; none where
-/// there is no such row.
+/// Row `number`, from 0, of `len` rows of `width` items each, one after another; empty where there
+/// is no such row.
 pub fn row_of<T>(items: &[T], width: usize, len: usize, number: usize) -> &[T]
     requires { length items.now ≡ len * width }
     ensures { result.now ≡ slice_index_or (cut width len items.now) number [] }
@@ -42,7 +42,7 @@ pub fn row_of<T>(items: &[T], width: usize, len: usize, number: usize) -> &[T]
 }
 
 impl CellRows {
-    /// The rows of these cells: so many rows, of so many cells each, one after another.
+    /// Cuts these cells into `len` rows of `width` cells each, one after another.
     pub fn from_cells(width: usize, len: usize, cells: Vec<KeptCell>) -> CellRows
         requires { length cells.items ≡ len * width }
         ensures { result ≡ cut width len cells.items }

@@ -134,7 +134,7 @@ impl Program {
     // A text is also written of a program that no text spells: `new` takes registers, places and
     // names that no line can say, and keys of groups that are of a column of numbers.
     /// The program's text: a line for each statement, one space between words, two before a line
-    /// for each scan round it, numbers without zeros in front, a line feed after each line.
+    /// for each scan around it, numbers without zeros in front, a line feed after each line.
     pub fn to_text(&self) -> Result<Vec<u8>, AllocError>
         ensures written { IfOk result (λ text. text.items ≡ program_text self.now) }
         // Where some text spells the program, this one does, and is read back as it.
@@ -176,7 +176,7 @@ impl Parts {
     }
 }
 
-// Whether there are at most so many groups, each with at most so many keys and aggregates.
+// Whether there are at most 8 groups, each with at most 6 keys and 8 aggregates.
 fn are_few(groups: &[GroupDecl]) -> bool
     ensures { IsTrue result ↔ ((length groups.now ≤ 8) × All IsSmall groups.now) }
 {

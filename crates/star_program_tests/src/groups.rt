@@ -10,7 +10,7 @@ use star_schema::{Aggregate, Shape};
 use std::alloc::{AllocError, Global};
 use std::test::Fail;
 
-// A group of so many number keys.
+// A group of `keys` number keys.
 fn declared(
     alloc: Global,
     shape: Shape,
@@ -76,7 +76,7 @@ fn has_row(rows: &GroupRows, row: Row) -> bool {
     false
 }
 
-// Whether a store gives so many rows, and these among them.
+// Whether a store gives `count` rows, and these among them.
 fn gives(store: EagerStore, count: usize, expected: &[Row]) -> Result<bool, AllocError> {
     let rows = store.into_rows()?;
     for row in expected {

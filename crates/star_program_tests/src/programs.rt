@@ -58,7 +58,7 @@ fn body(alloc: Global, constants: usize, scans: usize) -> Result<Body, AllocErro
     Ok(Body::from_vec(steps))
 }
 
-// What stands in the outermost of so many scans.
+// What stands in the outermost of `scans` scans.
 fn scan_round(alloc: Global, scans: usize) -> Result<Body, AllocError> {
     let mut inner = Body::from_vec(Vec::new(alloc));
     for _ in 1..scans {
@@ -115,7 +115,7 @@ fn instructions_are_limited(rt: HostRuntime) -> Result<(), Fail> {
     Ok(())
 }
 
-// Whether a program may have so many groups of so many keys and aggregates.
+// Whether a program may have `count` groups with these numbers of keys and aggregates.
 fn accepts_groups(
     alloc: Global,
     count: usize,
@@ -161,7 +161,7 @@ fn shows(alloc: Global, count: usize) -> Result<Shows, AllocError> {
     Ok(Items::from_vec(shows))
 }
 
-// Whether a program may have so many show lines and sort lines.
+// Whether a program may have `lines` show lines and `sorts` sort lines.
 fn accepts_report(alloc: Global, lines: usize, sorts: usize) -> Result<bool, AllocError> {
     let sort = SortKey {
         column: GroupColumn::Key(0),

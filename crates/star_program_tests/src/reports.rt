@@ -2,9 +2,9 @@
 
 ghost use Rattle.std.specs.Prelude.{None};
 
+use star_common::{Out, Sink, SinkFault, WriteFault, write_whole};
 use star_program::{Cell, CellRows, CellText, Items, KeptCell, Outcome};
-use star_report::{WriteFault, report_text, write_whole};
-use star_schema::{Out, Sink, SinkFault};
+use star_report::report_text;
 use std::alloc::{AllocError, Global};
 use std::io;
 use std::io::Write;
@@ -46,7 +46,7 @@ fn kept_cells(alloc: Global, cells: Vec<Cell>) -> Result<Vec<KeptCell>, AllocErr
     Ok(kept)
 }
 
-// So many rows of these cells under these names are printed so.
+// Checks how rows of these cells under these names are printed.
 fn check_report(
     rt: &impl Abort,
     alloc: Global,
@@ -126,7 +126,7 @@ enum End {
     TakesNothing,
 }
 
-// A sink that takes so many bytes, a few at a time, and then fails.
+// A sink that takes `left` bytes, at most `at_once` at a time, and then fails.
 #[derive(Drop)]
 struct Narrow {
     left: usize,
@@ -161,7 +161,7 @@ impl Sink for Narrow {
     }
 }
 
-// A writer that takes so many bytes, and then fails.
+// A writer that takes `left` bytes, and then fails.
 #[derive(Drop)]
 struct Short {
     taken: Vec<u8>,
@@ -188,7 +188,7 @@ impl Write for Short {
 
 const REPORT: &[u8] = b"sum1|d_year|p_brand1\n980|1993|MFGR#121\n495|1994|MFGR#121\n";
 
-// What a write of the report answers where a sink or a writer has room for so many bytes.
+// What a write of the report answers where a sink or a writer has room for `left` bytes.
 fn expected_of(left: usize) -> Result<(), WriteFault> {
     if left < 57 {
         Err(WriteFault { sent: left as u64 })

@@ -156,7 +156,7 @@ fn all_agree(alloc: Global, cases: &[(&str, Option<TextFault>)]) -> Result<(), F
     Ok(())
 }
 
-// Whether each line, as the last behind a front, is the first that is refused.
+// Whether each line, as the last after a front, is the first that is refused.
 fn all_refused(
     alloc: Global,
     front: &str,
@@ -182,8 +182,8 @@ const BAD_FIFTH: Option<TextFault> = Some(TextFault::BadLine { line: 5 });
 
 const OPEN_SCAN: Option<TextFault> = Some(TextFault::OpenScan);
 
-// Fronts, and lines that say nothing behind them, with the fault of each. A line that said
-// something would be taken, and the fault be that of a missing line or none.
+// Fronts, and lines that say nothing after them, with the fault of each. A line that said something
+// would be taken, and the fault be that of a missing line or none.
 const REFUSED: &[(&str, Option<TextFault>, &[&str])] = &[
     ("", BAD_HEADER, &["star program 2", "star program 1 1"]),
     (
@@ -260,7 +260,7 @@ fn refuses_lines(rt: HostRuntime) -> Result<(), Fail> {
 }
 
 const CUT: &[(&str, Option<TextFault>)] = &[
-    // What is behind the last line end is no line.
+    // What is after the last line end is no line.
     ("star program 1\n", BAD_SECOND),
     ("star program 1\n\n", BAD_THIRD),
     // A carriage return before a line end belongs to it, and any other to its line.
@@ -277,7 +277,7 @@ fn cuts_lines(rt: HostRuntime) -> Result<(), Fail> {
     all_agree(rt.alloc(), CUT)
 }
 
-// Lines behind the head of a program, and what they are written as there.
+// Lines after the head of a program, and what they are written as there.
 const SHORTER: &[(&str, &str)] = &[
     (
         "  r0 = low c_region 'c d'\nreport 0",
@@ -352,7 +352,7 @@ fn tells_the_first_fault(rt: HostRuntime) -> Result<(), Fail> {
     all_agree(rt.alloc(), FIRST_FAULTS)
 }
 
-// The front, so many times the middle, and the end.
+// The front, the middle `count` times, and the end.
 fn repeated(
     alloc: Global,
     front: &str,
@@ -369,7 +369,7 @@ fn repeated(
     Ok(text)
 }
 
-// Whether a text of so many middles has the first fault that is expected, or none.
+// Whether a text of `count` middles has the first fault that is expected, or none.
 fn agree_at(
     alloc: Global,
     around: (&str, &str, &str),

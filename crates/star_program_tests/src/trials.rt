@@ -292,7 +292,7 @@ fn a_report_of_what_is_not_there_traps_first(rt: HostRuntime) -> Result<(), Fail
     Ok(())
 }
 
-// So many lines of one order, all dear.
+// `count` lines of one order, all dear.
 fn dear_lines(alloc: Global, count: u64) -> Result<String, Fail> {
     let mut lines = String::new(alloc);
     for place in 0..count {
@@ -320,7 +320,7 @@ const OF_ELEVEN_DEAR_LINES: &[Case] = &[
     (PRICES_READ, MOST_VISITS, "trap Overflow at 4"),
 ];
 
-// What a trial answers over so many dear lines.
+// Checks what a trial answers over `count` dear lines.
 fn dear_agree(alloc: Global, count: u64, cases: &[Case]) -> Result<(), Fail> {
     let lines = dear_lines(alloc, count)?;
     let parts = [lines.as_bytes()];

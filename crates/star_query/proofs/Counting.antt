@@ -10,7 +10,7 @@ use Rattle.std.proofs.lemmas.List.{length-map}
 use Rattle.star_query.specs.Symbols.{Symbol, name, lowered}
 use Rattle.star_query.specs.Maxima.{limit}
 use Rattle.star_query.specs.Derives.{same_part, among, IsShortName, IsLongName}
-use Rattle.star_query.specs.Private.Machine.{number_of, bump, plus, is_over, is_long}
+use Rattle.star_query.specs.Private.Machine.{count_of_part, bump, plus, is_over, is_long}
 
 pub not_below : (a b : ℕ) → b ≤ a → nat_lt a b ≡ false
 not_below a b le = grind arith
@@ -20,7 +20,8 @@ pub by_bool : {X : Type 0} (b : Bool) → (b ≡ true → X) → (b ≡ false �
 by_bool true f g = f refl
 by_bool false f g = g refl
 
-number-bump : (q p : Part) (n : Counts) → number_of (bump q n) p ≡ number_of n p + (if same_part p q then 1 else 0)
+number-bump : (q p : Part) (n : Counts)
+    → count_of_part (bump q n) p ≡ count_of_part n p + (if same_part p q then 1 else 0)
 number-bump Item Item n = refl
 number-bump Aggregate Aggregate n = refl
 number-bump GroupColumn GroupColumn n = refl
@@ -29,18 +30,23 @@ number-bump Comparison Comparison n = refl
 number-bump Operand Operand n = refl
 number-bump _ _ n = omega arith
 
-pub number-plus : (ps : List Part) (n : Counts) (p : Part) → number_of (plus n ps) p ≡ number_of n p + among p ps
+pub number-plus : (ps : List Part) (n : Counts) (p : Part)
+    → count_of_part (plus n ps) p ≡ count_of_part n p + among p ps
 number-plus [] n p = omega arith
 number-plus (q ∷ ps) n p = omega (arith, number-plus ps (bump q n) p, number-bump q p n)
 
-pub not_over : (n : Counts) (ps : List Part) → ((p : Part) → number_of n p ≤ limit p) → is_over n ps ≡ false
+pub not_over : (n : Counts) (ps : List Part) → ((p : Part) → count_of_part n p ≤ limit p)
+    → is_over n ps ≡ false
 not_over n [] fits = refl
-not_over n (p ∷ ps) fits = rw (not_below (limit p) (number_of n p) (fits p)) (not_over n ps fits)
+not_over n (p ∷ ps) fits =
+    rw (not_below (limit p) (count_of_part n p) (fits p)) (not_over n ps fits)
 
-pub over_some : (n : Counts) (ps : List Part) → is_over n ps ≡ true → (p : Part) × (limit p < number_of n p)
+pub over_some : (n : Counts) (ps : List Part) → is_over n ps ≡ true
+    → (p : Part) × (limit p < count_of_part n p)
 over_some n [] e = cc
 over_some n (p ∷ ps) e =
-    by_bool (nat_lt (limit p) (number_of n p)) (λ here. (p, ltb-true _ _ here)) (λ other. over_some n ps (rw other at e))
+    by_bool (nat_lt (limit p) (count_of_part n p)) (λ here. (p, ltb-true _ _ here))
+    (λ other. over_some n ps (rw other at e))
 
 same-part : (p q : Part) → same_part p q ≡ true → p ≡ q
 same-part Item Item e = refl
@@ -51,14 +57,23 @@ same-part Comparison Comparison e = refl
 same-part Operand Operand e = refl
 same-part _ _ e = cc
 
-not_over_at : (n : Counts) (ps : List Part) (p : Part) → is_over n ps ≡ false → 0 < among p ps → number_of n p ≤ limit p
+not_over_at : (n : Counts) (ps : List Part) (p : Part) → is_over n ps ≡ false → 0 < among p ps
+    → count_of_part n p ≤ limit p
 not_over_at n [] p e some = absurd (omega arith)
 not_over_at n (q ∷ ps) p e some =
-    by_bool (nat_lt (limit q) (number_of n q)) (λ over. let h : false ≡ true = sym (rw over at e) in cc) (λ within. by_bool (same_part p q) (λ same. subst (λ r. number_of n r ≤ limit r) (sym (same-part p q same)) (ltb-false _ _ within)) (λ other. let more : 0 < 0 + among p ps = rw other at some in not_over_at n ps p (rw within at e) (omega arith)))
+    by_bool (nat_lt (limit q) (count_of_part n q))
+    (λ over. let h : false ≡ true = sym (rw over at e) in cc)
+    (λ within. by_bool (same_part p q)
+    (λ same. subst (λ r. count_of_part n r ≤ limit r) (sym (same-part p q same))
+    (ltb-false _ _ within)) (λ other. let more : 0 < 0 + among p ps = rw other at some in
+    not_over_at n ps p (rw within at e) (omega arith)))
 
-pub fits_after : (n : Counts) (ps : List Part) → ((p : Part) → number_of n p ≤ limit p) → is_over (plus n ps) ps ≡ false → (p : Part) → number_of (plus n ps) p ≤ limit p
+pub fits_after : (n : Counts) (ps : List Part) → ((p : Part) → count_of_part n p ≤ limit p)
+    → is_over (plus n ps) ps ≡ false → (p : Part) → count_of_part (plus n ps) p ≤ limit p
 fits_after n ps fits e p =
-    by_bool (nat_lt 0 (among p ps)) (λ some. not_over_at (plus n ps) ps p e (ltb-true _ _ some)) (λ none. let h : among p ps ≤ 0 = ltb-false _ _ none in omega (arith, number-plus ps n p, fits p))
+    by_bool (nat_lt 0 (among p ps)) (λ some. not_over_at (plus n ps) ps p e (ltb-true _ _ some))
+    (λ none. let h : among p ps ≤ 0 = ltb-false _ _ none in
+    omega (arith, number-plus ps n p, fits p))
 
 pub short_name : (x : Symbol) → is_long x ≡ false → IsShortName x
 short_name (name t p) e = ltb-false _ _ e
@@ -74,19 +89,22 @@ not_long _ e = refl
 
 -- a word in lower case is as long
 pub long_word : (word : List ℕ) → 64 < length word → nat_lt 64 (length (lowered word)) ≡ true
-long_word word e = let same : length (lowered word) ≡ length word = length-map word to_ascii_lowercase in grind (arith, same)
+long_word word e = let same : length (lowered word) ≡ length word =
+    length-map word to_ascii_lowercase in grind (arith, same)
 
-number-bump-self : (p : Part) (n : Counts) → number_of (bump p n) p ≡ number_of n p + 1
+number-bump-self : (p : Part) (n : Counts) → count_of_part (bump p n) p ≡ count_of_part n p + 1
 number-bump-self Item n = refl
 number-bump-self _ n = refl
 
-pub one_too_many : (p : Part) (n : Counts) → limit p ≤ number_of n p → is_over (plus n (p ∷ [])) (p ∷ []) ≡ true
+pub one_too_many : (p : Part) (n : Counts) → limit p ≤ count_of_part n p
+    → is_over (plus n (p ∷ [])) (p ∷ []) ≡ true
 one_too_many p n e =
-    let more : limit p < number_of (bump p n) p = omega (arith, number-bump-self p n) in
-    let over : nat_lt (limit p) (number_of (bump p n) p) ≡ true = grind (arith, more) in
+    let more : limit p < count_of_part (bump p n) p = omega (arith, number-bump-self p n) in
+    let over : nat_lt (limit p) (count_of_part (bump p n) p) ≡ true = grind (arith, more) in
     rw over refl
 
-pub one_allowed : (p : Part) (n : Counts) → number_of n p < limit p → is_over (plus n (p ∷ [])) (p ∷ []) ≡ false
+pub one_allowed : (p : Part) (n : Counts) → count_of_part n p < limit p
+    → is_over (plus n (p ∷ [])) (p ∷ []) ≡ false
 one_allowed p n e =
-    let within : number_of (bump p n) p ≤ limit p = omega (arith, number-bump-self p n) in
-    rw (not_below (limit p) (number_of (bump p n) p) within) refl
+    let within : count_of_part (bump p n) p ≤ limit p = omega (arith, number-bump-self p n) in
+    rw (not_below (limit p) (count_of_part (bump p n) p) within) refl

@@ -16,8 +16,10 @@ use Rattle.star_query.specs.declared.tree.Expression.{Expression}
 use Rattle.star_query.specs.declared.tree.Expression.TheVariants as expressions
 use Rattle.star_query.specs.Symbols.{Symbol, sign, additive, name, number}
 use Rattle.star_query.specs.Tree as tree
-use Rattle.star_query.specs.Grammar.{Expr, joined, Term, times, column, constant, negative, parens, first, ident, sum_or_difference, expr_tree, term_tree, factor_tree}
-use Rattle.star_query.specs.Private.Machine.{ExprHole, in_parens, TermHole, first_term, next_term, FactorHole, first_factor, next_factor, expr_depth, term_depth, factor_depth, State, factor_wanted, factor_negative, term_had, expr_had, give_factor, to, step, at_end, Verdict, Bad, plus, checked, after, ends, run}
+use Rattle.star_query.specs.Grammar.{Expr, plus_or_minus, Term, times, column, constant, negative, parens, first, ident, sum_or_difference, expr_tree, term_tree, factor_tree}
+use Rattle.star_query.specs.Private.Machine.{ExprHole, in_parens, TermHole, first_term, next_term, FactorHole, first_factor, next_factor, expr_depth}
+use Rattle.star_query.specs.Private.Machine.{term_depth, factor_depth, ParserState, factor_wanted, factor_negative, term_had, expr_had, give_factor}
+use Rattle.star_query.specs.Private.Machine.{to, next_step, query_at_end, Verdict, Bad, plus, checked, verdict_after, ends, run}
 use Rattle.star_query.specs.Views.{name_view, expression_view}
 use Rattle.star_query.specs.Private.Reads.{Spot, head_of, No, verdict, EndsBad, Takes, NoName, NoNumber, IsName, IsNumber, IsBeyond, ReadsToken, ReadsName, ReadsNumber, Nests, ReadsPhrase, ReadsOperand, ReadsFactor, ReadsTerm, ReadsExpr}
 use Rattle.star_query.specs.Private.Lists.{bad_along}
@@ -26,56 +28,82 @@ use Rattle.star_query.proofs.Accepting.{expr_joins, parens_close}
 use Rattle.star_query.proofs.Tokens.{no_name_there}
 
 -- past a symbol, within the limits
-pub takes : (old new : Spot) (x : Symbol) (ps : List Part) (d : ℕ) (from next : State) → Takes old new x ps → d ≤ 32 → step from x ≡ to next (first ps d x) → verdict old from ≡ verdict new next
+pub takes : (old new : Spot) (x : Symbol) (ps : List Part) (d : ℕ) (from next : ParserState)
+    → Takes old new x ps → d ≤ 32 → next_step from x ≡ to next (first ps d x)
+    → verdict old from ≡ verdict new next
 takes old new x ps d from next t deep e =
     let shallow : nat_lt 32 d ≡ false = not_below 32 d deep in
-    let now : checked old.counts (first ps d x) (x ∷ new.left) (run new.left next) ≡ run new.left next (plus old.counts ps) = rw (shallow, t.few, t.short) refl in
-    ap (λ l. run l from old.counts) t.next ∙ ap (λ o. after o old.counts (x ∷ new.left) (run new.left)) e ∙ now ∙ ap (run new.left next) (sym t.counts)
+    let now : checked old.counts (first ps d x) (x ∷ new.left) (run new.left next)
+    ≡ run new.left next (plus old.counts ps) = rw (shallow, t.few, t.short) refl in
+    ap (λ l. run l from old.counts) t.next
+    ∙ ap (λ o. verdict_after o old.counts (x ∷ new.left) (run new.left)) e ∙ now
+    ∙ ap (run new.left next) (sym t.counts)
 
 -- where no step goes on
-pub stuck : (old : Spot) (from : State) → at_end from ≡ None → ((x : Symbol) → head_of old.left ≡ Some x → step from x ≡ None) → verdict old from ≡ Bad Unexpected old.left
+pub stuck : (old : Spot) (from : ParserState) → query_at_end from ≡ None
+    → ((x : Symbol) → head_of old.left ≡ Some x → next_step from x ≡ None)
+    → verdict old from ≡ Bad Unexpected old.left
 stuck old from ends_not steps_not = by_left old.left steps_not
   where
-    by_left : (left : List Symbol) → ((x : Symbol) → head_of left ≡ Some x → step from x ≡ None) → run left from old.counts ≡ Bad Unexpected left
+    by_left : (left : List Symbol)
+        → ((x : Symbol) → head_of left ≡ Some x → next_step from x ≡ None)
+        → run left from old.counts ≡ Bad Unexpected left
     by_left [] f = ap ends ends_not
-    by_left (x ∷ xs) f = ap (λ o. after o old.counts (x ∷ xs) (run xs)) (f x refl)
+    by_left (x ∷ xs) f = ap (λ o. verdict_after o old.counts (x ∷ xs) (run xs)) (f x refl)
 
-head_is : (left : List Symbol) (x : Symbol) → head_of left ≡ Some x → (rest : List Symbol) × (left ≡ x ∷ rest)
+head_is : (left : List Symbol) (x : Symbol) → head_of left ≡ Some x
+    → (rest : List Symbol) × (left ≡ x ∷ rest)
 head_is [] x e = cc
 head_is (y ∷ ys) x e = (ys, (let same : y ≡ x = cc in ap (λ z. z ∷ ys) same))
 
 -- too deep at the next symbol
-pub too_deep : (old : Spot) (x : Symbol) (ps : List Part) (d : ℕ) (from next : State) → head_of old.left ≡ Some x → 32 < d → step from x ≡ to next (first ps d x) → verdict old from ≡ Bad TooDeep old.left
+pub too_deep : (old : Spot) (x : Symbol) (ps : List Part) (d : ℕ) (from next : ParserState)
+    → head_of old.left ≡ Some x → 32 < d → next_step from x ≡ to next (first ps d x)
+    → verdict old from ≡ Bad TooDeep old.left
 too_deep old x ps d from next h deep e =
     let l = head_is old.left x h in
     let over : nat_lt 32 d ≡ true = grind (arith, deep) in
-    let now : checked old.counts (first ps d x) (x ∷ l.0) (run l.0 next) ≡ Bad TooDeep (x ∷ l.0) = rw over refl in
-    ap (λ left. run left from old.counts) l.1 ∙ ap (λ o. after o old.counts (x ∷ l.0) (run l.0)) e ∙ now ∙ ap (Bad TooDeep) (sym l.1)
+    let now : checked old.counts (first ps d x) (x ∷ l.0) (run l.0 next) ≡ Bad TooDeep (x ∷ l.0) =
+    rw over refl in
+    ap (λ left. run left from old.counts) l.1
+    ∙ ap (λ o. verdict_after o old.counts (x ∷ l.0) (run l.0)) e ∙ now
+    ∙ ap (Bad TooDeep) (sym l.1)
 
 -- too many at the next symbol
-pub too_many : (old : Spot) (ps : List Part) (d : ℕ) (from : State) → IsBeyond ps old.counts old.left → d ≤ 32 → ((x : Symbol) → head_of old.left ≡ Some x → (next : State) × (step from x ≡ to next (first ps d x))) → verdict old from ≡ Bad TooMany old.left
+pub too_many : (old : Spot) (ps : List Part) (d : ℕ) (from : ParserState)
+    → IsBeyond ps old.counts old.left → d ≤ 32
+    → ((x : Symbol) → head_of old.left ≡ Some x
+    → (next : ParserState) × (next_step from x ≡ to next (first ps d x)))
+    → verdict old from ≡ Bad TooMany old.left
 too_many old ps d from beyond deep goes = by_left old.left beyond goes
   where
-    by_left : (left : List Symbol) → IsBeyond ps old.counts left → ((x : Symbol) → head_of left ≡ Some x → (next : State) × (step from x ≡ to next (first ps d x))) → run left from old.counts ≡ Bad TooMany left
+    by_left : (left : List Symbol) → IsBeyond ps old.counts left
+        → ((x : Symbol) → head_of left ≡ Some x
+        → (next : ParserState) × (next_step from x ≡ to next (first ps d x)))
+        → run left from old.counts ≡ Bad TooMany left
     by_left [] b f = absurd b
     by_left (x ∷ xs) b f =
         let e = f x refl in
         let shallow : nat_lt 32 d ≡ false = not_below 32 d deep in
-        let now : checked old.counts (first ps d x) (x ∷ xs) (run xs e.0) ≡ Bad TooMany (x ∷ xs) = rw (shallow, b) refl in
-        ap (λ o. after o old.counts (x ∷ xs) (run xs)) e.1 ∙ now
+        let now : checked old.counts (first ps d x) (x ∷ xs) (run xs e.0) ≡ Bad TooMany (x ∷ xs) =
+        rw (shallow, b) refl in
+        ap (λ o. verdict_after o old.counts (x ∷ xs) (run xs)) e.1 ∙ now
 
 -- an end that is reached later
-pub bad_here : (f : Fault) (old new : Spot) (v : Verdict) → new.left ≡ old.left → v ≡ Bad f old.left → EndsBad (errors.Fault f) new v
+pub bad_here : (f : Fault) (old new : Spot) (v : Verdict) → new.left ≡ old.left → v ≡ Bad f old.left
+    → EndsBad (errors.Fault f) new v
 bad_here f old new v same b = b ∙ ap (Bad f) (sym same)
 
-pub head_no_name : (left : List Symbol) (x : Symbol) → head_of left ≡ Some x → NoName left → NoName (x ∷ [])
+pub head_no_name : (left : List Symbol) (x : Symbol) → head_of left ≡ Some x → NoName left
+    → NoName (x ∷ [])
 head_no_name left x e none = let l = head_is left x e in one_only x l.0 (subst NoName l.1 none)
   where
     one_only : (y : Symbol) (ys : List Symbol) → NoName (y ∷ ys) → NoName (y ∷ [])
     one_only (name t p) ys none = none
     one_only _ ys none = tt
 
-pub head_no_number : (left : List Symbol) (x : Symbol) → head_of left ≡ Some x → NoNumber left → NoNumber (x ∷ [])
+pub head_no_number : (left : List Symbol) (x : Symbol) → head_of left ≡ Some x → NoNumber left
+    → NoNumber (x ∷ [])
 head_no_number left x e none = let l = head_is left x e in one_only x l.0 (subst NoNumber l.1 none)
   where
     one_only : (y : Symbol) (ys : List Symbol) → NoNumber (y ∷ ys) → NoNumber (y ∷ [])
@@ -83,104 +111,222 @@ head_no_number left x e none = let l = head_is left x e in one_only x l.0 (subst
     one_only _ ys none = tt
 
 -- a token of a kind that can't be read
-bad_token : {A : Type 0} (symbol : A → Symbol) (NoMemory : Type 0) (Is IsNo : List Symbol → Type 0) (ps : List Part) (d : ℕ) (from : State) (old new : Spot) (e : ParseError) → d ≤ 32
-    → ((x : Symbol) (rest : List Symbol) → Is (x ∷ rest) → (next : State) × (step from x ≡ to next (first ps d x)))
-    → (IsNo old.left → verdict old from ≡ Bad Unexpected old.left) → ReadsToken symbol NoMemory Is IsNo ps old new (Err e) → EndsBad e new (verdict old from)
+bad_token : {A : Type 0} (symbol : A → Symbol) (NoMemory : Type 0) (Is IsNo : List Symbol → Type 0)
+    (ps : List Part) (d : ℕ) (from : ParserState) (old new : Spot) (e : ParseError) → d ≤ 32
+    → ((x : Symbol) (rest : List Symbol) → Is (x ∷ rest)
+    → (next : ParserState) × (next_step from x ≡ to next (first ps d x)))
+    → (IsNo old.left → verdict old from ≡ Bad Unexpected old.left)
+    → ReadsToken symbol NoMemory Is IsNo ps old new (Err e) → EndsBad e new (verdict old from)
 bad_token symbol NoMemory Is IsNo ps d from old new errors.OutOfMemory deep goes others b = tt
 bad_token symbol NoMemory Is IsNo ps d from old new (errors.Fault Unexpected) deep goes others b =
     bad_here Unexpected old new _ (ap (λ s. s.left) b.1) (others b.0)
-bad_token symbol NoMemory Is IsNo ps d from old new (errors.Fault TooDeep) deep goes others b = absurd b
+bad_token symbol NoMemory Is IsNo ps d from old new (errors.Fault TooDeep) deep goes others b =
+    absurd b
 bad_token symbol NoMemory Is IsNo ps d from old new (errors.Fault TooMany) deep goes others b =
-    bad_here TooMany old new _ b.1 (too_many old ps d from b.0 deep (λ x h. let l = head_is old.left x h in goes x l.0 (subst Is l.1 b.2)))
+    bad_here TooMany old new _ b.1
+    (too_many old ps d from b.0 deep
+    (λ x h. let l = head_is old.left x h in goes x l.0 (subst Is l.1 b.2)))
 
-pub bad_name : (ps : List Part) (d : ℕ) (from : State) (old new : Spot) (e : ParseError) → d ≤ 32 → ((t : List ℕ) (p : ℕ) → (next : State) × (step from (name t p) ≡ to next (first ps d (name t p)))) → (NoName old.left → verdict old from ≡ Bad Unexpected old.left) → ReadsName ps old new (Err e) → EndsBad e new (verdict old from)
+pub bad_name : (ps : List Part) (d : ℕ) (from : ParserState) (old new : Spot) (e : ParseError)
+    → d ≤ 32 → ((t : List ℕ) (p : ℕ)
+    → (next : ParserState) × (next_step from (name t p) ≡ to next (first ps d (name t p))))
+    → (NoName old.left → verdict old from ≡ Bad Unexpected old.left) → ReadsName ps old new (Err e)
+    → EndsBad e new (verdict old from)
 bad_name ps d from old new e deep names others b =
-    bad_token (λ (n : Name). ident (name_view n)) (Unit {0}) IsName NoName ps d from old new e deep goes others b
+    bad_token (λ (n : Name). ident (name_view n)) (Unit {0}) IsName NoName ps d from old new e deep
+    goes others b
   where
-    goes : (x : Symbol) (rest : List Symbol) → IsName (x ∷ rest) → (next : State) × (step from x ≡ to next (first ps d x))
+    goes : (x : Symbol) (rest : List Symbol) → IsName (x ∷ rest)
+        → (next : ParserState) × (next_step from x ≡ to next (first ps d x))
     goes (name t p) rest is = names t p
     goes _ rest is = absurd is
 
-pub bad_number : (ps : List Part) (d : ℕ) (from : State) (old new : Spot) (e : ParseError) → d ≤ 32 → ((n : ℕ) → (next : State) × (step from (number n) ≡ to next (first ps d (number n)))) → (NoNumber old.left → verdict old from ≡ Bad Unexpected old.left) → ReadsNumber ps old new (Err e) → EndsBad e new (verdict old from)
+pub bad_number : (ps : List Part) (d : ℕ) (from : ParserState) (old new : Spot) (e : ParseError)
+    → d ≤ 32 → ((n : ℕ) → (next : ParserState)
+    × (next_step from (number n) ≡ to next (first ps d (number n))))
+    → (NoNumber old.left → verdict old from ≡ Bad Unexpected old.left)
+    → ReadsNumber ps old new (Err e) → EndsBad e new (verdict old from)
 bad_number ps d from old new e deep numbers others b =
-    bad_token (λ (digits : Digits). number digits.value) ⊥ IsNumber NoNumber ps d from old new e deep goes others b
+    bad_token (λ (digits : Digits). number digits.value) ⊥ IsNumber NoNumber ps d from old new e
+    deep goes others b
   where
-    goes : (x : Symbol) (rest : List Symbol) → IsNumber (x ∷ rest) → (next : State) × (step from x ≡ to next (first ps d x))
+    goes : (x : Symbol) (rest : List Symbol) → IsNumber (x ∷ rest)
+        → (next : ParserState) × (next_step from x ≡ to next (first ps d x))
     goes (number n) rest is = numbers n
     goes _ rest is = absurd is
 
 -- what was refused, by another name of the answer
-pub refused : {A T P H : Type 0} (view : A → T) (tree : P → T) (IsHole : H → Type 0) (wanted : H → State) (given : P → H → State) (old new : Spot) (r : Result A ParseError) (e : ParseError) → r ≡ Err e → ((h : H) → IsHole h → EndsBad e new (verdict old (wanted h))) → ReadsPhrase view tree IsHole wanted given old new r
-refused view tree IsHole wanted given old new r e same f = subst (ReadsPhrase view tree IsHole wanted given old new) (sym same) f
+pub refused : {A T P H : Type 0} (view : A → T) (tree : P → T) (IsHole : H → Type 0)
+    (wanted : H → ParserState) (given : P → H → ParserState) (old new : Spot)
+    (r : Result A ParseError) (e : ParseError) → r ≡ Err e
+    → ((h : H) → IsHole h → EndsBad e new (verdict old (wanted h)))
+    → ReadsPhrase view tree IsHole wanted given old new r
+refused view tree IsHole wanted given old new r e same f =
+    subst (ReadsPhrase view tree IsHole wanted given old new) (sym same) f
 
 -- operands
-pub read_column : (old new : Spot) (n : Name) → Takes old new (ident (name_view n)) (part.Operand ∷ []) → ReadsOperand old new (Ok (expressions.Column n))
-read_column old new n t =
-    (column (name_view n), refl, λ h deep. takes old new _ (part.Operand ∷ []) (factor_depth h) (factor_wanted h) (give_factor (column (name_view n)) h) t deep refl)
+pub read_column : (old new : Spot) (n : Name)
+    → Takes old new (ident (name_view n)) (part.Operand ∷ [])
+    → ReadsOperand old new (Ok (expressions.Column n))
+read_column old new n t = (
+  column (name_view n),
+  refl,
+  λ h deep. takes old new _ (part.Operand ∷ []) (factor_depth h) (factor_wanted h)
+      (give_factor (column (name_view n)) h) t deep refl,
+)
 
-pub read_constant : (old mid new : Spot) (x : Expression Name) (n : ℕ) → expression_view x ≡ tree.constant (pos n) → mid ≡ old → Takes mid new (number n) (part.Operand ∷ []) → ReadsOperand old new (Ok x)
-read_constant old mid new x n is same t =
-    (constant n, sym is, λ h deep. ap (λ s. verdict s (factor_wanted h)) (sym same) ∙ takes mid new _ (part.Operand ∷ []) (factor_depth h) (factor_wanted h) (give_factor (constant n) h) t deep refl)
+pub read_constant : (old mid new : Spot) (x : Expression Name) (n : ℕ)
+    → expression_view x ≡ tree.constant (pos n) → mid ≡ old
+    → Takes mid new (number n) (part.Operand ∷ []) → ReadsOperand old new (Ok x)
+read_constant old mid new x n is same t = (
+  constant n,
+  sym is,
+  λ h deep.
+      ap (λ s. verdict s (factor_wanted h)) (sym same)
+      ∙ takes mid new _ (part.Operand ∷ []) (factor_depth h) (factor_wanted h)
+      (give_factor (constant n) h) t deep refl,
+)
 
-pub read_negative : (old mid new : Spot) (x : Expression Name) (n : ℕ) → expression_view x ≡ tree.constant (neg_ℤ (pos n)) → Takes old mid (additive Minus) [] → Takes mid new (number n) (part.Operand ∷ []) → ReadsOperand old new (Ok x)
-read_negative old mid new x n is minus t =
-    (negative n, sym is, λ h deep. takes old mid _ [] (factor_depth h) (factor_wanted h) (factor_negative h) minus deep refl ∙ takes mid new _ (part.Operand ∷ []) (factor_depth h) (factor_negative h) (give_factor (negative n) h) t deep refl)
+pub read_negative : (old mid new : Spot) (x : Expression Name) (n : ℕ)
+    → expression_view x ≡ tree.constant (neg_ℤ (pos n)) → Takes old mid (additive Minus) []
+    → Takes mid new (number n) (part.Operand ∷ []) → ReadsOperand old new (Ok x)
+read_negative old mid new x n is minus t = (
+  negative n,
+  sym is,
+  λ h deep.
+      takes old mid _ [] (factor_depth h) (factor_wanted h) (factor_negative h) minus deep refl
+      ∙ takes mid new _ (part.Operand ∷ []) (factor_depth h) (factor_negative h)
+      (give_factor (negative n) h) t deep refl,
+)
 
-only_number : (h : FactorHole) (x : Symbol) → NoNumber (x ∷ []) → step (factor_negative h) x ≡ None
+only_number : (h : FactorHole) (x : Symbol) → NoNumber (x ∷ [])
+    → next_step (factor_negative h) x ≡ None
 only_number h (number n) none = absurd none
 only_number h _ none = refl
 
-no_factor : (h : FactorHole) (x : Symbol) → NoName (x ∷ []) → NoNumber (x ∷ []) → (x ≡ additive Minus → ⊥) → (x ≡ sign s.Open → ⊥) → step (factor_wanted h) x ≡ None
+no_factor : (h : FactorHole) (x : Symbol) → NoName (x ∷ []) → NoNumber (x ∷ [])
+    → (x ≡ additive Minus → ⊥) → (x ≡ sign s.Open → ⊥) → next_step (factor_wanted h) x ≡ None
 no_factor h (name t p) a b c d = absurd a
 no_factor h (number n) a b c d = absurd b
 no_factor h (additive Minus) a b c d = absurd (c refl)
 no_factor h (sign s.Open) a b c d = absurd (d refl)
 no_factor h _ a b c d = refl
 
-pub bad_column : (old new : Spot) (r : Result (Expression Name) ParseError) (e : ParseError) → r ≡ Err e → IsName old.left → ReadsName (part.Operand ∷ []) old new (Err e) → ReadsOperand old new r
+pub bad_column : (old new : Spot) (r : Result (Expression Name) ParseError) (e : ParseError)
+    → r ≡ Err e → IsName old.left → ReadsName (part.Operand ∷ []) old new (Err e)
+    → ReadsOperand old new r
 bad_column old new r e same is b =
-    refused expression_view factor_tree (λ h. factor_depth h ≤ 32) factor_wanted give_factor old new r e same (λ h deep. bad_name (part.Operand ∷ []) (factor_depth h) (factor_wanted h) old new e deep (λ t p. (give_factor (column (record { text = t; place = p })) h, refl)) (λ none. absurd (no_name_there old.left is none)) b)
+    refused expression_view factor_tree (λ h. factor_depth h ≤ 32) factor_wanted give_factor old new
+    r e same (λ h deep. bad_name (part.Operand ∷ []) (factor_depth h) (factor_wanted h) old new
+    e deep (λ t p. (give_factor (column (record { text = t; place = p })) h, refl))
+    (λ none. absurd (no_name_there old.left is none)) b)
 
-pub bad_negative : (old mid new : Spot) (r : Result (Expression Name) ParseError) (e : ParseError) → r ≡ Err e → Takes old mid (additive Minus) [] → ReadsNumber (part.Operand ∷ []) mid new (Err e) → ReadsOperand old new r
+pub bad_negative : (old mid new : Spot) (r : Result (Expression Name) ParseError) (e : ParseError)
+    → r ≡ Err e → Takes old mid (additive Minus) []
+    → ReadsNumber (part.Operand ∷ []) mid new (Err e) → ReadsOperand old new r
 bad_negative old mid new r e same t b =
-    refused expression_view factor_tree (λ h. factor_depth h ≤ 32) factor_wanted give_factor old new r e same (λ h deep. bad_along e new _ _ (takes old mid _ [] (factor_depth h) (factor_wanted h) (factor_negative h) t deep refl) (bad_number (part.Operand ∷ []) (factor_depth h) (factor_negative h) mid new e deep (λ n. (give_factor (negative n) h, refl)) (λ none. stuck mid (factor_negative h) refl (λ x head. only_number h x (head_no_number mid.left x head none))) b))
+    refused expression_view factor_tree (λ h. factor_depth h ≤ 32) factor_wanted give_factor old new
+    r e same (λ h deep. bad_along e new _ _
+    (takes old mid _ [] (factor_depth h) (factor_wanted h) (factor_negative h) t deep refl)
+    (bad_number (part.Operand ∷ []) (factor_depth h) (factor_negative h) mid new e deep
+    (λ n. (give_factor (negative n) h, refl))
+    (λ none. stuck mid (factor_negative h) refl
+    (λ x head. only_number h x (head_no_number mid.left x head none))) b))
 
-pub bad_constant : (old mid new : Spot) (r : Result (Expression Name) ParseError) (e : ParseError) → r ≡ Err e → mid ≡ old → NoName old.left → No (additive Minus) old → No (sign s.Open) old → ReadsNumber (part.Operand ∷ []) mid new (Err e) → ReadsOperand old new r
+pub bad_constant : (old mid new : Spot) (r : Result (Expression Name) ParseError) (e : ParseError)
+    → r ≡ Err e → mid ≡ old → NoName old.left → No (additive Minus) old → No (sign s.Open) old
+    → ReadsNumber (part.Operand ∷ []) mid new (Err e) → ReadsOperand old new r
 bad_constant old mid new r e same here no_name no_minus no_open b =
     let number_bad = subst (λ s. ReadsNumber (part.Operand ∷ []) s new (Err e)) here b in
-    refused expression_view factor_tree (λ h. factor_depth h ≤ 32) factor_wanted give_factor old new r e same (λ h deep. bad_number (part.Operand ∷ []) (factor_depth h) (factor_wanted h) old new e deep (λ n. (give_factor (constant n) h, refl)) (λ none. stuck old (factor_wanted h) refl (λ x head. no_factor h x (head_no_name old.left x head no_name) (head_no_number old.left x head none) (λ q. no_minus (head ∙ ap Some q)) (λ q. no_open (head ∙ ap Some q)))) number_bad)
+    refused expression_view factor_tree (λ h. factor_depth h ≤ 32) factor_wanted give_factor old new
+    r e same (λ h deep. bad_number (part.Operand ∷ []) (factor_depth h) (factor_wanted h) old
+    new e deep (λ n. (give_factor (constant n) h, refl))
+    (λ none. stuck old (factor_wanted h) refl
+    (λ x head. no_factor h x (head_no_name old.left x head no_name)
+    (head_no_number old.left x head none) (λ q. no_minus (head ∙ ap Some q))
+    (λ q. no_open (head ∙ ap Some q)))) number_bad)
 
 -- expressions
-pub read_parens : (old a b new : Spot) (d : ℕ) (x : Expression Name) → Takes old a (sign s.Open) [] → d < 32 → ReadsExpr (d + 1) a b (Ok x) → Takes b new (sign s.Close) [] → ReadsFactor d old new (Ok x)
-read_parens old a b new d x opened deep r closed =
-    (parens r.0, r.1, λ h q. takes old a _ [] (factor_depth h + 1) (factor_wanted h) (factor_wanted (first_factor (first_term (in_parens h)))) opened (omega arith) refl ∙ r.2 (in_parens h) (ap (λ m. m + 1) q) ∙ takes b new _ [] (factor_depth h + 1) (expr_had r.0 (in_parens h)) (give_factor (parens r.0) h) closed (omega arith) (parens_close r.0 h))
+pub read_parens : (old a b new : Spot) (d : ℕ) (x : Expression Name) → Takes old a (sign s.Open) []
+    → d < 32 → ReadsExpr (d + 1) a b (Ok x) → Takes b new (sign s.Close) []
+    → ReadsFactor d old new (Ok x)
+read_parens old a b new d x opened deep r closed = (
+  parens r.0,
+  r.1,
+  λ h q.
+      takes old a _ [] (factor_depth h + 1) (factor_wanted h)
+      (factor_wanted (first_factor (first_term (in_parens h)))) opened (omega arith) refl
+      ∙ r.2 (in_parens h) (ap (λ m. m + 1) q)
+      ∙ takes b new _ [] (factor_depth h + 1) (expr_had r.0 (in_parens h))
+      (give_factor (parens r.0) h) closed (omega arith) (parens_close r.0 h),
+)
 
-pub one_more_factor : (before : TermHole → Verdict) (old mid new : Spot) (d : ℕ) (a b x y : Expression Name) → ((t : Term) × (term_tree t ≡ expression_view a) × ((h : TermHole) → term_depth h ≡ d → before h ≡ verdict old (term_had t h))) → Takes old mid (sign s.Star) [] → d ≤ 32 → b ≡ a → y ≡ x → ReadsFactor d mid new (Ok x) → (t : Term) × (term_tree t ≡ tree.mul (expression_view b) (expression_view y)) × ((h : TermHole) → term_depth h ≡ d → before h ≡ verdict new (term_had t h))
-one_more_factor before old mid new d a b x y so_far star deep eb ey r =
-    (times so_far.0 r.0, ap (λ z. tree.mul z (factor_tree r.0)) (so_far.1 ∙ ap expression_view (sym eb)) ∙ ap (tree.mul (expression_view b)) (r.1 ∙ ap expression_view (sym ey)), λ h q. so_far.2 h q ∙ takes old mid _ [] (term_depth h) (term_had so_far.0 h) (factor_wanted (next_factor so_far.0 h)) star (omega arith) refl ∙ r.2 (next_factor so_far.0 h) q)
+pub one_more_factor : (before : TermHole → Verdict) (old mid new : Spot) (d : ℕ)
+    (a b x y : Expression Name)
+    → ((t : Term) × (term_tree t ≡ expression_view a)
+    × ((h : TermHole) → term_depth h ≡ d → before h ≡ verdict old (term_had t h)))
+    → Takes old mid (sign s.Star) [] → d ≤ 32 → b ≡ a → y ≡ x → ReadsFactor d mid new (Ok x)
+    → (t : Term) × (term_tree t ≡ tree.mul (expression_view b) (expression_view y))
+    × ((h : TermHole) → term_depth h ≡ d → before h ≡ verdict new (term_had t h))
+one_more_factor before old mid new d a b x y so_far star deep eb ey r = (
+  times so_far.0 r.0,
+  ap (λ z. tree.mul z (factor_tree r.0))
+      (so_far.1 ∙ ap expression_view (sym eb))
+      ∙ ap (tree.mul (expression_view b)) (r.1 ∙ ap expression_view (sym ey)),
+  λ h q. so_far.2 h q ∙ takes old mid _ [] (term_depth h) (term_had so_far.0 h)
+      (factor_wanted (next_factor so_far.0 h)) star (omega arith) refl
+      ∙ r.2 (next_factor so_far.0 h) q,
+)
 
-pub one_more_term : (before : ExprHole → Verdict) (old mid new : Spot) (d : ℕ) (a x z : Expression Name) (q : Additive) → ((e : Expr) × (expr_tree e ≡ expression_view a) × ((h : ExprHole) → expr_depth h ≡ d → before h ≡ verdict old (expr_had e h))) → Takes old mid (additive q) [] → d ≤ 32 → expression_view z ≡ sum_or_difference q (expression_view a) (expression_view x) → ReadsTerm d mid new (Ok x) → (e : Expr) × (expr_tree e ≡ expression_view z) × ((h : ExprHole) → expr_depth h ≡ d → before h ≡ verdict new (expr_had e h))
-one_more_term before old mid new d a x z q so_far sign_taken deep ez r =
-    (joined so_far.0 q r.0, ap (λ u. sum_or_difference q u (term_tree r.0)) so_far.1 ∙ ap (sum_or_difference q (expression_view a)) r.1 ∙ sym ez, λ h e. so_far.2 h e ∙ takes old mid _ [] (expr_depth h) (expr_had so_far.0 h) (factor_wanted (first_factor (next_term so_far.0 q h))) sign_taken (omega arith) (expr_joins so_far.0 h q) ∙ r.2 (next_term so_far.0 q h) e)
+pub one_more_term : (before : ExprHole → Verdict) (old mid new : Spot) (d : ℕ)
+    (a x z : Expression Name) (q : Additive)
+    → ((e : Expr) × (expr_tree e ≡ expression_view a)
+    × ((h : ExprHole) → expr_depth h ≡ d → before h ≡ verdict old (expr_had e h)))
+    → Takes old mid (additive q) [] → d ≤ 32
+    → expression_view z ≡ sum_or_difference q (expression_view a) (expression_view x)
+    → ReadsTerm d mid new (Ok x)
+    → (e : Expr) × (expr_tree e ≡ expression_view z)
+    × ((h : ExprHole) → expr_depth h ≡ d → before h ≡ verdict new (expr_had e h))
+one_more_term before old mid new d a x z q so_far sign_taken deep ez r = (
+  plus_or_minus so_far.0 q r.0,
+  ap (λ u. sum_or_difference q u (term_tree r.0)) so_far.1
+      ∙ ap (sum_or_difference q (expression_view a)) r.1 ∙ sym ez,
+  λ h e. so_far.2 h e ∙ takes old mid _ [] (expr_depth h) (expr_had so_far.0 h)
+      (factor_wanted (first_factor (next_term so_far.0 q h))) sign_taken (omega arith)
+      (expr_joins so_far.0 h q) ∙ r.2 (next_term so_far.0 q h) e,
+)
 
 -- whether a nesting was opened
-pub opened : (x : Symbol) (ps : List Part) (d : ℕ) (old new : Spot) (b : Bool) → b ≡ true → Nests x ps d old new (Ok b) → (d < 32) × Takes old new x ps
+pub opened : (x : Symbol) (ps : List Part) (d : ℕ) (old new : Spot) (b : Bool) → b ≡ true
+    → Nests x ps d old new (Ok b) → (d < 32) × Takes old new x ps
 opened x ps d old new true e n = n
 opened x ps d old new false e n = cc
 
-pub not_opened : (x : Symbol) (ps : List Part) (d : ℕ) (old new : Spot) (b : Bool) → b ≡ false → Nests x ps d old new (Ok b) → No x old × (new ≡ old)
+pub not_opened : (x : Symbol) (ps : List Part) (d : ℕ) (old new : Spot) (b : Bool) → b ≡ false
+    → Nests x ps d old new (Ok b) → No x old × (new ≡ old)
 not_opened x ps d old new true e n = cc
 not_opened x ps d old new false e n = n
 
 -- the same from a state that reads the next symbol alike
-pub same_from : (old : Spot) (from other : State) → at_end from ≡ at_end other → ((x : Symbol) → head_of old.left ≡ Some x → step from x ≡ step other x) → verdict old from ≡ verdict old other
+pub same_from : (old : Spot) (from other : ParserState) → query_at_end from ≡ query_at_end other
+    → ((x : Symbol) → head_of old.left ≡ Some x → next_step from x ≡ next_step other x)
+    → verdict old from ≡ verdict old other
 same_from old from other ends_alike steps_alike = by_left old.left steps_alike
   where
-    by_left : (left : List Symbol) → ((x : Symbol) → head_of left ≡ Some x → step from x ≡ step other x) → run left from old.counts ≡ run left other old.counts
+    by_left : (left : List Symbol)
+        → ((x : Symbol) → head_of left ≡ Some x → next_step from x ≡ next_step other x)
+        → run left from old.counts ≡ run left other old.counts
     by_left [] f = ap ends ends_alike
-    by_left (x ∷ xs) f = ap (λ o. after o old.counts (x ∷ xs) (run xs)) (f x refl)
+    by_left (x ∷ xs) f = ap (λ o. verdict_after o old.counts (x ∷ xs) (run xs)) (f x refl)
 
 -- the same from a spot and a state before
-pub along : {A T P H : Type 0} (view : A → T) (tree : P → T) (IsHole : H → Type 0) (wanted other : H → State) (given : P → H → State) (old mid new : Spot) (r : Result A ParseError) → ((h : H) → IsHole h → verdict old (wanted h) ≡ verdict mid (other h)) → ReadsPhrase view tree IsHole other given mid new r → ReadsPhrase view tree IsHole wanted given old new r
-along view tree IsHole wanted other given old mid new (Ok x) f r = (r.0, r.1, λ h q. f h q ∙ r.2 h q)
-along view tree IsHole wanted other given old mid new (Err e) f b = λ h q. bad_along e new _ _ (f h q) (b h q)
+pub along : {A T P H : Type 0} (view : A → T) (tree : P → T) (IsHole : H → Type 0)
+    (wanted other : H → ParserState) (given : P → H → ParserState) (old mid new : Spot)
+    (r : Result A ParseError)
+    → ((h : H) → IsHole h → verdict old (wanted h) ≡ verdict mid (other h))
+    → ReadsPhrase view tree IsHole other given mid new r
+    → ReadsPhrase view tree IsHole wanted given old new r
+along view tree IsHole wanted other given old mid new (Ok x) f r =
+    (r.0, r.1, λ h q. f h q ∙ r.2 h q)
+along view tree IsHole wanted other given old mid new (Err e) f b =
+    λ h q. bad_along e new _ _ (f h q) (b h q)

@@ -1,5 +1,6 @@
 -- The readers of the lexer read what begins at a place.
-use Rattle.std.proofs.Common.{None, ◌≡◌, ◌∙◌, ◌↔◌, ℕ, Bool, true, false, List, [], ◌∷◌, IsTrue, nat_eq, refl, sym, ap, subst, ◌+◌, ◌<◌, ◌≤◌, ◌-◌, arith, length, drop, take, zero, suc, Result, Ok, Err, ◌++◌, append_assoc, append-nil, drop-drop}
+use Rattle.std.proofs.Common.{None, ◌≡◌, ◌∙◌, ◌↔◌, ℕ, Bool, true, false, List, [], ◌∷◌, IsTrue, nat_eq, refl, sym, ap, subst, ◌+◌, ◌<◌, ◌≤◌}
+use Rattle.std.proofs.Common.{◌-◌, arith, length, drop, take, zero, suc, Result, Ok, Err, ◌++◌, append_assoc, append-nil, drop-drop}
 use Rattle.std.specs.Cmp.Lexicographic.{pointwise, same_text}
 use Rattle.std.proofs.lemmas.Bool.{and_from, eq-eqb, le-leb, lt-ltb, ltb-false, ltb-true, or_right}
 use Rattle.star_query.specs.declared.token.Word.{Word}
@@ -32,15 +33,18 @@ pointwise_self (x ∷ xs) = rw (eq-eqb x x refl) (pointwise_self xs)
 
 -- a test of equal texts is the test by bytes
 by_bytes : (b : Bool) (xs ys : List ℕ) → (IsTrue b ↔ (xs ≡ ys)) → b ≡ pointwise nat_eq xs ys
-by_bytes true xs ys e = sym (subst (λ zs. pointwise nat_eq xs zs ≡ true) (e.0 refl) (pointwise_self xs))
+by_bytes true xs ys e = sym
+    (subst (λ zs. pointwise nat_eq xs zs ≡ true) (e.0 refl) (pointwise_self xs))
 by_bytes false xs ys e = by_test (pointwise nat_eq xs ys) refl
   where
     by_test : (c : Bool) → pointwise nat_eq xs ys ≡ c → false ≡ pointwise nat_eq xs ys
     by_test true q = let h : false ≡ true = e.1 (same_text xs ys (sym q)) in cc
     by_test false q = sym q
 
-pub spelled : (w : Word) (word : List ℕ) (b : Bool) → (IsTrue b ↔ (lowered (spelling w) ≡ lowered word)) → b ≡ is_spelled word w
-spelled w word b e = by_bytes b (spelling w) (lowered word) (subst (λ xs. IsTrue b ↔ (xs ≡ lowered word)) (lowered-spelling w) e)
+pub spelled : (w : Word) (word : List ℕ) (b : Bool)
+    → (IsTrue b ↔ (lowered (spelling w) ≡ lowered word)) → b ≡ is_spelled word w
+spelled w word b e = by_bytes b (spelling w) (lowered word)
+    (subst (λ xs. IsTrue b ↔ (xs ≡ lowered word)) (lowered-spelling w) e)
 
 pub prefix_within : {X : Type 0} (p : X → Bool) (xs : List X) → prefix_len p xs ≤ length xs
 prefix_within p xs = prefix_len-le-length p xs
@@ -49,94 +53,138 @@ pub prefix_passes : (p : ℕ → Bool) (xs : List ℕ) → list_all p (take (pre
 prefix_passes p [] = refl
 prefix_passes p (x ∷ xs) = go (p x) refl (prefix_passes p xs)
   where
-    go : (b : Bool) → p x ≡ b → list_all p (take (prefix_len p xs) xs) ≡ true → list_all p (take (prefix_len p (x ∷ xs)) (x ∷ xs)) ≡ true
-    go true h rest = let one : 1 + prefix_len p xs ≡ suc (prefix_len p xs) = omega arith in rw (h, one) (and_from _ _ h rest)
+    go : (b : Bool) → p x ≡ b → list_all p (take (prefix_len p xs) xs) ≡ true
+        → list_all p (take (prefix_len p (x ∷ xs)) (x ∷ xs)) ≡ true
+    go true h rest = let one : 1 + prefix_len p xs ≡ suc (prefix_len p xs) = omega arith in
+        rw (h, one) (and_from _ _ h rest)
     go false h rest = rw h refl
 
 -- the cut goes on behind what lies inside a token
-skipped : (place inside : ℕ) (bytes : List ℕ) → cut_from place inside bytes ≡ cut_from (place + inside) 0 (drop inside bytes)
+skipped : (place inside : ℕ) (bytes : List ℕ)
+    → cut_from place inside bytes ≡ cut_from (place + inside) 0 (drop inside bytes)
 unfolding cut_from
-skipped place zero bytes = ap (λ p. cut_from p 0 bytes) (let e : place ≡ place + 0 = omega arith in e)
+skipped place zero bytes =
+    ap (λ p. cut_from p 0 bytes) (let e : place ≡ place + 0 = omega arith in e)
 skipped place (suc n) [] = refl
-skipped place (suc n) (b ∷ bs) = skipped (place + 1) n bs ∙ ap (λ p. cut_from p 0 (drop n bs)) (let e : place + 1 + n ≡ place + suc n = omega arith in e)
+skipped place (suc n) (b ∷ bs) =
+    skipped (place + 1) n bs
+    ∙ ap (λ p. cut_from p 0 (drop n bs)) (let e : place + 1 + n ≡ place + suc n = omega arith in e)
 
-pub cut_token : (place : ℕ) (bytes : List ℕ) (x : Symbol) (width : ℕ) → front_piece place bytes ≡ token x width → 1 ≤ width → cut_from place 0 bytes ≡ put_in_front (record { symbol = x; place = place }) (cut_from (place + width) 0 (drop width bytes))
+pub cut_token : (place : ℕ) (bytes : List ℕ) (x : Symbol) (width : ℕ)
+    → front_piece place bytes ≡ token x width → 1 ≤ width
+    → cut_from place 0 bytes
+    ≡ put_in_front (record { symbol = x; place = place })
+    (cut_from (place + width) 0 (drop width bytes))
 unfolding cut_from
 cut_token place [] x width e some = cc
 cut_token place (b ∷ bs) x zero e some = absurd (omega arith)
 cut_token place (b ∷ bs) x (suc w) e some =
     let one_less : suc w - 1 ≡ w = omega arith in
-    rw (e, one_less) (ap (put_in_front (record { symbol = x; place = place })) (skipped (place + 1) w bs ∙ ap (λ p. cut_from p 0 (drop w bs)) (let e : place + 1 + w ≡ place + suc w = omega arith in e)))
+    rw (e, one_less) (ap (put_in_front (record { symbol = x; place = place }))
+    (skipped (place + 1) w bs
+    ∙ ap (λ p. cut_from p 0 (drop w bs))
+    (let e : place + 1 + w ≡ place + suc w = omega arith in e)))
 
-pub cut_blank : (place : ℕ) (bytes : List ℕ) → front_piece place bytes ≡ blank → cut_from place 0 bytes ≡ cut_from (place + 1) 0 (drop 1 bytes)
+pub cut_blank : (place : ℕ) (bytes : List ℕ) → front_piece place bytes ≡ blank
+    → cut_from place 0 bytes ≡ cut_from (place + 1) 0 (drop 1 bytes)
 unfolding cut_from
 cut_blank place [] e = refl
 cut_blank place (b ∷ bs) e = rw e refl
 
-pub cut_bad : (place : ℕ) (bytes : List ℕ) (fault : QueryFault) → front_piece place bytes ≡ bad fault → cut_from place 0 bytes ≡ Err fault
+pub cut_bad : (place : ℕ) (bytes : List ℕ) (fault : QueryFault)
+    → front_piece place bytes ≡ bad fault → cut_from place 0 bytes ≡ Err fault
 unfolding cut_from
 cut_bad place [] fault e = cc
 cut_bad place (b ∷ bs) fault e = rw e refl
 
 -- one more token
-pub with_one_more : (so_far : List Placed) (t : Placed) (rest : Result (List Placed) QueryFault) → with_tokens so_far (put_in_front t rest) ≡ with_tokens (so_far ++ t ∷ []) rest
+pub with_one_more : (so_far : List Placed) (t : Placed) (rest : Result (List Placed) QueryFault)
+    → with_tokens so_far (put_in_front t rest) ≡ with_tokens (so_far ++ t ∷ []) rest
 with_one_more so_far t (Ok ts) = ap Ok (sym (append_assoc so_far (t ∷ []) ts))
 with_one_more so_far t (Err e) = refl
 
-pub one_more_token : (bytes : List ℕ) (place : ℕ) (so_far : List Placed) (x : Symbol) (width : ℕ) → cut_of bytes ≡ with_tokens so_far (cut_from place 0 (drop place bytes)) → front_piece place (drop place bytes) ≡ token x width → 1 ≤ width → cut_of bytes ≡ with_tokens (so_far ++ record { symbol = x; place = place } ∷ []) (cut_from (place + width) 0 (drop (place + width) bytes))
+pub one_more_token : (bytes : List ℕ) (place : ℕ) (so_far : List Placed) (x : Symbol) (width : ℕ)
+    → cut_of bytes ≡ with_tokens so_far (cut_from place 0 (drop place bytes))
+    → front_piece place (drop place bytes) ≡ token x width → 1 ≤ width
+    → cut_of bytes ≡ with_tokens (so_far ++ record { symbol = x; place = place } ∷ [])
+    (cut_from (place + width) 0 (drop (place + width) bytes))
 one_more_token bytes place so_far x width before front some =
-    before ∙ ap (with_tokens so_far) (cut_token place (drop place bytes) x width front some) ∙ with_one_more so_far _ _ ∙ ap (λ rest. with_tokens (so_far ++ record { symbol = x; place = place } ∷ []) (cut_from (place + width) 0 rest)) (drop-drop width place bytes)
+    before ∙ ap (with_tokens so_far) (cut_token place (drop place bytes) x width front some)
+    ∙ with_one_more so_far _ _
+    ∙ ap (λ rest. with_tokens (so_far ++ record { symbol = x; place = place } ∷ [])
+    (cut_from (place + width) 0 rest)) (drop-drop width place bytes)
 
-pub one_more_blank : (bytes : List ℕ) (place : ℕ) (so_far : List Placed) → cut_of bytes ≡ with_tokens so_far (cut_from place 0 (drop place bytes)) → front_piece place (drop place bytes) ≡ blank → cut_of bytes ≡ with_tokens so_far (cut_from (place + 1) 0 (drop (place + 1) bytes))
+pub one_more_blank : (bytes : List ℕ) (place : ℕ) (so_far : List Placed)
+    → cut_of bytes ≡ with_tokens so_far (cut_from place 0 (drop place bytes))
+    → front_piece place (drop place bytes) ≡ blank
+    → cut_of bytes ≡ with_tokens so_far (cut_from (place + 1) 0 (drop (place + 1) bytes))
 one_more_blank bytes place so_far before front =
-    before ∙ ap (with_tokens so_far) (cut_blank place (drop place bytes) front) ∙ ap (λ rest. with_tokens so_far (cut_from (place + 1) 0 rest)) (drop-drop 1 place bytes)
+    before ∙ ap (with_tokens so_far) (cut_blank place (drop place bytes) front)
+    ∙ ap (λ rest. with_tokens so_far (cut_from (place + 1) 0 rest)) (drop-drop 1 place bytes)
 
-pub first_bad : (bytes : List ℕ) (place : ℕ) (so_far : List Placed) (fault : QueryFault) → cut_of bytes ≡ with_tokens so_far (cut_from place 0 (drop place bytes)) → front_piece place (drop place bytes) ≡ bad fault → cut_of bytes ≡ Err fault
-first_bad bytes place so_far fault before front = before ∙ ap (with_tokens so_far) (cut_bad place (drop place bytes) fault front)
+pub first_bad : (bytes : List ℕ) (place : ℕ) (so_far : List Placed) (fault : QueryFault)
+    → cut_of bytes ≡ with_tokens so_far (cut_from place 0 (drop place bytes))
+    → front_piece place (drop place bytes) ≡ bad fault → cut_of bytes ≡ Err fault
+first_bad bytes place so_far fault before front =
+    before ∙ ap (with_tokens so_far) (cut_bad place (drop place bytes) fault front)
 
-pub all_cut : (bytes : List ℕ) (place : ℕ) (so_far : List Placed) → cut_of bytes ≡ with_tokens so_far (cut_from place 0 (drop place bytes)) → length bytes ≤ place → cut_of bytes ≡ Ok so_far
+pub all_cut : (bytes : List ℕ) (place : ℕ) (so_far : List Placed)
+    → cut_of bytes ≡ with_tokens so_far (cut_from place 0 (drop place bytes)) → length bytes ≤ place
+    → cut_of bytes ≡ Ok so_far
 unfolding cut_from
-all_cut bytes place so_far before whole = before ∙ rw (drop_all place bytes whole) (ap Ok (append-nil so_far))
+all_cut bytes place so_far before whole =
+    before ∙ rw (drop_all place bytes whole) (ap Ok (append-nil so_far))
 
-pub word_some : (bytes : List ℕ) → begins_with_letter bytes ≡ true → 1 ≤ prefix_len is_word_byte bytes
+pub word_some : (bytes : List ℕ) → begins_with_letter bytes ≡ true
+    → 1 ≤ prefix_len is_word_byte bytes
 word_some [] e = cc
 word_some (b ∷ bs) e = rw e (omega arith)
 
-pub number_some : (bytes : List ℕ) → begins_with_digit bytes ≡ true → 1 ≤ prefix_len is_ascii_digit bytes
+pub number_some : (bytes : List ℕ) → begins_with_digit bytes ≡ true
+    → 1 ≤ prefix_len is_ascii_digit bytes
 number_some [] e = cc
 number_some (b ∷ bs) e = rw e (omega arith)
 
 -- ---- numbers
 
 -- the digits at the front are a numeral, unless there are more than 19
-front_numeral : (bytes : List ℕ) → begins_with_digit bytes ≡ true → prefix_len is_ascii_digit bytes ≤ 19
+front_numeral : (bytes : List ℕ) → begins_with_digit bytes ≡ true
+    → prefix_len is_ascii_digit bytes ≤ 19
     → is_numeral 19 (take (prefix_len is_ascii_digit bytes) bytes) ≡ true
 front_numeral bytes begins few =
     let digits = take (prefix_len is_ascii_digit bytes) bytes in
-    let many : length digits ≡ prefix_len is_ascii_digit bytes = length-prefix_len is_ascii_digit bytes in
+    let many : length digits ≡ prefix_len is_ascii_digit bytes =
+    length-prefix_len is_ascii_digit bytes in
     let some = number_some bytes begins in
-    and_from _ _ (and_from _ _ (le-leb 1 (length digits) (omega (arith, many, some))) (le-leb (length digits) 19 (omega (arith, many, few))))
+    and_from _ _ (and_from _ _ (le-leb 1 (length digits) (omega (arith, many, some)))
+    (le-leb (length digits) 19 (omega (arith, many, few))))
     (prefix_passes is_ascii_digit bytes)
 
-pub number_long : (place : ℕ) (bytes : List ℕ) → 18 < prefix_len is_ascii_digit bytes → number_piece place bytes ≡ bad (BadNumber place)
+pub number_long : (place : ℕ) (bytes : List ℕ) → 18 < prefix_len is_ascii_digit bytes
+    → number_piece place bytes ≡ bad (BadNumber place)
 number_long place bytes long = rw (lt-ltb 18 (prefix_len is_ascii_digit bytes) long) refl
 
-pub number_followed : (place : ℕ) (bytes : List ℕ) → begins_with_letter (drop (prefix_len is_ascii_digit bytes) bytes) ≡ true
+pub number_followed : (place : ℕ) (bytes : List ℕ)
+    → begins_with_letter (drop (prefix_len is_ascii_digit bytes) bytes) ≡ true
     → number_piece place bytes ≡ bad (BadNumber place)
-number_followed place bytes letter = rw (or_right (nat_lt 18 (prefix_len is_ascii_digit bytes)) _ letter) refl
+number_followed place bytes letter =
+    rw (or_right (nat_lt 18 (prefix_len is_ascii_digit bytes)) _ letter) refl
 
 -- too many digits for any number
 pub number_too_long : (place : ℕ) (bytes : List ℕ) → begins_with_digit bytes ≡ true
-    → numeral_of 19 (take (prefix_len is_ascii_digit bytes) bytes) ≡ None → number_piece place bytes ≡ bad (BadNumber place)
+    → numeral_of 19 (take (prefix_len is_ascii_digit bytes) bytes) ≡ None
+    → number_piece place bytes ≡ bad (BadNumber place)
 number_too_long place bytes begins none = go (nat_lt 18 (prefix_len is_ascii_digit bytes)) refl
   where
-    go : (b : Bool) → nat_lt 18 (prefix_len is_ascii_digit bytes) ≡ b → number_piece place bytes ≡ bad (BadNumber place)
+    go : (b : Bool) → nat_lt 18 (prefix_len is_ascii_digit bytes) ≡ b
+        → number_piece place bytes ≡ bad (BadNumber place)
     go true long = number_long place bytes (ltb-true 18 (prefix_len is_ascii_digit bytes) long)
     go false short =
         let few = ltb-false 18 (prefix_len is_ascii_digit bytes) short in
         absurd (let wrong = rw (front_numeral bytes begins (omega (arith, few))) at none in cc)
 
-pub fault_of_cut : (bytes : List ℕ) (fault : QueryFault) → cut_of bytes ≡ Err fault → IsCutFault bytes fault
+pub fault_of_cut : (bytes : List ℕ) (fault : QueryFault) → cut_of bytes ≡ Err fault
+    → IsCutFault bytes fault
 fault_of_cut bytes OutOfMemory e = tt
 fault_of_cut bytes TooLong e = e
 fault_of_cut bytes _ e = e

@@ -22,7 +22,8 @@ use Rattle.star_query.specs.Private.Clauses.{ReadsQuery}
 use Rattle.star_query.specs.Private.TokenFaults.{TokensStopAt, IsTokenFault, refusal_of, query_fault, IsTreeRead}
 use Rattle.star_query.proofs.Verdicts.{verdict_of, derives, one_tree, first_fault, refuses}
 
-pub spot_symbols : (ts : List Token) → map (λ t. symbol_of t.kind t.place) ts ≡ symbols (map placed ts)
+pub spot_symbols : (ts : List Token)
+    → map (λ t. symbol_of t.kind t.place) ts ≡ symbols (map placed ts)
 spot_symbols [] = refl
 spot_symbols (t ∷ ts) = ap (λ l. symbol_of t.kind t.place ∷ l) (spot_symbols ts)
 
@@ -41,27 +42,41 @@ drop_front [] ys = refl
 drop_front (x ∷ xs) ys = drop_front xs ys
 
 -- what is left has its place by its length
-left_over : (tokens : List Placed) (front left : List Symbol) → symbols tokens ≡ front ++ left → symbols (drop (length tokens - length left) tokens) ≡ left
+left_over : (tokens : List Placed) (front left : List Symbol) → symbols tokens ≡ front ++ left
+    → symbols (drop (length tokens - length left) tokens) ≡ left
 left_over tokens front left e =
-    let count : length tokens - length left ≡ length front = omega (arith, ap length e, length-map tokens (λ t. t.symbol), length-append front left) in
-    map_drop (λ t. t.symbol) (length tokens - length left) tokens ∙ ap (drop (length tokens - length left)) e ∙ ap (λ n. drop n (front ++ left)) count ∙ drop_front front left
+    let count : length tokens - length left ≡ length front =
+    omega (arith, ap length e, length-map tokens (λ t. t.symbol), length-append front left) in
+    map_drop (λ t. t.symbol) (length tokens - length left) tokens
+    ∙ ap (drop (length tokens - length left)) e ∙ ap (λ n. drop n (front ++ left)) count
+    ∙ drop_front front left
 
-stops_at : (tokens : List Placed) (f : Fault) (left : List Symbol) → verdict_of (symbols tokens) ≡ Bad f left → TokensStopAt tokens f (drop (length tokens - length left) tokens)
+stops_at : (tokens : List Placed) (f : Fault) (left : List Symbol)
+    → verdict_of (symbols tokens) ≡ Bad f left
+    → TokensStopAt tokens f (drop (length tokens - length left) tokens)
 stops_at tokens f left e =
     let first = first_fault (symbols tokens) f left e in
     let n = length tokens - length left in
     record {
       front = take n tokens;
       cut = take_drop n tokens;
-      first = subst (FirstQueryFault (symbols tokens) f) (sym (left_over tokens (symbols_at first.front) left first.cut)) first;
+      first = subst (FirstQueryFault (symbols tokens) f)
+          (sym (left_over tokens (symbols_at first.front) left first.cut)) first;
     }
 
-pub token_fault : (tokens : List Placed) (f : Fault) (left : List Symbol) (place end : ℕ) → verdict_of (symbols tokens) ≡ Bad f left → place ≡ first_place (drop (length tokens - length left) tokens) end → IsTokenFault tokens end (refusal_of f place)
-token_fault tokens Unexpected left place end e at = (drop (length tokens - length left) tokens, stops_at tokens Unexpected left e, at)
-token_fault tokens TooDeep left place end e at = (drop (length tokens - length left) tokens, stops_at tokens TooDeep left e)
-token_fault tokens TooMany left place end e at = (drop (length tokens - length left) tokens, stops_at tokens TooMany left e)
+pub token_fault : (tokens : List Placed) (f : Fault) (left : List Symbol) (place end : ℕ)
+    → verdict_of (symbols tokens) ≡ Bad f left
+    → place ≡ first_place (drop (length tokens - length left) tokens) end
+    → IsTokenFault tokens end (refusal_of f place)
+token_fault tokens Unexpected left place end e at =
+    (drop (length tokens - length left) tokens, stops_at tokens Unexpected left e, at)
+token_fault tokens TooDeep left place end e at =
+    (drop (length tokens - length left) tokens, stops_at tokens TooDeep left e)
+token_fault tokens TooMany left place end e at =
+    (drop (length tokens - length left) tokens, stops_at tokens TooMany left e)
 
-pub no_tree : (xs : List Symbol) (f : Fault) (left : List Symbol) (place : ℕ) (t : tree.Tree) → verdict_of xs ≡ Bad f left → Derives xs t → IsTreeRead t (Err (refusal_of f place))
+pub no_tree : (xs : List Symbol) (f : Fault) (left : List Symbol) (place : ℕ) (t : tree.Tree)
+    → verdict_of xs ≡ Bad f left → Derives xs t → IsTreeRead t (Err (refusal_of f place))
 no_tree xs Unexpected left place t e d = refuses xs Unexpected left t e d
 no_tree xs TooDeep left place t e d = refuses xs TooDeep left t e d
 no_tree xs TooMany left place t e d = refuses xs TooMany left t e d
@@ -73,49 +88,83 @@ cut_is_cut a b c e f = let same : the_ok a ≡ the_ok b = sym e ∙ f in cc
     the_ok ts = Ok ts
 
 -- the text means a tree of its tokens
-pub meant : (bytes : List ℕ) (tokens : List Placed) (t : tree.Tree) → cut_of bytes ≡ Ok tokens → Means bytes t → Derives (symbols tokens) t
+pub meant : (bytes : List ℕ) (tokens : List Placed) (t : tree.Tree) → cut_of bytes ≡ Ok tokens
+    → Means bytes t → Derives (symbols tokens) t
 meant bytes tokens t cut m =
-    subst (λ ts. Derives (symbols ts) t) (cut_is_cut m.tokens tokens (cut_of bytes) m.cut cut) m.derives
+    subst (λ ts. Derives (symbols ts) t) (cut_is_cut m.tokens tokens (cut_of bytes) m.cut cut)
+    m.derives
 
-fresh : (ts : List Token) (n : Counts) → n ≡ nothing_counted → run (map (λ t. symbol_of t.kind t.place) ts) begin n ≡ verdict_of (symbols (map placed ts))
+fresh : (ts : List Token) (n : Counts) → n ≡ nothing_counted
+    → run (map (λ t. symbol_of t.kind t.place) ts) begin n ≡ verdict_of (symbols (map placed ts))
 fresh ts n e =
-    ap (run (map (λ t. symbol_of t.kind t.place) ts) begin) e ∙ ap (λ l. run l begin nothing_counted) (spot_symbols ts)
+    ap (run (map (λ t. symbol_of t.kind t.place) ts) begin) e
+    ∙ ap (λ l. run l begin nothing_counted) (spot_symbols ts)
 
 -- what the parser of tokens read
-pub tokens_derive : (ts : List Token) (n : Counts) (new : Spot) (t : Tree) → n ≡ nothing_counted → ReadsQuery (record { left = map (λ t. symbol_of t.kind t.place) ts; counts = n }) new (Ok t) → Derives (symbols (map placed ts)) (tree_view t)
+pub tokens_derive : (ts : List Token) (n : Counts) (new : Spot) (t : Tree) → n ≡ nothing_counted
+    → ReadsQuery (record { left = map (λ t. symbol_of t.kind t.place) ts; counts = n }) new (Ok t)
+    → Derives (symbols (map placed ts)) (tree_view t)
 tokens_derive ts n new t e reads =
-    subst (Derives (symbols (map placed ts))) reads.1 (derives (symbols (map placed ts)) reads.0 (sym (fresh ts n e) ∙ reads.2))
+    subst (Derives (symbols (map placed ts))) reads.1
+    (derives (symbols (map placed ts)) reads.0 (sym (fresh ts n e) ∙ reads.2))
 
-pub tokens_read : (ts : List Token) (n : Counts) (new : Spot) (t : Tree) → n ≡ nothing_counted → ReadsQuery (record { left = map (λ t. symbol_of t.kind t.place) ts; counts = n }) new (Ok t) → (u : tree.Tree) → Derives (symbols (map placed ts)) u → tree_view t ≡ u
-tokens_read ts n new t e reads u d = one_tree (symbols (map placed ts)) (tree_view t) u (tokens_derive ts n new t e reads) d
+pub tokens_read : (ts : List Token) (n : Counts) (new : Spot) (t : Tree) → n ≡ nothing_counted
+    → ReadsQuery (record { left = map (λ t. symbol_of t.kind t.place) ts; counts = n }) new (Ok t)
+    → (u : tree.Tree) → Derives (symbols (map placed ts)) u → tree_view t ≡ u
+tokens_read ts n new t e reads u d =
+    one_tree (symbols (map placed ts)) (tree_view t) u (tokens_derive ts n new t e reads) d
 
 left_length : (left : List Token) → length (map (λ t. symbol_of t.kind t.place) left) ≡ length left
 left_length left = length-map left (λ t. symbol_of t.kind t.place)
 
-pub tokens_fault : (ts left : List Token) (n : Counts) (f : Fault) (place end passed : ℕ) → n ≡ nothing_counted → run (map (λ t. symbol_of t.kind t.place) ts) begin n ≡ Bad f (map (λ t. symbol_of t.kind t.place) left) → passed ≡ length ts - length left → place ≡ first_place (drop passed (map placed ts)) end → IsTokenFault (map placed ts) end (refusal_of f place)
+pub tokens_fault : (ts left : List Token) (n : Counts) (f : Fault) (place end passed : ℕ)
+    → n ≡ nothing_counted → run (map (λ t. symbol_of t.kind t.place) ts) begin n
+    ≡ Bad f (map (λ t. symbol_of t.kind t.place) left) → passed ≡ length ts - length left
+    → place ≡ first_place (drop passed (map placed ts)) end
+    → IsTokenFault (map placed ts) end (refusal_of f place)
 tokens_fault ts left n f place end passed e bad behind at =
-    let same : passed ≡ length (map placed ts) - length (map (λ t. symbol_of t.kind t.place) left) = omega (arith, length-map ts placed, left_length left) in
-    token_fault (map placed ts) f (map (λ t. symbol_of t.kind t.place) left) place end (sym (fresh ts n e) ∙ bad) (at ∙ ap (λ k. first_place (drop k (map placed ts)) end) same)
+    let same : passed ≡ length (map placed ts) - length (map (λ t. symbol_of t.kind t.place) left) =
+    omega (arith, length-map ts placed, left_length left) in
+    token_fault (map placed ts) f (map (λ t. symbol_of t.kind t.place) left) place end
+    (sym (fresh ts n e) ∙ bad) (at ∙ ap (λ k. first_place (drop k (map placed ts)) end) same)
 
-pub tokens_no_tree : (ts left : List Token) (n : Counts) (f : Fault) (place : ℕ) (u : tree.Tree) → n ≡ nothing_counted → run (map (λ t. symbol_of t.kind t.place) ts) begin n ≡ Bad f (map (λ t. symbol_of t.kind t.place) left) → Derives (symbols (map placed ts)) u → IsTreeRead u (Err (refusal_of f place))
+pub tokens_no_tree : (ts left : List Token) (n : Counts) (f : Fault) (place : ℕ) (u : tree.Tree)
+    → n ≡ nothing_counted → run (map (λ t. symbol_of t.kind t.place) ts) begin n
+    ≡ Bad f (map (λ t. symbol_of t.kind t.place) left) → Derives (symbols (map placed ts)) u
+    → IsTreeRead u (Err (refusal_of f place))
 tokens_no_tree ts left n f place u e bad d =
-    no_tree (symbols (map placed ts)) f (map (λ t. symbol_of t.kind t.place) left) place u (sym (fresh ts n e) ∙ bad) d
+    no_tree (symbols (map placed ts)) f (map (λ t. symbol_of t.kind t.place) left) place u
+    (sym (fresh ts n e) ∙ bad) d
 
 -- a query and its text
-pub means_tokens : (bytes : List ℕ) (tokens : List Placed) (t : tree.Tree) → length bytes ≤ 65536 → cut_of bytes ≡ Ok tokens → Derives (symbols tokens) t → Means bytes t
-means_tokens bytes tokens t short cut d = record { short = short; tokens = tokens; cut = cut; derives = d }
+pub means_tokens : (bytes : List ℕ) (tokens : List Placed) (t : tree.Tree) → length bytes ≤ 65536
+    → cut_of bytes ≡ Ok tokens → Derives (symbols tokens) t → Means bytes t
+means_tokens bytes tokens t short cut d =
+    record { short = short; tokens = tokens; cut = cut; derives = d }
 
 -- the parser's answer of an error
-pub error_fault : (ts left : List Token) (n m : Counts) (error : ParseError) (place end passed : ℕ) → n ≡ nothing_counted → EndsBad error (record { left = map (λ t. symbol_of t.kind t.place) left; counts = m }) (run (map (λ t. symbol_of t.kind t.place) ts) begin n) → passed ≡ length ts - length left → place ≡ first_place (drop passed (map placed ts)) end → IsTokenFault (map placed ts) end (query_fault error place)
+pub error_fault : (ts left : List Token) (n m : Counts) (error : ParseError) (place end passed : ℕ)
+    → n ≡ nothing_counted → EndsBad error
+    (record { left = map (λ t. symbol_of t.kind t.place) left; counts = m })
+    (run (map (λ t. symbol_of t.kind t.place) ts) begin n) → passed ≡ length ts - length left
+    → place ≡ first_place (drop passed (map placed ts)) end
+    → IsTokenFault (map placed ts) end (query_fault error place)
 error_fault ts left n m errors.OutOfMemory place end passed e bad behind at = tt
-error_fault ts left n m (errors.Fault f) place end passed e bad behind at = tokens_fault ts left n f place end passed e bad behind at
+error_fault ts left n m (errors.Fault f) place end passed e bad behind at =
+    tokens_fault ts left n f place end passed e bad behind at
 
-pub error_no_tree : (ts left : List Token) (n m : Counts) (error : ParseError) (place : ℕ) (u : tree.Tree) → n ≡ nothing_counted → EndsBad error (record { left = map (λ t. symbol_of t.kind t.place) left; counts = m }) (run (map (λ t. symbol_of t.kind t.place) ts) begin n) → Derives (symbols (map placed ts)) u → IsTreeRead u (Err (query_fault error place))
+pub error_no_tree : (ts left : List Token) (n m : Counts) (error : ParseError) (place : ℕ)
+    (u : tree.Tree) → n ≡ nothing_counted
+    → EndsBad error (record { left = map (λ t. symbol_of t.kind t.place) left; counts = m })
+    (run (map (λ t. symbol_of t.kind t.place) ts) begin n) → Derives (symbols (map placed ts)) u
+    → IsTreeRead u (Err (query_fault error place))
 error_no_tree ts left n m errors.OutOfMemory place u e bad d = tt
-error_no_tree ts left n m (errors.Fault f) place u e bad d = tokens_no_tree ts left n f place u e bad d
+error_no_tree ts left n m (errors.Fault f) place u e bad d =
+    tokens_no_tree ts left n f place u e bad d
 
 -- the faults of the cut are faults of the text
-pub fault_of_text : (bytes : List ℕ) (fault : QueryFault) → length bytes ≤ 65536 → IsCutFault bytes fault → IsLexical fault → IsFirstQueryFault bytes fault
+pub fault_of_text : (bytes : List ℕ) (fault : QueryFault) → length bytes ≤ 65536
+    → IsCutFault bytes fault → IsLexical fault → IsFirstQueryFault bytes fault
 fault_of_text bytes faults.OutOfMemory short e lexical = tt
 fault_of_text bytes (faults.BadCharacter n) short e lexical = (short, e)
 fault_of_text bytes (faults.BadNumber n) short e lexical = (short, e)
@@ -123,7 +172,8 @@ fault_of_text bytes (faults.OpenText n) short e lexical = (short, e)
 fault_of_text bytes _ short e lexical = absurd lexical
 
 -- what a tree isn't read for is want of memory
-pub not_read : (t : tree.Tree) (fault : QueryFault) → IsTreeRead t (Err fault) → fault ≡ faults.OutOfMemory
+pub not_read : (t : tree.Tree) (fault : QueryFault) → IsTreeRead t (Err fault)
+    → fault ≡ faults.OutOfMemory
 not_read t faults.OutOfMemory e = refl
 not_read t faults.TooLong e = absurd e
 not_read t _ e = absurd e

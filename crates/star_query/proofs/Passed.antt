@@ -8,10 +8,21 @@ use Rattle.star_query.specs.declared.token.Relation.TheVariants as r
 use Rattle.star_query.specs.declared.counts.Part.TheVariants as part
 use Rattle.star_query.specs.Symbols.{Symbol, keyword, fold, count, relation, sign, additive, name, number, text}
 use Rattle.star_query.specs.Tree.{Name}
-use Rattle.star_query.specs.Grammar.{Several, Expr, Term, Factor, parens, Lit, Cond, Conj, Unary, not_unit, group, compare, between, Agg, Item, aggregate, Key, unmarked, ascending, descending, ungrouped, grouped, Mark, at, first, ident, function, expr_marks, term_marks, factor_marks, lit_marks, cond_marks, conj_marks, unit_marks, agg_marks, item_marks, table_marks, column_marks, key_marks, several_marks, where_marks, groups_marks, keys_marks, Hiding, hiding_word}
-use Rattle.star_query.specs.Private.Machine.{extended, ExprHole, in_fold, in_parens, TermHole, first_term, next_term, FactorHole, first_factor, next_factor, CondHole, in_where, in_group, ConjHole, first_conj, next_conj, UnitHole, first_unit, next_unit, under_not, LitHole, compared, low, high, Filtered, Grouped, filtered_by, grouped_by, expr_depth, term_depth, factor_depth, cond_depth, conj_depth, unit_depth, lit_depth, State, begin, item_wanted, fold_named, count_named, count_opened, count_starred, factor_wanted, factor_negative, term_had, agg_had, alias_wanted, items_had, table_wanted, tables_had, unit_wanted, unit_named, equal_had, lit_wanted, lit_negative, low_had, conj_had, filtered_had, group_had, by_had, hiding_had, column_wanted, columns_had, grouped_had, order_had, key_wanted, key_named, keys_had, done, ended, Step, give_factor, joined_expr, around_term, give_unit, joined_cond, around_conj, give_lit, behind_relation, closed_expr, on_begin, on_item, on_fold, on_count, on_count_opened, on_count_starred, on_factor, on_negative, on_term, on_items, on_agg, on_alias, on_table, on_done, on_grouped, on_filtered, on_tables, on_unit, on_named, on_lit, on_equal, on_lit_negative, on_low, closed_cond, on_cond, on_conj, on_group, on_column, on_by, on_hiding, on_hidden, on_columns, on_order, on_key, on_keys, on_key_named, step}
+use Rattle.star_query.specs.Grammar.{Several, Expr, Term, Factor, parens, Lit, Cond, Conj, Unary, not_unit, group, compare, between, Agg, Item, aggregate, Key, unmarked, ascending}
+use Rattle.star_query.specs.Grammar.{descending, ungrouped, grouped, Mark, at, first, ident, function, expr_marks, term_marks, factor_marks, lit_marks, cond_marks, conj_marks, unit_marks}
+use Rattle.star_query.specs.Grammar.{agg_marks, item_marks, table_marks, column_marks, key_marks, several_marks, where_marks, groups_marks, keys_marks, Hiding, hiding_word}
+use Rattle.star_query.specs.Private.Machine.{extended, ExprHole, in_fold, in_parens, TermHole, first_term, next_term, FactorHole, first_factor, next_factor, CondHole, in_where, in_group, ConjHole}
+use Rattle.star_query.specs.Private.Machine.{first_conj, next_conj, UnitHole, first_unit, next_unit, under_not, LitHole, compared, low, high, Filtered, Grouped, filtered_by, grouped_by, expr_depth}
+use Rattle.star_query.specs.Private.Machine.{term_depth, factor_depth, cond_depth, conj_depth, unit_depth, lit_depth, ParserState, begin, item_wanted, fold_named, count_named, count_opened}
+use Rattle.star_query.specs.Private.Machine.{count_starred, factor_wanted, factor_negative, term_had, agg_had, alias_wanted, items_had, table_wanted, tables_had, unit_wanted, unit_named, equal_had}
+use Rattle.star_query.specs.Private.Machine.{lit_wanted, lit_negative, low_had, conj_had, filtered_had, group_had, by_had, hiding_had, column_wanted, columns_had, grouped_had, order_had, key_wanted}
+use Rattle.star_query.specs.Private.Machine.{key_named, keys_had, done, ended, Step, give_factor, joined_expr, around_term, give_unit, joined_cond, around_conj, give_lit, behind_relation}
+use Rattle.star_query.specs.Private.Machine.{closed_expr, on_begin, on_item, on_fold, on_count, on_count_opened, on_count_starred, on_factor, on_negative, on_term, on_items, on_agg, on_alias}
+use Rattle.star_query.specs.Private.Machine.{on_table, on_done, on_grouped, on_filtered, on_tables, on_unit, on_named, on_lit, on_equal, on_lit_negative, on_low, closed_cond, on_cond, on_conj}
+use Rattle.star_query.specs.Private.Machine.{on_group, on_column, on_by, on_hiding, on_hidden, on_columns, on_order, on_key, on_keys, on_key_named, next_step}
 
-abbrev pub before_marks : {A : Type 0} → (A → List Mark → List Mark) → Option (Several A) → List Mark → List Mark
+abbrev pub before_marks : {A : Type 0} → (A → List Mark → List Mark) → Option (Several A)
+    → List Mark → List Mark
 before_marks marks None rest = rest
 before_marks marks (Some xs) rest = several_marks marks xs (at 0 (sign s.Comma) ∷ rest)
 
@@ -22,7 +33,8 @@ abbrev pub items_passed : Several Item → List Mark → List Mark
 items_passed is rest = at 0 (keyword k.Select) ∷ several_marks item_marks is rest
 
 abbrev pub tables_passed : Several Item → Several Name → List Mark → List Mark
-tables_passed is ts rest = items_passed is (at 0 (keyword k.From) ∷ several_marks table_marks ts rest)
+tables_passed is ts rest =
+    items_passed is (at 0 (keyword k.From) ∷ several_marks table_marks ts rest)
 
 abbrev pub filtered_passed : Filtered → List Mark → List Mark
 filtered_passed f rest = tables_passed f.items f.tables (where_marks f.condition rest)
@@ -42,16 +54,19 @@ order_passed g rest = grouped_passed g (at 0 (keyword k.Order) ∷ at 0 (keyword
 
 abbrev mutual
   pub expr_passed : ExprHole → List Mark → List Mark
-  expr_passed (in_fold b f p) rest = select_passed b (function (fold f p) ∷ at 0 (sign s.Open) ∷ rest)
+  expr_passed (in_fold b f p) rest =
+      select_passed b (function (fold f p) ∷ at 0 (sign s.Open) ∷ rest)
   expr_passed (in_parens h) rest = factor_passed h (at (factor_depth h + 1) (sign s.Open) ∷ rest)
 
   pub term_passed : TermHole → List Mark → List Mark
   term_passed (first_term h) rest = expr_passed h rest
-  term_passed (next_term e q h) rest = expr_passed h (expr_marks (expr_depth h) e (at (expr_depth h) (additive q) ∷ rest))
+  term_passed (next_term e q h) rest =
+      expr_passed h (expr_marks (expr_depth h) e (at (expr_depth h) (additive q) ∷ rest))
 
   pub factor_passed : FactorHole → List Mark → List Mark
   factor_passed (first_factor h) rest = term_passed h rest
-  factor_passed (next_factor t h) rest = term_passed h (term_marks (term_depth h) t (at (term_depth h) (sign s.Star) ∷ rest))
+  factor_passed (next_factor t h) rest =
+      term_passed h (term_marks (term_depth h) t (at (term_depth h) (sign s.Star) ∷ rest))
 
 abbrev mutual
   pub cond_passed : CondHole → List Mark → List Mark
@@ -60,12 +75,15 @@ abbrev mutual
 
   pub conj_passed : ConjHole → List Mark → List Mark
   conj_passed (first_conj h) rest = cond_passed h rest
-  conj_passed (next_conj a h) rest = cond_passed h (cond_marks (cond_depth h) a (at (cond_depth h) (keyword k.Or) ∷ rest))
+  conj_passed (next_conj a h) rest =
+      cond_passed h (cond_marks (cond_depth h) a (at (cond_depth h) (keyword k.Or) ∷ rest))
 
   pub unit_passed : UnitHole → List Mark → List Mark
   unit_passed (first_unit h) rest = conj_passed h rest
-  unit_passed (next_unit c h) rest = conj_passed h (conj_marks (conj_depth h) c (at (conj_depth h) (keyword k.And) ∷ rest))
-  unit_passed (under_not h) rest = unit_passed h (first (part.Comparison ∷ []) (unit_depth h + 1) (keyword k.Not) ∷ rest)
+  unit_passed (next_unit c h) rest =
+      conj_passed h (conj_marks (conj_depth h) c (at (conj_depth h) (keyword k.And) ∷ rest))
+  unit_passed (under_not h) rest =
+      unit_passed h (first (part.Comparison ∷ []) (unit_depth h + 1) (keyword k.Not) ∷ rest)
 
 -- a comparison's column was read
 abbrev pub named_passed : UnitHole → Name → List Mark → List Mark
@@ -77,22 +95,25 @@ between_passed h i rest = named_passed h i (at (unit_depth h) (keyword k.Between
 abbrev pub lit_passed : LitHole → List Mark → List Mark
 lit_passed (compared h i q) rest = named_passed h i (at (unit_depth h) (relation q) ∷ rest)
 lit_passed (low h i) rest = between_passed h i rest
-lit_passed (high h i l) rest = between_passed h i (lit_marks (unit_depth h) l (at (unit_depth h) (keyword k.And) ∷ rest))
+lit_passed (high h i l) rest =
+    between_passed h i (lit_marks (unit_depth h) l (at (unit_depth h) (keyword k.And) ∷ rest))
 
-abbrev pub passed : State → List Mark → List Mark
+abbrev pub passed : ParserState → List Mark → List Mark
 passed begin rest = rest
 passed (item_wanted b) rest = select_passed b rest
 passed (fold_named b f p) rest = select_passed b (function (fold f p) ∷ rest)
 passed (count_named b p) rest = select_passed b (function (count p) ∷ rest)
 passed (count_opened b p) rest = select_passed b (function (count p) ∷ at 0 (sign s.Open) ∷ rest)
-passed (count_starred b p) rest = select_passed b (function (count p) ∷ at 0 (sign s.Open) ∷ at 0 (sign s.Star) ∷ rest)
+passed (count_starred b p) rest =
+    select_passed b (function (count p) ∷ at 0 (sign s.Open) ∷ at 0 (sign s.Star) ∷ rest)
 passed (factor_wanted h) rest = factor_passed h rest
 passed (factor_negative h) rest = factor_passed h (at (factor_depth h) (additive Minus) ∷ rest)
 passed (term_had t h) rest = term_passed h (term_marks (term_depth h) t rest)
 passed (agg_had b a) rest = select_passed b (agg_marks a rest)
 passed (alias_wanted b a) rest = select_passed b (agg_marks a (at 0 (keyword k.As) ∷ rest))
 passed (items_had is) rest = items_passed is rest
-passed (table_wanted is b) rest = items_passed is (at 0 (keyword k.From) ∷ before_marks table_marks b rest)
+passed (table_wanted is b) rest =
+    items_passed is (at 0 (keyword k.From) ∷ before_marks table_marks b rest)
 passed (tables_had is ts) rest = tables_passed is ts rest
 passed (unit_wanted h) rest = unit_passed h rest
 passed (unit_named h i) rest = named_passed h i rest
@@ -106,21 +127,25 @@ passed (group_had f) rest = filtered_passed f (at 0 (keyword k.Group) ∷ rest)
 passed (by_had f) rest = by_passed f rest
 passed (hiding_had f h) rest = by_passed f (at 0 (keyword (hiding_word h)) ∷ rest)
 passed (column_wanted f h b) rest = by_passed f (hiding_passed h (before_marks column_marks b rest))
-passed (columns_had f h is) rest = by_passed f (hiding_passed h (several_marks column_marks is rest))
+passed (columns_had f h is) rest =
+    by_passed f (hiding_passed h (several_marks column_marks is rest))
 passed (grouped_had g) rest = grouped_passed g rest
 passed (order_had g) rest = grouped_passed g (at 0 (keyword k.Order) ∷ rest)
 passed (key_wanted g b) rest = order_passed g (before_marks key_marks b rest)
-passed (key_named g b i) rest = order_passed g (before_marks key_marks b (first (part.SortKey ∷ []) 0 (ident i) ∷ rest))
+passed (key_named g b i) rest =
+    order_passed g (before_marks key_marks b (first (part.SortKey ∷ []) 0 (ident i) ∷ rest))
 passed (keys_had g ks) rest = order_passed g (several_marks key_marks ks rest)
 passed (done g ks) rest = grouped_passed g (keys_marks ks rest)
 passed (ended g ks) rest = grouped_passed g (keys_marks ks (at 0 (sign s.Semicolon) ∷ rest))
 
-pub several-extended : {A : Type 0} (marks : A → List Mark → List Mark) (b : Option (Several A)) (x : A) (rest : List Mark) → several_marks marks (extended b x) rest ≡ before_marks marks b (marks x rest)
+pub several-extended : {A : Type 0} (marks : A → List Mark → List Mark) (b : Option (Several A))
+    (x : A) (rest : List Mark)
+    → several_marks marks (extended b x) rest ≡ before_marks marks b (marks x rest)
 several-extended marks None x rest = refl
 several-extended marks (Some xs) x rest = refl
 
 -- a step reads the symbol, and no more
-pub record Moves (from : State) (x : Symbol) (st : Step) : Type 0 where
+pub record Moves (from : ParserState) (x : Symbol) (st : Step) : Type 0 where
   pub symbol : st.at.symbol ≡ x
   pub more : (rest : List Mark) → passed st.next rest ≡ passed from (st.at ∷ rest)
 
@@ -128,19 +153,27 @@ abbrev pub IfStep : Option Step → (Step → Type 0) → Type 0
 IfStep None P = Unit {0}
 IfStep (Some st) P = P st
 
-moves : (from : State) (x : Symbol) (next : State) (m : Mark) → m.symbol ≡ x → ((rest : List Mark) → passed next rest ≡ passed from (m ∷ rest)) → Moves from x (record { next = next; at = m })
+moves : (from : ParserState) (x : Symbol) (next : ParserState) (m : Mark) → m.symbol ≡ x
+    → ((rest : List Mark) → passed next rest ≡ passed from (m ∷ rest))
+    → Moves from x (record { next = next; at = m })
 moves from x next m e f = record { symbol = e; more = f }
 
 -- the same from a state on whose way the same was read
-moves_along : (from other : State) (x : Symbol) (o : Option Step) → ((rest : List Mark) → passed other rest ≡ passed from rest) → IfStep o (Moves other x) → IfStep o (Moves from x)
+moves_along : (from other : ParserState) (x : Symbol) (o : Option Step)
+    → ((rest : List Mark) → passed other rest ≡ passed from rest) → IfStep o (Moves other x)
+    → IfStep o (Moves from x)
 moves_along from other x None same m = tt
-moves_along from other x (Some st) same m = record { symbol = m.symbol; more = λ rest. m.more rest ∙ same (st.at ∷ rest) }
+moves_along from other x (Some st) same m =
+    record { symbol = m.symbol; more = λ rest. m.more rest ∙ same (st.at ∷ rest) }
 
-give_factor_passed : (h : FactorHole) (f : Factor) (rest : List Mark) → passed (give_factor f h) rest ≡ factor_passed h (factor_marks (factor_depth h) f rest)
+give_factor_passed : (h : FactorHole) (f : Factor) (rest : List Mark)
+    → passed (give_factor f h) rest ≡ factor_passed h (factor_marks (factor_depth h) f rest)
 give_factor_passed (first_factor h) f rest = refl
 give_factor_passed (next_factor t h) f rest = refl
 
-joined_expr_passed : (h : TermHole) (t : Term) (rest : List Mark) → expr_passed (around_term h) (expr_marks (expr_depth (around_term h)) (joined_expr t h) rest) ≡ term_passed h (term_marks (term_depth h) t rest)
+joined_expr_passed : (h : TermHole) (t : Term) (rest : List Mark)
+    → expr_passed (around_term h) (expr_marks (expr_depth (around_term h)) (joined_expr t h) rest)
+    ≡ term_passed h (term_marks (term_depth h) t rest)
 joined_expr_passed (first_term h) t rest = refl
 joined_expr_passed (next_term e q h) t rest = refl
 
@@ -148,16 +181,20 @@ same_depth : (h : TermHole) → expr_depth (around_term h) ≡ term_depth h
 same_depth (first_term h) = refl
 same_depth (next_term e q h) = refl
 
-give_unit_passed : (h : UnitHole) (u : Unary) (rest : List Mark) → passed (give_unit u h) rest ≡ unit_passed h (unit_marks (unit_depth h) u rest)
+give_unit_passed : (h : UnitHole) (u : Unary) (rest : List Mark)
+    → passed (give_unit u h) rest ≡ unit_passed h (unit_marks (unit_depth h) u rest)
 give_unit_passed (first_unit h) u rest = refl
 give_unit_passed (next_unit c h) u rest = refl
 give_unit_passed (under_not h) u rest = give_unit_passed h (not_unit u) rest
 
-pub joined_cond_passed : (h : ConjHole) (c : Conj) (rest : List Mark) → cond_passed (around_conj h) (cond_marks (cond_depth (around_conj h)) (joined_cond c h) rest) ≡ conj_passed h (conj_marks (conj_depth h) c rest)
+pub joined_cond_passed : (h : ConjHole) (c : Conj) (rest : List Mark)
+    → cond_passed (around_conj h) (cond_marks (cond_depth (around_conj h)) (joined_cond c h) rest)
+    ≡ conj_passed h (conj_marks (conj_depth h) c rest)
 joined_cond_passed (first_conj h) c rest = refl
 joined_cond_passed (next_conj a h) c rest = refl
 
-give_lit_passed : (h : LitHole) (l : Lit) (rest : List Mark) → passed (give_lit l h) rest ≡ lit_passed h (lit_marks (lit_depth h) l rest)
+give_lit_passed : (h : LitHole) (l : Lit) (rest : List Mark)
+    → passed (give_lit l h) rest ≡ lit_passed h (lit_marks (lit_depth h) l rest)
 give_lit_passed (compared h i q) l rest = give_unit_passed h (compare i q l) rest
 give_lit_passed (low h i) l rest = refl
 give_lit_passed (high h i m) l rest = give_unit_passed h (between i m l) rest
@@ -166,25 +203,32 @@ begin_moves : (x : Symbol) → IfStep (on_begin x) (Moves begin x)
 begin_moves (keyword k.Select) = moves _ _ _ _ refl (λ rest. refl)
 begin_moves _ = tt
 
-item_moves : (b : Option (Several Item)) (x : Symbol) → IfStep (on_item b x) (Moves (item_wanted b) x)
-item_moves b (name t p) = moves _ _ _ _ refl (λ rest. ap (λ l. at 0 (keyword k.Select) ∷ l) (several-extended item_marks b _ rest))
+item_moves : (b : Option (Several Item)) (x : Symbol)
+    → IfStep (on_item b x) (Moves (item_wanted b) x)
+item_moves b (name t p) =
+    moves _ _ _ _ refl (λ rest.
+    ap (λ l. at 0 (keyword k.Select) ∷ l) (several-extended item_marks b _ rest))
 item_moves b (fold f p) = moves _ _ _ _ refl (λ rest. refl)
 item_moves b (count p) = moves _ _ _ _ refl (λ rest. refl)
 item_moves b _ = tt
 
-fold_moves : (b : Option (Several Item)) (f : _) (p : ℕ) (x : Symbol) → IfStep (on_fold b f p x) (Moves (fold_named b f p) x)
+fold_moves : (b : Option (Several Item)) (f : _) (p : ℕ) (x : Symbol)
+    → IfStep (on_fold b f p x) (Moves (fold_named b f p) x)
 fold_moves b f p (sign s.Open) = moves _ _ _ _ refl (λ rest. refl)
 fold_moves b f p _ = tt
 
-count_moves : (b : Option (Several Item)) (p : ℕ) (x : Symbol) → IfStep (on_count b p x) (Moves (count_named b p) x)
+count_moves : (b : Option (Several Item)) (p : ℕ) (x : Symbol)
+    → IfStep (on_count b p x) (Moves (count_named b p) x)
 count_moves b p (sign s.Open) = moves _ _ _ _ refl (λ rest. refl)
 count_moves b p _ = tt
 
-opened_moves : (b : Option (Several Item)) (p : ℕ) (x : Symbol) → IfStep (on_count_opened b p x) (Moves (count_opened b p) x)
+opened_moves : (b : Option (Several Item)) (p : ℕ) (x : Symbol)
+    → IfStep (on_count_opened b p x) (Moves (count_opened b p) x)
 opened_moves b p (sign s.Star) = moves _ _ _ _ refl (λ rest. refl)
 opened_moves b p _ = tt
 
-starred_moves : (b : Option (Several Item)) (p : ℕ) (x : Symbol) → IfStep (on_count_starred b p x) (Moves (count_starred b p) x)
+starred_moves : (b : Option (Several Item)) (p : ℕ) (x : Symbol)
+    → IfStep (on_count_starred b p x) (Moves (count_starred b p) x)
 starred_moves b p (sign s.Close) = moves _ _ _ _ refl (λ rest. refl)
 starred_moves b p _ = tt
 
@@ -195,20 +239,31 @@ factor_moves h (additive Minus) = moves _ _ _ _ refl (λ rest. refl)
 factor_moves h (sign s.Open) = moves _ _ _ _ refl (λ rest. refl)
 factor_moves h _ = tt
 
-negative_moves : (h : FactorHole) (x : Symbol) → IfStep (on_negative h x) (Moves (factor_negative h) x)
+negative_moves : (h : FactorHole) (x : Symbol)
+    → IfStep (on_negative h x) (Moves (factor_negative h) x)
 negative_moves h (number n) = moves _ _ _ _ refl (give_factor_passed h _)
 negative_moves h _ = tt
 
-close_moves : (t : Term) (h : TermHole) (e : Expr) (o : ExprHole) → ((rest : List Mark) → expr_passed o (expr_marks (expr_depth o) e rest) ≡ term_passed h (term_marks (term_depth h) t rest)) → IfStep (closed_expr e o) (Moves (term_had t h) (sign s.Close))
-close_moves t h e (in_fold b f p) same = moves _ _ _ _ refl (λ rest. same (at 0 (sign s.Close) ∷ rest))
+close_moves : (t : Term) (h : TermHole) (e : Expr) (o : ExprHole)
+    → ((rest : List Mark) → expr_passed o (expr_marks (expr_depth o) e rest)
+    ≡ term_passed h (term_marks (term_depth h) t rest))
+    → IfStep (closed_expr e o) (Moves (term_had t h) (sign s.Close))
+close_moves t h e (in_fold b f p) same =
+    moves _ _ _ _ refl (λ rest. same (at 0 (sign s.Close) ∷ rest))
 close_moves t h e (in_parens o) same =
-    moves _ _ _ _ refl (λ rest. give_factor_passed o (parens e) rest ∙ same (at (factor_depth o + 1) (sign s.Close) ∷ rest))
+    moves _ _ _ _ refl (λ rest.
+    give_factor_passed o (parens e) rest ∙ same (at (factor_depth o + 1) (sign s.Close) ∷ rest))
 
-term_moves : (t : Term) (h : TermHole) (x : Symbol) → IfStep (on_term t h x) (Moves (term_had t h) x)
+term_moves : (t : Term) (h : TermHole) (x : Symbol)
+    → IfStep (on_term t h x) (Moves (term_had t h) x)
 term_moves t h (sign s.Star) = moves _ _ _ _ refl (λ rest. refl)
 term_moves t h (additive q) =
-    moves _ _ _ _ refl (λ rest. ap (λ d. expr_passed (around_term h) (expr_marks (expr_depth (around_term h)) (joined_expr t h) (at d (additive q) ∷ rest))) (same_depth h) ∙ joined_expr_passed h t (at (term_depth h) (additive q) ∷ rest))
-term_moves t h (sign s.Close) = close_moves t h (joined_expr t h) (around_term h) (joined_expr_passed h t)
+    moves _ _ _ _ refl (λ rest.
+    ap (λ d. expr_passed (around_term h)
+    (expr_marks (expr_depth (around_term h)) (joined_expr t h) (at d (additive q) ∷ rest)))
+    (same_depth h) ∙ joined_expr_passed h t (at (term_depth h) (additive q) ∷ rest))
+term_moves t h (sign s.Close) =
+    close_moves t h (joined_expr t h) (around_term h) (joined_expr_passed h t)
 term_moves t h _ = tt
 
 items_moves : (is : Several Item) (x : Symbol) → IfStep (on_items is x) (Moves (items_had is) x)
@@ -216,37 +271,51 @@ items_moves is (sign s.Comma) = moves _ _ _ _ refl (λ rest. refl)
 items_moves is (keyword k.From) = moves _ _ _ _ refl (λ rest. refl)
 items_moves is _ = tt
 
-agg_moves : (b : Option (Several Item)) (a : Agg) (x : Symbol) → IfStep (on_agg b a x) (Moves (agg_had b a) x)
+agg_moves : (b : Option (Several Item)) (a : Agg) (x : Symbol)
+    → IfStep (on_agg b a x) (Moves (agg_had b a) x)
 agg_moves b a (keyword k.As) = moves _ _ _ _ refl (λ rest. refl)
 agg_moves b a x =
-    moves_along (agg_had b a) (items_had (extended b (aggregate a None))) x (on_agg b a x) (λ rest. ap (λ l. at 0 (keyword k.Select) ∷ l) (several-extended item_marks b _ rest)) (items_moves (extended b (aggregate a None)) x)
+    moves_along (agg_had b a) (items_had (extended b (aggregate a None))) x (on_agg b a x)
+    (λ rest. ap (λ l. at 0 (keyword k.Select) ∷ l) (several-extended item_marks b _ rest))
+    (items_moves (extended b (aggregate a None)) x)
 
-alias_moves : (b : Option (Several Item)) (a : Agg) (x : Symbol) → IfStep (on_alias b a x) (Moves (alias_wanted b a) x)
-alias_moves b a (name t p) = moves _ _ _ _ refl (λ rest. ap (λ l. at 0 (keyword k.Select) ∷ l) (several-extended item_marks b _ rest))
+alias_moves : (b : Option (Several Item)) (a : Agg) (x : Symbol)
+    → IfStep (on_alias b a x) (Moves (alias_wanted b a) x)
+alias_moves b a (name t p) =
+    moves _ _ _ _ refl (λ rest.
+    ap (λ l. at 0 (keyword k.Select) ∷ l) (several-extended item_marks b _ rest))
 alias_moves b a _ = tt
 
-table_moves : (is : Several Item) (b : Option (Several Name)) (x : Symbol) → IfStep (on_table is b x) (Moves (table_wanted is b) x)
-table_moves is b (name t p) = moves _ _ _ _ refl (λ rest. ap (λ l. items_passed is (at 0 (keyword k.From) ∷ l)) (several-extended table_marks b _ rest))
+table_moves : (is : Several Item) (b : Option (Several Name)) (x : Symbol)
+    → IfStep (on_table is b x) (Moves (table_wanted is b) x)
+table_moves is b (name t p) =
+    moves _ _ _ _ refl (λ rest.
+    ap (λ l. items_passed is (at 0 (keyword k.From) ∷ l)) (several-extended table_marks b _ rest))
 table_moves is b _ = tt
 
-done_moves : (g : Grouped) (ks : Option (Several Key)) (x : Symbol) → IfStep (on_done g ks x) (Moves (done g ks) x)
+done_moves : (g : Grouped) (ks : Option (Several Key)) (x : Symbol)
+    → IfStep (on_done g ks x) (Moves (done g ks) x)
 done_moves g ks (sign s.Semicolon) = moves _ _ _ _ refl (λ rest. refl)
 done_moves g ks _ = tt
 
 grouped_moves : (g : Grouped) (x : Symbol) → IfStep (on_grouped g x) (Moves (grouped_had g) x)
 grouped_moves g (keyword k.Order) = moves _ _ _ _ refl (λ rest. refl)
-grouped_moves g x = moves_along (grouped_had g) (done g None) x (on_grouped g x) (λ rest. refl) (done_moves g None x)
+grouped_moves g x = moves_along (grouped_had g) (done g None) x (on_grouped g x) (λ rest. refl)
+    (done_moves g None x)
 
 filtered_moves : (f : Filtered) (x : Symbol) → IfStep (on_filtered f x) (Moves (filtered_had f) x)
 filtered_moves f (keyword k.Group) = moves _ _ _ _ refl (λ rest. refl)
 filtered_moves f x =
-    moves_along (filtered_had f) (grouped_had (grouped_by f ungrouped)) x (on_filtered f x) (λ rest. refl) (grouped_moves (grouped_by f ungrouped) x)
+    moves_along (filtered_had f) (grouped_had (grouped_by f ungrouped)) x (on_filtered f x)
+    (λ rest. refl) (grouped_moves (grouped_by f ungrouped) x)
 
-tables_moves : (is : Several Item) (ts : Several Name) (x : Symbol) → IfStep (on_tables is ts x) (Moves (tables_had is ts) x)
+tables_moves : (is : Several Item) (ts : Several Name) (x : Symbol)
+    → IfStep (on_tables is ts x) (Moves (tables_had is ts) x)
 tables_moves is ts (sign s.Comma) = moves _ _ _ _ refl (λ rest. refl)
 tables_moves is ts (keyword k.Where) = moves _ _ _ _ refl (λ rest. refl)
 tables_moves is ts x =
-    moves_along (tables_had is ts) (filtered_had (filtered_by is ts None)) x (on_tables is ts x) (λ rest. refl) (filtered_moves (filtered_by is ts None) x)
+    moves_along (tables_had is ts) (filtered_had (filtered_by is ts None)) x (on_tables is ts x)
+    (λ rest. refl) (filtered_moves (filtered_by is ts None) x)
 
 unit_moves : (h : UnitHole) (x : Symbol) → IfStep (on_unit h x) (Moves (unit_wanted h) x)
 unit_moves h (name t p) = moves _ _ _ _ refl (λ rest. refl)
@@ -254,11 +323,13 @@ unit_moves h (keyword k.Not) = moves _ _ _ _ refl (λ rest. refl)
 unit_moves h (sign s.Open) = moves _ _ _ _ refl (λ rest. refl)
 unit_moves h _ = tt
 
-relation_passed : (h : UnitHole) (i : Name) (q : Relation) (rest : List Mark) → passed (behind_relation h i q) rest ≡ lit_passed (compared h i q) rest
+relation_passed : (h : UnitHole) (i : Name) (q : Relation) (rest : List Mark)
+    → passed (behind_relation h i q) rest ≡ lit_passed (compared h i q) rest
 relation_passed h i r.Equal rest = refl
 relation_passed h i _ rest = refl
 
-named_moves : (h : UnitHole) (i : Name) (x : Symbol) → IfStep (on_named h i x) (Moves (unit_named h i) x)
+named_moves : (h : UnitHole) (i : Name) (x : Symbol)
+    → IfStep (on_named h i x) (Moves (unit_named h i) x)
 named_moves h i (relation q) = moves _ _ _ _ refl (relation_passed h i q)
 named_moves h i (keyword k.Between) = moves _ _ _ _ refl (λ rest. refl)
 named_moves h i _ = tt
@@ -269,85 +340,119 @@ lit_moves h (text t) = moves _ _ _ _ refl (give_lit_passed h _)
 lit_moves h (additive Minus) = moves _ _ _ _ refl (λ rest. refl)
 lit_moves h _ = tt
 
-equal_moves : (h : UnitHole) (i : Name) (x : Symbol) → IfStep (on_equal h i x) (Moves (equal_had h i) x)
+equal_moves : (h : UnitHole) (i : Name) (x : Symbol)
+    → IfStep (on_equal h i x) (Moves (equal_had h i) x)
 equal_moves h i (name t p) = moves _ _ _ _ refl (give_unit_passed h _)
 equal_moves h i x =
-    moves_along (equal_had h i) (lit_wanted (compared h i r.Equal)) x (on_equal h i x) (λ rest. refl) (lit_moves (compared h i r.Equal) x)
+    moves_along (equal_had h i) (lit_wanted (compared h i r.Equal)) x (on_equal h i x)
+    (λ rest. refl) (lit_moves (compared h i r.Equal) x)
 
-lit_negative_moves : (h : LitHole) (x : Symbol) → IfStep (on_lit_negative h x) (Moves (lit_negative h) x)
+lit_negative_moves : (h : LitHole) (x : Symbol)
+    → IfStep (on_lit_negative h x) (Moves (lit_negative h) x)
 lit_negative_moves h (number n) = moves _ _ _ _ refl (give_lit_passed h _)
 lit_negative_moves h _ = tt
 
-low_moves : (h : UnitHole) (i : Name) (l : Lit) (x : Symbol) → IfStep (on_low h i l x) (Moves (low_had h i l) x)
+low_moves : (h : UnitHole) (i : Name) (l : Lit) (x : Symbol)
+    → IfStep (on_low h i l x) (Moves (low_had h i l) x)
 low_moves h i l (keyword k.And) = moves _ _ _ _ refl (λ rest. refl)
 low_moves h i l _ = tt
 
-closed_moves : (from : State) (a : Cond) (h : UnitHole) (x : Symbol) → ((rest : List Mark) → cond_passed (in_group h) (cond_marks (unit_depth h + 1) a rest) ≡ passed from rest) → IfStep (closed_cond a h x) (Moves from x)
+closed_moves : (from : ParserState) (a : Cond) (h : UnitHole) (x : Symbol)
+    → ((rest : List Mark) → cond_passed (in_group h) (cond_marks (unit_depth h + 1) a rest)
+    ≡ passed from rest) → IfStep (closed_cond a h x) (Moves from x)
 closed_moves from a h (sign s.Close) same =
-    moves _ _ _ _ refl (λ rest. give_unit_passed h (group a) rest ∙ same (at (unit_depth h + 1) (sign s.Close) ∷ rest))
+    moves _ _ _ _ refl (λ rest.
+    give_unit_passed h (group a) rest ∙ same (at (unit_depth h + 1) (sign s.Close) ∷ rest))
 closed_moves from a h _ same = tt
 
-cond_moves : (from : State) (a : Cond) (h : CondHole) (x : Symbol) → ((rest : List Mark) → cond_passed h (cond_marks (cond_depth h) a rest) ≡ passed from rest) → IfStep (on_cond a h x) (Moves from x)
+cond_moves : (from : ParserState) (a : Cond) (h : CondHole) (x : Symbol)
+    → ((rest : List Mark) → cond_passed h (cond_marks (cond_depth h) a rest) ≡ passed from rest)
+    → IfStep (on_cond a h x) (Moves from x)
 cond_moves from a (in_where is ts) x same =
-    moves_along from (filtered_had (filtered_by is ts (Some a))) x (on_filtered (filtered_by is ts (Some a)) x) same (filtered_moves (filtered_by is ts (Some a)) x)
+    moves_along from (filtered_had (filtered_by is ts (Some a))) x
+    (on_filtered (filtered_by is ts (Some a)) x) same
+    (filtered_moves (filtered_by is ts (Some a)) x)
 cond_moves from a (in_group h) x same = closed_moves from a h x same
 
 conj_depth_around : (h : ConjHole) → cond_depth (around_conj h) ≡ conj_depth h
 conj_depth_around (first_conj h) = refl
 conj_depth_around (next_conj a h) = refl
 
-conj_moves : (c : Conj) (h : ConjHole) (x : Symbol) → IfStep (on_conj c h x) (Moves (conj_had c h) x)
+conj_moves : (c : Conj) (h : ConjHole) (x : Symbol)
+    → IfStep (on_conj c h x) (Moves (conj_had c h) x)
 conj_moves c h (keyword k.And) = moves _ _ _ _ refl (λ rest. refl)
 conj_moves c h (keyword k.Or) =
-    moves _ _ _ _ refl (λ rest. ap (λ d. cond_passed (around_conj h) (cond_marks (cond_depth (around_conj h)) (joined_cond c h) (at d (keyword k.Or) ∷ rest))) (conj_depth_around h) ∙ joined_cond_passed h c (at (conj_depth h) (keyword k.Or) ∷ rest))
-conj_moves c h x = cond_moves (conj_had c h) (joined_cond c h) (around_conj h) x (joined_cond_passed h c)
+    moves _ _ _ _ refl (λ rest.
+    ap (λ d. cond_passed (around_conj h)
+    (cond_marks (cond_depth (around_conj h)) (joined_cond c h) (at d (keyword k.Or) ∷ rest)))
+    (conj_depth_around h) ∙ joined_cond_passed h c (at (conj_depth h) (keyword k.Or) ∷ rest))
+conj_moves c h x = cond_moves (conj_had c h) (joined_cond c h) (around_conj h) x
+    (joined_cond_passed h c)
 
 group_moves : (f : Filtered) (x : Symbol) → IfStep (on_group f x) (Moves (group_had f) x)
 group_moves f (keyword k.By) = moves _ _ _ _ refl (λ rest. refl)
 group_moves f _ = tt
 
-column_moves : (f : Filtered) (h : Option Hiding) (b : Option (Several Name)) (x : Symbol) → IfStep (on_column f h b x) (Moves (column_wanted f h b) x)
-column_moves f h b (name t p) = moves _ _ _ _ refl (λ rest. ap (λ l. by_passed f (hiding_passed h l)) (several-extended column_marks b _ rest))
+column_moves : (f : Filtered) (h : Option Hiding) (b : Option (Several Name)) (x : Symbol)
+    → IfStep (on_column f h b x) (Moves (column_wanted f h b) x)
+column_moves f h b (name t p) =
+    moves _ _ _ _ refl (λ rest.
+    ap (λ l. by_passed f (hiding_passed h l)) (several-extended column_marks b _ rest))
 column_moves f h b _ = tt
 
 by_moves : (f : Filtered) (x : Symbol) → IfStep (on_by f x) (Moves (by_had f) x)
 by_moves f (keyword k.Cube) = moves _ _ _ _ refl (λ rest. refl)
 by_moves f (keyword k.Rollup) = moves _ _ _ _ refl (λ rest. refl)
-by_moves f x = moves_along (by_had f) (column_wanted f None None) x (on_by f x) (λ rest. refl) (column_moves f None None x)
+by_moves f x = moves_along (by_had f) (column_wanted f None None) x (on_by f x) (λ rest. refl)
+    (column_moves f None None x)
 
-hiding_moves : (f : Filtered) (h : Hiding) (x : Symbol) → IfStep (on_hiding f h x) (Moves (hiding_had f h) x)
+hiding_moves : (f : Filtered) (h : Hiding) (x : Symbol)
+    → IfStep (on_hiding f h x) (Moves (hiding_had f h) x)
 hiding_moves f h (sign s.Open) = moves _ _ _ _ refl (λ rest. refl)
 hiding_moves f h _ = tt
 
-hidden_moves : (f : Filtered) (h : Hiding) (is : Several Name) (x : Symbol) → IfStep (on_hidden f h is x) (Moves (columns_had f (Some h) is) x)
+hidden_moves : (f : Filtered) (h : Hiding) (is : Several Name) (x : Symbol)
+    → IfStep (on_hidden f h is x) (Moves (columns_had f (Some h) is) x)
 hidden_moves f h is (sign s.Close) = moves _ _ _ _ refl (λ rest. refl)
 hidden_moves f h is _ = tt
 
-columns_moves : (f : Filtered) (h : Option Hiding) (is : Several Name) (x : Symbol) → IfStep (on_columns f h is x) (Moves (columns_had f h is) x)
+columns_moves : (f : Filtered) (h : Option Hiding) (is : Several Name) (x : Symbol)
+    → IfStep (on_columns f h is x) (Moves (columns_had f h is) x)
 columns_moves f h is (sign s.Comma) = moves _ _ _ _ refl (λ rest. refl)
 columns_moves f (Some h) is x = hidden_moves f h is x
 columns_moves f None is x =
-    moves_along (columns_had f None is) (grouped_had (grouped_by f (grouped is))) x (on_columns f None is x) (λ rest. refl) (grouped_moves (grouped_by f (grouped is)) x)
+    moves_along (columns_had f None is) (grouped_had (grouped_by f (grouped is))) x
+    (on_columns f None is x) (λ rest. refl) (grouped_moves (grouped_by f (grouped is)) x)
 
 order_moves : (g : Grouped) (x : Symbol) → IfStep (on_order g x) (Moves (order_had g) x)
 order_moves g (keyword k.By) = moves _ _ _ _ refl (λ rest. refl)
 order_moves g _ = tt
 
-key_moves : (g : Grouped) (b : Option (Several Key)) (x : Symbol) → IfStep (on_key g b x) (Moves (key_wanted g b) x)
+key_moves : (g : Grouped) (b : Option (Several Key)) (x : Symbol)
+    → IfStep (on_key g b x) (Moves (key_wanted g b) x)
 key_moves g b (name t p) = moves _ _ _ _ refl (λ rest. refl)
 key_moves g b _ = tt
 
-keys_moves : (g : Grouped) (ks : Several Key) (x : Symbol) → IfStep (on_keys g ks x) (Moves (keys_had g ks) x)
+keys_moves : (g : Grouped) (ks : Several Key) (x : Symbol)
+    → IfStep (on_keys g ks x) (Moves (keys_had g ks) x)
 keys_moves g ks (sign s.Comma) = moves _ _ _ _ refl (λ rest. refl)
-keys_moves g ks x = moves_along (keys_had g ks) (done g (Some ks)) x (on_keys g ks x) (λ rest. refl) (done_moves g (Some ks) x)
+keys_moves g ks x = moves_along (keys_had g ks) (done g (Some ks)) x (on_keys g ks x) (λ rest. refl)
+    (done_moves g (Some ks) x)
 
-key_named_moves : (g : Grouped) (b : Option (Several Key)) (i : Name) (x : Symbol) → IfStep (on_key_named g b i x) (Moves (key_named g b i) x)
-key_named_moves g b i (keyword k.Asc) = moves _ _ _ _ refl (λ rest. ap (order_passed g) (several-extended key_marks b (ascending i) rest))
-key_named_moves g b i (keyword k.Desc) = moves _ _ _ _ refl (λ rest. ap (order_passed g) (several-extended key_marks b (descending i) rest))
+key_named_moves : (g : Grouped) (b : Option (Several Key)) (i : Name) (x : Symbol)
+    → IfStep (on_key_named g b i x) (Moves (key_named g b i) x)
+key_named_moves g b i (keyword k.Asc) =
+    moves _ _ _ _ refl (λ rest.
+    ap (order_passed g) (several-extended key_marks b (ascending i) rest))
+key_named_moves g b i (keyword k.Desc) =
+    moves _ _ _ _ refl (λ rest.
+    ap (order_passed g) (several-extended key_marks b (descending i) rest))
 key_named_moves g b i x =
-    moves_along (key_named g b i) (keys_had g (extended b (unmarked i))) x (on_key_named g b i x) (λ rest. ap (order_passed g) (several-extended key_marks b (unmarked i) rest)) (keys_moves g (extended b (unmarked i)) x)
+    moves_along (key_named g b i) (keys_had g (extended b (unmarked i))) x (on_key_named g b i x)
+    (λ rest. ap (order_passed g) (several-extended key_marks b (unmarked i) rest))
+    (keys_moves g (extended b (unmarked i)) x)
 
-all_moves : (from : State) (x : Symbol) → IfStep (step from x) (Moves from x)
+all_moves : (from : ParserState) (x : Symbol) → IfStep (next_step from x) (Moves from x)
 all_moves begin x = begin_moves x
 all_moves (item_wanted b) x = item_moves b x
 all_moves (fold_named b f p) x = fold_moves b f p x
@@ -383,5 +488,6 @@ all_moves (keys_had g ks) x = keys_moves g ks x
 all_moves (done g ks) x = done_moves g ks x
 all_moves (ended g ks) x = tt
 
-pub step_moves : (from : State) (x : Symbol) (st : Step) → step from x ≡ Some st → Moves from x st
+pub step_moves : (from : ParserState) (x : Symbol) (st : Step) → next_step from x ≡ Some st
+    → Moves from x st
 step_moves from x st e = subst (λ o. IfStep o (Moves from x)) e (all_moves from x)

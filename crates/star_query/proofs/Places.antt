@@ -4,12 +4,14 @@ use Rattle.star_query.specs.declared.token.Token.{Token}
 use Rattle.star_query.specs.Private.Lexed.{placed}
 use Rattle.star_query.specs.Derives.{first_place}
 
-pub some_place : (ts : List Token) (n end : ℕ) (t : Token) → n < length ts → t ≡ get_or ts n t → t.place ≡ first_place (drop n (map placed ts)) end
+pub some_place : (ts : List Token) (n end : ℕ) (t : Token) → n < length ts → t ≡ get_or ts n t
+    → t.place ≡ first_place (drop n (map placed ts)) end
 some_place [] n end t below e = absurd (omega arith)
 some_place (u ∷ us) zero end t below e = ap (λ x. x.place) e
 some_place (u ∷ us) (suc n) end t below e = some_place us n end t (omega arith) e
 
-pub no_place : (ts : List Token) (n end : ℕ) → length ts ≤ n → end ≡ first_place (drop n (map placed ts)) end
+pub no_place : (ts : List Token) (n end : ℕ) → length ts ≤ n
+    → end ≡ first_place (drop n (map placed ts)) end
 no_place [] zero end above = refl
 no_place [] (suc n) end above = refl
 no_place (u ∷ us) zero end above = absurd (omega arith)

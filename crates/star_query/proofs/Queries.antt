@@ -33,11 +33,17 @@ use Rattle.star_query.specs.declared.tree.Tree.{Tree}
 use Rattle.star_query.specs.Symbols.{Symbol, keyword, sign, name}
 use Rattle.star_query.specs.Tree as tree
 use Rattle.star_query.specs.Grammar as grammar
-use Rattle.star_query.specs.Grammar.{Several, one, more, Agg, folded, counted, Cond, lone_conj, or_conj, Key, unmarked, ascending, descending, grouped, hiding, Query, at, first, ident, cond_tree, agg_tree, item_tree, key_tree, listed, names, groups_tree, Hiding, cube, rollup, hiding_word, shape_of}
-use Rattle.star_query.specs.Private.Machine.{extended, in_fold, in_where, first_factor, first_term, first_unit, first_conj, Filtered, Grouped, filtered_by, grouped_by, query_of, State, begin, item_wanted, fold_named, count_named, count_opened, count_starred, factor_wanted, expr_had, cond_had, agg_had, alias_wanted, items_had, table_wanted, tables_had, unit_wanted, filtered_had, by_had, hiding_had, column_wanted, columns_had, grouped_had, order_had, key_wanted, key_named, keys_had, done, ended, to, step, at_end, Whole, Bad, after, ends, run}
+use Rattle.star_query.specs.Grammar.{Several, Agg, folded, counted, Cond, lone_conj, or_conj, Key, unmarked, ascending, descending, grouped, hiding, Query}
+use Rattle.star_query.specs.Grammar.{at, first, ident, cond_tree, agg_tree, item_tree, names, groups_tree, Hiding, cube, rollup, hiding_word, shape_of}
+use Rattle.star_query.specs.Private.Machine.{extended, in_fold, in_where, first_factor, first_term, first_unit, first_conj, Filtered, Grouped, filtered_by, grouped_by, query_of}
+use Rattle.star_query.specs.Private.Machine.{ParserState, begin, item_wanted, fold_named, count_named, count_opened, count_starred, factor_wanted, expr_had, cond_had, agg_had}
+use Rattle.star_query.specs.Private.Machine.{alias_wanted, items_had, table_wanted, tables_had, unit_wanted, filtered_had, by_had, hiding_had, column_wanted, columns_had, grouped_had}
+use Rattle.star_query.specs.Private.Machine.{order_had, key_wanted, key_named, keys_had, done, ended, to, next_step, query_at_end, Whole, Bad, verdict_after, ends, run}
 use Rattle.star_query.specs.Views.{name_view, condition_view, measure_view, aggregate_view, item_view, grouping_view}
 use Rattle.star_query.specs.Private.Reads.{Spot, spot_of, head_of, No, verdict, EndsBad, Takes, NoName, ReadsName, ReadsExpr, ReadsCond, NoLogic}
-use Rattle.star_query.specs.Private.Clauses.{function_symbol, function_named, function_parts, ReadsFolded, ReadsCounted, ReadsMeasure, ReadsAlias, ReadsAggregate, ReadsItem, NoComma, ReadsItems, ReadsTable, ReadsTables, ReadsFilter, ReadsColumn, ReadsColumns, ReadsHidden, ReadsGroups, ReadsGrouping, ReadsKey, ReadsKeyList, ReadsKeys, ReadsEnd, ReadsQuery}
+use Rattle.star_query.specs.Private.Clauses.{function_symbol, function_named, function_parts, ReadsFolded, ReadsCounted, ReadsMeasure, ReadsAlias}
+use Rattle.star_query.specs.Private.Clauses.{ReadsAggregate, ReadsItem, NoComma, ReadsItems, ReadsTable, ReadsTables, ReadsFilter, ReadsColumn, ReadsColumns}
+use Rattle.star_query.specs.Private.Clauses.{ReadsHidden, ReadsGroups, ReadsGrouping, ReadsKey, ReadsKeyList, ReadsKeys, ReadsEnd, ReadsQuery}
 use Rattle.star_query.specs.Private.Lists.{PassesComma, bad_along}
 use Rattle.star_query.proofs.Accepting.{fold_closes}
 use Rattle.star_query.proofs.Descent.{takes, stuck, bad_name, refused, same_from, head_no_name}
@@ -49,53 +55,116 @@ pub comma_passed : (here mid : Spot) → Takes here mid (sign s.Comma) [] → Pa
 comma_passed here mid t = λ from next e. takes here mid _ [] 0 from next t zero_deep e
 
 -- what has to be next, and isn't
-pub not_next : (x : Symbol) (old new : Spot) (from : State) (e : ParseError) → at_end from ≡ None → ((y : Symbol) → head_of old.left ≡ Some y → (y ≡ x → ⊥) → step from y ≡ None) → (e ≡ errors.Fault Unexpected) × No x old × (new ≡ old) → EndsBad e new (verdict old from)
+pub not_next : (x : Symbol) (old new : Spot) (from : ParserState) (e : ParseError)
+    → query_at_end from ≡ None
+    → ((y : Symbol) → head_of old.left ≡ Some y → (y ≡ x → ⊥) → next_step from y ≡ None)
+    → (e ≡ errors.Fault Unexpected) × No x old × (new ≡ old) → EndsBad e new (verdict old from)
 not_next x old new from e no_end others b =
-    subst (λ f. EndsBad f new (verdict old from)) (sym b.0) (stuck old from no_end (λ y head. others y head (λ q. b.1 (head ∙ ap Some q))) ∙ ap (λ s. Bad Unexpected s.left) (sym b.2))
+    subst (λ f. EndsBad f new (verdict old from)) (sym b.0)
+    (stuck old from no_end (λ y head. others y head (λ q. b.1 (head ∙ ap Some q)))
+    ∙ ap (λ s. Bad Unexpected s.left) (sym b.2))
 
 -- aggregates
-pub read_folded : (old a b new : Spot) (f : Fold) (x : Expression Name) → Takes old a (sign s.Open) [] → ReadsExpr 0 a b (Ok x) → Takes b new (sign s.Close) [] → ReadsFolded f old new (Ok (measures.Fold f x))
-read_folded old a b new f x opened reads closed =
-    (reads.0, ap (tree.fold f) reads.1, λ h u. takes old a _ [] 0 (fold_named h.0 f h.1) (factor_wanted (first_factor (first_term (in_fold h.0 f h.1)))) opened zero_deep refl ∙ reads.2 (in_fold h.0 f h.1) refl ∙ takes b new _ [] 0 (expr_had reads.0 (in_fold h.0 f h.1)) (agg_had h.0 (folded f h.1 reads.0)) closed zero_deep (fold_closes reads.0 h.0 f h.1))
+pub read_folded : (old a b new : Spot) (f : Fold) (x : Expression Name)
+    → Takes old a (sign s.Open) [] → ReadsExpr 0 a b (Ok x) → Takes b new (sign s.Close) []
+    → ReadsFolded f old new (Ok (measures.Fold f x))
+read_folded old a b new f x opened reads closed = (
+  reads.0,
+  ap (tree.fold f) reads.1,
+  λ h u. takes old a _ [] 0 (fold_named h.0 f h.1)
+      (factor_wanted (first_factor (first_term (in_fold h.0 f h.1)))) opened zero_deep refl
+      ∙ reads.2 (in_fold h.0 f h.1) refl
+      ∙ takes b new _ [] 0 (expr_had reads.0 (in_fold h.0 f h.1))
+      (agg_had h.0 (folded f h.1 reads.0)) closed zero_deep (fold_closes reads.0 h.0 f h.1),
+)
 
-pub read_counted : (old a b new : Spot) → Takes old a (sign s.Open) [] → Takes a b (sign s.Star) [] → Takes b new (sign s.Close) [] → ReadsCounted old new (Ok measures.Count)
-read_counted old a b new opened star closed =
-    (tt, refl, λ h u. takes old a _ [] 0 (count_named h.0 h.1) (count_opened h.0 h.1) opened zero_deep refl ∙ takes a b _ [] 0 (count_opened h.0 h.1) (count_starred h.0 h.1) star zero_deep refl ∙ takes b new _ [] 0 (count_starred h.0 h.1) (agg_had h.0 (counted h.1)) closed zero_deep refl)
+pub read_counted : (old a b new : Spot) → Takes old a (sign s.Open) [] → Takes a b (sign s.Star) []
+    → Takes b new (sign s.Close) [] → ReadsCounted old new (Ok measures.Count)
+read_counted old a b new opened star closed = (
+  tt,
+  refl,
+  λ h u. takes old a _ [] 0 (count_named h.0 h.1) (count_opened h.0 h.1) opened
+      zero_deep refl ∙ takes a b _ [] 0 (count_opened h.0 h.1) (count_starred h.0 h.1) star
+      zero_deep refl ∙ takes b new _ [] 0 (count_starred h.0 h.1) (agg_had h.0 (counted h.1))
+      closed zero_deep refl,
+)
 
-pub folded_measure : (f : Function) (q : Fold) (old new : Spot) (r : Result (Measure Name) ParseError) → f.fold ≡ Some q → ReadsFolded q old new r → ReadsMeasure f old new r
-folded_measure f q old new (Ok m) e reads =
-    (folded q f.place reads.0, ap (λ x. record { measure = x; place = f.place; name = None }) reads.1, λ b u. ap (verdict old) (named b) ∙ reads.2 (b, f.place) tt)
+pub folded_measure : (f : Function) (q : Fold) (old new : Spot)
+    (r : Result (Measure Name) ParseError) → f.fold ≡ Some q → ReadsFolded q old new r
+    → ReadsMeasure f old new r
+folded_measure f q old new (Ok m) e reads = (
+  folded q f.place reads.0,
+  ap (λ x. record { measure = x; place = f.place; name = None }) reads.1,
+  λ b u. ap (verdict old) (named b) ∙ reads.2 (b, f.place) tt,
+)
   where
     named : (b : Option (Several grammar.Item)) → function_named b f ≡ fold_named b q f.place
     named b = rw e refl
 folded_measure f q old new (Err x) e reads =
-    λ b u. bad_along x new _ _ (ap (verdict old) (let named : function_named b f ≡ fold_named b q f.place = rw e refl in named)) (reads (b, f.place) tt)
+    λ b u. bad_along x new _ _
+    (ap (verdict old) (let named : function_named b f ≡ fold_named b q f.place = rw e refl in
+    named)) (reads (b, f.place) tt)
 
-pub counted_measure : (f : Function) (old new : Spot) (r : Result (Measure Name) ParseError) → f.fold ≡ None → ReadsCounted old new r → ReadsMeasure f old new r
-counted_measure f old new (Ok m) e reads =
-    (counted f.place, ap (λ x. record { measure = x; place = f.place; name = None }) reads.1, λ b u. ap (verdict old) (let named : function_named b f ≡ count_named b f.place = rw e refl in named) ∙ reads.2 (b, f.place) tt)
+pub counted_measure : (f : Function) (old new : Spot) (r : Result (Measure Name) ParseError)
+    → f.fold ≡ None → ReadsCounted old new r → ReadsMeasure f old new r
+counted_measure f old new (Ok m) e reads = (
+  counted f.place,
+  ap (λ x. record { measure = x; place = f.place; name = None }) reads.1,
+  λ b u. ap (verdict old) (let named : function_named b f ≡ count_named b f.place =
+      rw e refl in named) ∙ reads.2 (b, f.place) tt,
+)
 counted_measure f old new (Err x) e reads =
-    λ b u. bad_along x new _ _ (ap (verdict old) (let named : function_named b f ≡ count_named b f.place = rw e refl in named)) (reads (b, f.place) tt)
+    λ b u. bad_along x new _ _
+    (ap (verdict old) (let named : function_named b f ≡ count_named b f.place = rw e refl in
+    named)) (reads (b, f.place) tt)
 
-agg_step : (b : Option (Several grammar.Item)) (a : Agg) (x : Symbol) → (x ≡ keyword k.As → ⊥) → step (agg_had b a) x ≡ step (items_had (extended b (grammar.aggregate a None))) x
+agg_step : (b : Option (Several grammar.Item)) (a : Agg) (x : Symbol) → (x ≡ keyword k.As → ⊥)
+    → next_step (agg_had b a) x ≡ next_step (items_had (extended b (grammar.aggregate a None))) x
 agg_step b a (keyword k.As) other = absurd (other refl)
 agg_step b a _ other = refl
 
-pub read_no_alias : (old new : Spot) → No (keyword k.As) old → new ≡ old → ReadsAlias old new (Ok None)
-read_no_alias old new none same =
-    (None, refl, λ h u. same_from old (agg_had h.0 h.1) (items_had (extended h.0 (grammar.aggregate h.1 None))) refl (λ x head. agg_step h.0 h.1 x (λ q. none (head ∙ ap Some q))) ∙ ap (λ s. verdict s (items_had (extended h.0 (grammar.aggregate h.1 None)))) (sym same))
+pub read_no_alias : (old new : Spot) → No (keyword k.As) old → new ≡ old
+    → ReadsAlias old new (Ok None)
+read_no_alias old new none same = (
+  None,
+  refl,
+  λ h u. same_from old (agg_had h.0 h.1)
+      (items_had (extended h.0 (grammar.aggregate h.1 None))) refl
+      (λ x head. agg_step h.0 h.1 x (λ q. none (head ∙ ap Some q)))
+      ∙ ap (λ s. verdict s (items_had (extended h.0 (grammar.aggregate h.1 None)))) (sym same),
+)
 
-pub read_alias : (old mid new : Spot) (n : Name) → Takes old mid (keyword k.As) [] → Takes mid new (ident (name_view n)) [] → ReadsAlias old new (Ok (Some n))
-read_alias old mid new n t u =
-    (Some (name_view n), refl, λ h v. takes old mid _ [] 0 (agg_had h.0 h.1) (alias_wanted h.0 h.1) t zero_deep refl ∙ takes mid new _ [] 0 (alias_wanted h.0 h.1) (items_had (extended h.0 (grammar.aggregate h.1 (Some (name_view n))))) u zero_deep refl)
+pub read_alias : (old mid new : Spot) (n : Name) → Takes old mid (keyword k.As) []
+    → Takes mid new (ident (name_view n)) [] → ReadsAlias old new (Ok (Some n))
+read_alias old mid new n t u = (
+  Some (name_view n),
+  refl,
+  λ h v. takes old mid _ [] 0 (agg_had h.0 h.1) (alias_wanted h.0 h.1) t zero_deep refl
+      ∙ takes mid new _ [] 0 (alias_wanted h.0 h.1)
+      (items_had (extended h.0 (grammar.aggregate h.1 (Some (name_view n))))) u zero_deep refl,
+)
 
-only_alias : (b : Option (Several grammar.Item)) (a : Agg) (x : Symbol) → NoName (x ∷ []) → step (alias_wanted b a) x ≡ None
+only_alias : (b : Option (Several grammar.Item)) (a : Agg) (x : Symbol) → NoName (x ∷ [])
+    → next_step (alias_wanted b a) x ≡ None
 only_alias b a (name t p) none = absurd none
 only_alias b a _ none = refl
 
-pub bad_alias : (old mid new : Spot) (r : Result (Option Name) ParseError) (e : ParseError) → r ≡ Err e → Takes old mid (keyword k.As) [] → ReadsName [] mid new (Err e) → ReadsAlias old new r
+pub bad_alias : (old mid new : Spot) (r : Result (Option Name) ParseError) (e : ParseError)
+    → r ≡ Err e → Takes old mid (keyword k.As) [] → ReadsName [] mid new (Err e)
+    → ReadsAlias old new r
 bad_alias old mid new r e same t b =
-    refused (option_map name_view) (λ (p : Option tree.Name). p) (λ h. Unit {0}) (λ h. agg_had h.0 h.1) (λ p h. items_had (extended h.0 (grammar.aggregate h.1 p))) old new r e same (λ h u. bad_along e new _ _ (takes old mid _ [] 0 (agg_had h.0 h.1) (alias_wanted h.0 h.1) t zero_deep refl) (bad_name [] 0 (alias_wanted h.0 h.1) mid new e zero_deep (λ w p. (items_had (extended h.0 (grammar.aggregate h.1 (Some (record { text = w; place = p })))), refl)) (λ none. stuck mid (alias_wanted h.0 h.1) refl (λ x head. only_alias h.0 h.1 x (head_no_name mid.left x head none))) b))
+    refused (option_map name_view) (λ (p : Option tree.Name). p) (λ h. Unit {0})
+    (λ h. agg_had h.0 h.1) (λ p h. items_had (extended h.0 (grammar.aggregate h.1 p))) old new r
+    e same (λ h u. bad_along e new _ _
+    (takes old mid _ [] 0 (agg_had h.0 h.1) (alias_wanted h.0 h.1) t zero_deep refl)
+    (bad_name [] 0 (alias_wanted h.0 h.1) mid new e zero_deep
+    (λ w p. (
+      items_had (extended h.0
+          (grammar.aggregate h.1 (Some (record { text = w; place = p })))),
+      refl,
+    ))
+    (λ none. stuck mid (alias_wanted h.0 h.1) refl
+    (λ x head. only_alias h.0 h.1 x (head_no_name mid.left x head none))) b))
 
 abbrev with_name : Option tree.Name → tree.Aggregate → tree.Aggregate
 with_name p x = record x { name = p }
@@ -107,39 +176,71 @@ renamed : (a : Agg) (p : Option tree.Name) → agg_tree a p ≡ with_name p (agg
 renamed (folded f p e) i = refl
 renamed (counted p) i = refl
 
-pub read_aggregate : (f : Function) (old mid new : Spot) (m : Measure Name) (n : Option Name) → ReadsMeasure f old mid (Ok m) → ReadsAlias mid new (Ok n) → ReadsAggregate f old new (Ok (record { measure = m; place = f.place; name = n }))
-read_aggregate f old mid new m n measure alias =
-    (grammar.aggregate measure.0 alias.0, ap tree.aggregate (renamed measure.0 alias.0 ∙ ap (with_name alias.0) measure.1 ∙ ap (aggregate_with (measure_view m) f.place) alias.1), λ b u. measure.2 b tt ∙ alias.2 (b, measure.0) tt)
+pub read_aggregate : (f : Function) (old mid new : Spot) (m : Measure Name) (n : Option Name)
+    → ReadsMeasure f old mid (Ok m) → ReadsAlias mid new (Ok n)
+    → ReadsAggregate f old new (Ok (record { measure = m; place = f.place; name = n }))
+read_aggregate f old mid new m n measure alias = (
+  grammar.aggregate measure.0 alias.0,
+  ap tree.aggregate (renamed measure.0 alias.0 ∙ ap (with_name alias.0) measure.1
+      ∙ ap (aggregate_with (measure_view m) f.place) alias.1),
+  λ b u. measure.2 b tt ∙ alias.2 (b, measure.0) tt,
+)
 
-function_step : (b : Option (Several grammar.Item)) (o : Option Fold) (p : ℕ) → step (item_wanted b) (function_symbol (record { fold = o; place = p })) ≡ to (function_named b (record { fold = o; place = p })) (first function_parts 0 (function_symbol (record { fold = o; place = p })))
+function_step : (b : Option (Several grammar.Item)) (o : Option Fold) (p : ℕ)
+    → next_step (item_wanted b) (function_symbol (record { fold = o; place = p }))
+    ≡ to (function_named b (record { fold = o; place = p }))
+    (first function_parts 0 (function_symbol (record { fold = o; place = p })))
 function_step b (Some f) p = refl
 function_step b None p = refl
 
-pub read_item_name : (old mid new : Spot) (n : Name) → mid ≡ old → Takes mid new (ident (name_view n)) (part.Item ∷ []) → ReadsItem old new (Ok (items.Column n))
-read_item_name old mid new n same t =
-    (grammar.plain (name_view n), refl, λ b u. ap (λ s. verdict s (item_wanted b)) (sym same) ∙ takes mid new _ (part.Item ∷ []) 0 (item_wanted b) (items_had (extended b (grammar.plain (name_view n)))) t zero_deep refl)
+pub read_item_name : (old mid new : Spot) (n : Name) → mid ≡ old
+    → Takes mid new (ident (name_view n)) (part.Item ∷ []) → ReadsItem old new (Ok (items.Column n))
+read_item_name old mid new n same t = (
+  grammar.plain (name_view n),
+  refl,
+  λ b u. ap (λ s. verdict s (item_wanted b)) (sym same)
+      ∙ takes mid new _ (part.Item ∷ []) 0 (item_wanted b)
+      (items_had (extended b (grammar.plain (name_view n)))) t zero_deep refl,
+)
 
 -- items
 -- tables
-only_table : (is : Several grammar.Item) (b : Option (Several tree.Name)) (x : Symbol) → NoName (x ∷ []) → step (table_wanted is b) x ≡ None
+only_table : (is : Several grammar.Item) (b : Option (Several tree.Name)) (x : Symbol)
+    → NoName (x ∷ []) → next_step (table_wanted is b) x ≡ None
 only_table is b (name t p) none = absurd none
 only_table is b _ none = refl
 
-bad_table : (is : Several grammar.Item) (b : Option (Several tree.Name)) (old new : Spot) (e : ParseError) → ReadsName [] old new (Err e) → EndsBad e new (verdict old (table_wanted is b))
+bad_table : (is : Several grammar.Item) (b : Option (Several tree.Name)) (old new : Spot)
+    (e : ParseError) → ReadsName [] old new (Err e)
+    → EndsBad e new (verdict old (table_wanted is b))
 bad_table is b old new e reads =
-    bad_name [] 0 (table_wanted is b) old new e zero_deep (λ t p. (tables_had is (extended b (record { text = t; place = p })), refl)) (λ none. stuck old (table_wanted is b) refl (λ x head. only_table is b x (head_no_name old.left x head none))) reads
+    bad_name [] 0 (table_wanted is b) old new e zero_deep
+    (λ t p. (tables_had is (extended b (record { text = t; place = p })), refl))
+    (λ none. stuck old (table_wanted is b) refl
+    (λ x head. only_table is b x (head_no_name old.left x head none))) reads
 
-pub read_table : (old new : Spot) (r : Result Name ParseError) → ReadsName [] old new r → ReadsTable old new r
-read_table old new (Ok n) t =
-    (name_view n, refl, λ h u. takes old new _ [] 0 (table_wanted h.0 h.1) (tables_had h.0 (extended h.1 (name_view n))) t zero_deep refl)
+pub read_table : (old new : Spot) (r : Result Name ParseError) → ReadsName [] old new r
+    → ReadsTable old new r
+read_table old new (Ok n) t = (
+  name_view n,
+  refl,
+  λ h u.
+      takes old new _ [] 0 (table_wanted h.0 h.1) (tables_had h.0 (extended h.1 (name_view n))) t
+      zero_deep refl,
+)
 read_table old new (Err e) bad = λ h u. bad_table h.0 h.1 old new e bad
 
 -- the filter
-cond_acts_end : (a : Cond) (is : Several grammar.Item) (ts : Several tree.Name) → at_end (cond_had a (in_where is ts)) ≡ at_end (filtered_had (filtered_by is ts (Some a)))
+cond_acts_end : (a : Cond) (is : Several grammar.Item) (ts : Several tree.Name)
+    → query_at_end (cond_had a (in_where is ts))
+    ≡ query_at_end (filtered_had (filtered_by is ts (Some a)))
 cond_acts_end (lone_conj c) is ts = refl
 cond_acts_end (or_conj a c) is ts = refl
 
-cond_step : (a : Cond) (is : Several grammar.Item) (ts : Several tree.Name) (x : Symbol) → (x ≡ keyword k.And → ⊥) → (x ≡ keyword k.Or → ⊥) → step (cond_had a (in_where is ts)) x ≡ step (filtered_had (filtered_by is ts (Some a))) x
+cond_step : (a : Cond) (is : Several grammar.Item) (ts : Several tree.Name) (x : Symbol)
+    → (x ≡ keyword k.And → ⊥) → (x ≡ keyword k.Or → ⊥)
+    → next_step (cond_had a (in_where is ts)) x
+    ≡ next_step (filtered_had (filtered_by is ts (Some a))) x
 cond_step (lone_conj c) is ts (keyword k.And) f g = absurd (f refl)
 cond_step (lone_conj c) is ts (keyword k.Or) f g = absurd (g refl)
 cond_step (lone_conj c) is ts _ f g = refl
@@ -147,207 +248,402 @@ cond_step (or_conj a c) is ts (keyword k.And) f g = absurd (f refl)
 cond_step (or_conj a c) is ts (keyword k.Or) f g = absurd (g refl)
 cond_step (or_conj a c) is ts _ f g = refl
 
-pub read_filter : (old mid new : Spot) (c : Condition Test) → Takes old mid (keyword k.Where) [] → ReadsCond 0 mid new (Ok c) → NoLogic new → ReadsFilter old new (Ok (Some c))
-read_filter old mid new c t reads none =
-    (Some reads.0, ap Some reads.1, λ h u. takes old mid _ [] 0 (tables_had h.0 h.1) (unit_wanted (first_unit (first_conj (in_where h.0 h.1)))) t zero_deep refl ∙ reads.2 (in_where h.0 h.1) refl ∙ same_from new (cond_had reads.0 (in_where h.0 h.1)) (filtered_had (filtered_by h.0 h.1 (Some reads.0))) (cond_acts_end reads.0 h.0 h.1) (λ x head. cond_step reads.0 h.0 h.1 x (λ q. none.0 (head ∙ ap Some q)) (λ q. none.1 (head ∙ ap Some q))))
+pub read_filter : (old mid new : Spot) (c : Condition Test) → Takes old mid (keyword k.Where) []
+    → ReadsCond 0 mid new (Ok c) → NoLogic new → ReadsFilter old new (Ok (Some c))
+read_filter old mid new c t reads none = (
+  Some reads.0,
+  ap Some reads.1,
+  λ h u. takes old mid _ [] 0 (tables_had h.0 h.1)
+      (unit_wanted (first_unit (first_conj (in_where h.0 h.1)))) t zero_deep refl
+      ∙ reads.2 (in_where h.0 h.1) refl
+      ∙ same_from new (cond_had reads.0 (in_where h.0 h.1))
+      (filtered_had (filtered_by h.0 h.1 (Some reads.0))) (cond_acts_end reads.0 h.0 h.1)
+      (λ x head. cond_step reads.0 h.0 h.1 x (λ q. none.0 (head ∙ ap Some q))
+      (λ q. none.1 (head ∙ ap Some q))),
+)
 
-pub bad_filter : (old mid new : Spot) (r : Result (Option (Condition Test)) ParseError) (e : ParseError) → r ≡ Err e → Takes old mid (keyword k.Where) [] → ReadsCond 0 mid new (Err e) → ReadsFilter old new r
+pub bad_filter : (old mid new : Spot) (r : Result (Option (Condition Test)) ParseError)
+    (e : ParseError) → r ≡ Err e → Takes old mid (keyword k.Where) [] → ReadsCond 0 mid new (Err e)
+    → ReadsFilter old new r
 bad_filter old mid new r e same t b =
-    refused (option_map condition_view) (option_map cond_tree) (λ h. Unit {0}) (λ (h : Several grammar.Item × Several tree.Name). tables_had h.0 h.1) (λ c h. filtered_had (filtered_by h.0 h.1 c)) old new r e same (λ h u. bad_along e new _ _ (takes old mid _ [] 0 (tables_had h.0 h.1) (unit_wanted (first_unit (first_conj (in_where h.0 h.1)))) t zero_deep refl) (b (in_where h.0 h.1) refl))
+    refused (option_map condition_view) (option_map cond_tree) (λ h. Unit {0})
+    (λ (h : Several grammar.Item × Several tree.Name). tables_had h.0 h.1)
+    (λ c h. filtered_had (filtered_by h.0 h.1 c)) old new r e same
+    (λ h u. bad_along e new _ _
+    (takes old mid _ [] 0 (tables_had h.0 h.1)
+    (unit_wanted (first_unit (first_conj (in_where h.0 h.1)))) t zero_deep refl)
+    (b (in_where h.0 h.1) refl))
 
-tables_step : (is : Several grammar.Item) (ts : Several tree.Name) (x : Symbol) → (x ≡ sign s.Comma → ⊥) → (x ≡ keyword k.Where → ⊥) → step (tables_had is ts) x ≡ step (filtered_had (filtered_by is ts None)) x
+tables_step : (is : Several grammar.Item) (ts : Several tree.Name) (x : Symbol)
+    → (x ≡ sign s.Comma → ⊥) → (x ≡ keyword k.Where → ⊥)
+    → next_step (tables_had is ts) x ≡ next_step (filtered_had (filtered_by is ts None)) x
 tables_step is ts (sign s.Comma) f g = absurd (f refl)
 tables_step is ts (keyword k.Where) f g = absurd (g refl)
 tables_step is ts _ f g = refl
 
-pub read_no_filter : (old new : Spot) → NoComma old → No (keyword k.Where) old → new ≡ old → ReadsFilter old new (Ok None)
-read_no_filter old new no_comma no_where same =
-    (None, refl, λ h u. same_from old (tables_had h.0 h.1) (filtered_had (filtered_by h.0 h.1 None)) refl (λ x head. tables_step h.0 h.1 x (λ q. no_comma (head ∙ ap Some q)) (λ q. no_where (head ∙ ap Some q))) ∙ ap (λ s. verdict s (filtered_had (filtered_by h.0 h.1 None))) (sym same))
+pub read_no_filter : (old new : Spot) → NoComma old → No (keyword k.Where) old → new ≡ old
+    → ReadsFilter old new (Ok None)
+read_no_filter old new no_comma no_where same = (
+  None,
+  refl,
+  λ h u. same_from old (tables_had h.0 h.1) (filtered_had (filtered_by h.0 h.1 None))
+      refl (λ x head. tables_step h.0 h.1 x (λ q. no_comma (head ∙ ap Some q))
+      (λ q. no_where (head ∙ ap Some q)))
+      ∙ ap (λ s. verdict s (filtered_had (filtered_by h.0 h.1 None))) (sym same),
+)
 
 -- columns
-only_column : (f : Filtered) (h : Option Hiding) (b : Option (Several tree.Name)) (x : Symbol) → NoName (x ∷ []) → step (column_wanted f h b) x ≡ None
+only_column : (f : Filtered) (h : Option Hiding) (b : Option (Several tree.Name)) (x : Symbol)
+    → NoName (x ∷ []) → next_step (column_wanted f h b) x ≡ None
 only_column f h b (name t p) none = absurd none
 only_column f h b _ none = refl
 
-bad_column_name : (f : Filtered) (h : Option Hiding) (b : Option (Several tree.Name)) (old new : Spot) (e : ParseError) → ReadsName (part.GroupColumn ∷ []) old new (Err e) → EndsBad e new (verdict old (column_wanted f h b))
+bad_column_name : (f : Filtered) (h : Option Hiding) (b : Option (Several tree.Name))
+    (old new : Spot) (e : ParseError) → ReadsName (part.GroupColumn ∷ []) old new (Err e)
+    → EndsBad e new (verdict old (column_wanted f h b))
 bad_column_name f h b old new e reads =
-    bad_name (part.GroupColumn ∷ []) 0 (column_wanted f h b) old new e zero_deep (λ t p. (columns_had f h (extended b (record { text = t; place = p })), refl)) (λ none. stuck old (column_wanted f h b) refl (λ x head. only_column f h b x (head_no_name old.left x head none))) reads
+    bad_name (part.GroupColumn ∷ []) 0 (column_wanted f h b) old new e zero_deep
+    (λ t p. (columns_had f h (extended b (record { text = t; place = p })), refl))
+    (λ none. stuck old (column_wanted f h b) refl
+    (λ x head. only_column f h b x (head_no_name old.left x head none))) reads
 
-pub read_column : (old new : Spot) (r : Result Name ParseError) → ReadsName (part.GroupColumn ∷ []) old new r → ReadsColumn old new r
-read_column old new (Ok n) t =
-    (name_view n, refl, λ h u. takes old new _ (part.GroupColumn ∷ []) 0 (column_wanted h.0.0 h.0.1 h.1) (columns_had h.0.0 h.0.1 (extended h.1 (name_view n))) t zero_deep refl)
+pub read_column : (old new : Spot) (r : Result Name ParseError)
+    → ReadsName (part.GroupColumn ∷ []) old new r → ReadsColumn old new r
+read_column old new (Ok n) t = (
+  name_view n,
+  refl,
+  λ h u.
+      takes old new _ (part.GroupColumn ∷ []) 0 (column_wanted h.0.0 h.0.1 h.1)
+      (columns_had h.0.0 h.0.1 (extended h.1 (name_view n))) t zero_deep refl,
+)
 read_column old new (Err e) bad = λ h u. bad_column_name h.0.0 h.0.1 h.1 old new e bad
 
 -- groups
-hidden_ends : (f : Filtered) (h : Hiding) (is : Several tree.Name) (x : Symbol) → (x ≡ sign s.Comma → ⊥) → (x ≡ sign s.Close → ⊥) → step (columns_had f (Some h) is) x ≡ None
+hidden_ends : (f : Filtered) (h : Hiding) (is : Several tree.Name) (x : Symbol)
+    → (x ≡ sign s.Comma → ⊥) → (x ≡ sign s.Close → ⊥)
+    → next_step (columns_had f (Some h) is) x ≡ None
 hidden_ends f h is (sign s.Comma) a b = absurd (a refl)
 hidden_ends f h is (sign s.Close) a b = absurd (b refl)
 hidden_ends f h is _ a b = refl
 
-opens : (old a : Spot) (f : Filtered) (h : Hiding) → Takes old a (sign s.Open) [] → verdict old (hiding_had f h) ≡ verdict a (column_wanted f (Some h) None)
-opens old a f h opened = takes old a _ [] 0 (hiding_had f h) (column_wanted f (Some h) None) opened zero_deep refl
+opens : (old a : Spot) (f : Filtered) (h : Hiding) → Takes old a (sign s.Open) []
+    → verdict old (hiding_had f h) ≡ verdict a (column_wanted f (Some h) None)
+opens old a f h opened =
+    takes old a _ [] 0 (hiding_had f h) (column_wanted f (Some h) None) opened zero_deep refl
 
-pub read_hidden : (shape : Shape) (old a b new : Spot) (v : _) → Takes old a (sign s.Open) [] → ReadsColumns a b (Ok v) → Takes b new (sign s.Close) [] → ReadsHidden shape old new (Ok (record { shape = shape; columns = v }))
-read_hidden shape old a b new v opened reads closed =
-    (reads.0, ap (λ x. record { shape = shape; columns = x }) reads.1, λ h u. opens old a h.0 h.1 opened ∙ reads.2 (h.0, Some h.1) tt ∙ takes b new _ [] 0 (columns_had h.0 (Some h.1) reads.0) (grouped_had (grouped_by h.0 (hiding h.1 reads.0))) closed zero_deep refl)
+pub read_hidden : (shape : Shape) (old a b new : Spot) (v : _) → Takes old a (sign s.Open) []
+    → ReadsColumns a b (Ok v) → Takes b new (sign s.Close) []
+    → ReadsHidden shape old new (Ok (record { shape = shape; columns = v }))
+read_hidden shape old a b new v opened reads closed = (
+  reads.0,
+  ap (λ x. record { shape = shape; columns = x }) reads.1,
+  λ h u. opens old a h.0 h.1 opened ∙ reads.2 (h.0, Some h.1) tt
+      ∙ takes b new _ [] 0 (columns_had h.0 (Some h.1) reads.0)
+      (grouped_had (grouped_by h.0 (hiding h.1 reads.0))) closed zero_deep refl,
+)
 
-bad_hidden : (shape : Shape) (old new : Spot) (r : Result Grouping ParseError) (e : ParseError) → r ≡ Err e → ((f : Filtered) (h : Hiding) → EndsBad e new (verdict old (hiding_had f h))) → ReadsHidden shape old new r
+bad_hidden : (shape : Shape) (old new : Spot) (r : Result Grouping ParseError) (e : ParseError)
+    → r ≡ Err e → ((f : Filtered) (h : Hiding) → EndsBad e new (verdict old (hiding_had f h)))
+    → ReadsHidden shape old new r
 bad_hidden shape old new r e is bad =
-    refused grouping_view (λ is. record { shape = shape; columns = names is }) (λ h. Unit {0}) (λ (h : Filtered × Hiding). hiding_had h.0 h.1) (λ is h. grouped_had (grouped_by h.0 (hiding h.1 is))) old new r e is (λ h u. bad h.0 h.1)
+    refused grouping_view (λ is. record { shape = shape; columns = names is }) (λ h. Unit {0})
+    (λ (h : Filtered × Hiding). hiding_had h.0 h.1)
+    (λ is h. grouped_had (grouped_by h.0 (hiding h.1 is))) old new r e is (λ h u. bad h.0 h.1)
 
-pub bad_hidden_columns : (shape : Shape) (old a new : Spot) (r : Result Grouping ParseError) (e : ParseError) → r ≡ Err e → Takes old a (sign s.Open) [] → ReadsColumns a new (Err e) → ReadsHidden shape old new r
+pub bad_hidden_columns :
+    (shape : Shape) (old a new : Spot) (r : Result Grouping ParseError) (e : ParseError) → r ≡ Err e
+    → Takes old a (sign s.Open) [] → ReadsColumns a new (Err e) → ReadsHidden shape old new r
 bad_hidden_columns shape old a new r e is opened bad =
-    bad_hidden shape old new r e is (λ f h. bad_along e new _ _ (opens old a f h opened) (bad (f, Some h) tt))
+    bad_hidden shape old new r e is
+    (λ f h. bad_along e new _ _ (opens old a f h opened) (bad (f, Some h) tt))
 
-pub bad_hidden_close : (shape : Shape) (old a b new : Spot) (v : _) (r : Result Grouping ParseError) (e : ParseError) → r ≡ Err e → Takes old a (sign s.Open) [] → ReadsColumns a b (Ok v) → NoComma b → (e ≡ errors.Fault Unexpected) × No (sign s.Close) b × (new ≡ b) → ReadsHidden shape old new r
+pub bad_hidden_close : (shape : Shape) (old a b new : Spot) (v : _) (r : Result Grouping ParseError)
+    (e : ParseError) → r ≡ Err e → Takes old a (sign s.Open) [] → ReadsColumns a b (Ok v)
+    → NoComma b → (e ≡ errors.Fault Unexpected) × No (sign s.Close) b × (new ≡ b)
+    → ReadsHidden shape old new r
 bad_hidden_close shape old a b new v r e is opened reads no_comma bad =
-    bad_hidden shape old new r e is (λ f h. bad_along e new _ _ (opens old a f h opened ∙ reads.2 (f, Some h) tt) (not_next (sign s.Close) b new (columns_had f (Some h) reads.0) e refl (λ y head other. hidden_ends f h reads.0 y (λ q. no_comma (head ∙ ap Some q)) other) bad))
+    bad_hidden shape old new r e is
+    (λ f h. bad_along e new _ _ (opens old a f h opened ∙ reads.2 (f, Some h) tt)
+    (not_next (sign s.Close) b new (columns_had f (Some h) reads.0) e refl
+    (λ y head other. hidden_ends f h reads.0 y (λ q. no_comma (head ∙ ap Some q)) other) bad))
 
-on_word : (f : Filtered) (h : Hiding) → step (by_had f) (keyword (hiding_word h)) ≡ to (hiding_had f h) (at 0 (keyword (hiding_word h)))
+on_word : (f : Filtered) (h : Hiding)
+    → next_step (by_had f) (keyword (hiding_word h))
+    ≡ to (hiding_had f h) (at 0 (keyword (hiding_word h)))
 on_word f cube = refl
 on_word f rollup = refl
 
-word_taken : (h : Hiding) (old here a : Spot) (f : Filtered) → here ≡ old → Takes here a (keyword (hiding_word h)) [] → verdict old (by_had f) ≡ verdict a (hiding_had f h)
-word_taken h old here a f same word = ap (λ s. verdict s (by_had f)) (sym same) ∙ takes here a _ [] 0 (by_had f) (hiding_had f h) word zero_deep (on_word f h)
+word_taken : (h : Hiding) (old here a : Spot) (f : Filtered) → here ≡ old
+    → Takes here a (keyword (hiding_word h)) []
+    → verdict old (by_had f) ≡ verdict a (hiding_had f h)
+word_taken h old here a f same word =
+    ap (λ s. verdict s (by_had f)) (sym same)
+    ∙ takes here a _ [] 0 (by_had f) (hiding_had f h) word zero_deep (on_word f h)
 
-pub read_hiding : (h : Hiding) (old here a new : Spot) (r : Result Grouping ParseError) → here ≡ old → Takes here a (keyword (hiding_word h)) [] → ReadsHidden (shape_of h) a new r → ReadsGroups old new r
+pub read_hiding : (h : Hiding) (old here a new : Spot) (r : Result Grouping ParseError) → here ≡ old
+    → Takes here a (keyword (hiding_word h)) [] → ReadsHidden (shape_of h) a new r
+    → ReadsGroups old new r
 read_hiding h old here a new (Ok v) same word reads =
     (hiding h reads.0, reads.1, λ f u. word_taken h old here a f same word ∙ reads.2 (f, h) tt)
 read_hiding h old here a new (Err e) same word bad =
     λ f u. bad_along e new _ _ (word_taken h old here a f same word) (bad (f, h) tt)
 
-by_step : (f : Filtered) (x : Symbol) → (x ≡ keyword k.Cube → ⊥) → (x ≡ keyword k.Rollup → ⊥) → step (by_had f) x ≡ step (column_wanted f None None) x
+by_step : (f : Filtered) (x : Symbol) → (x ≡ keyword k.Cube → ⊥) → (x ≡ keyword k.Rollup → ⊥)
+    → next_step (by_had f) x ≡ next_step (column_wanted f None None) x
 by_step f (keyword k.Cube) no_cube no_rollup = absurd (no_cube refl)
 by_step f (keyword k.Rollup) no_cube no_rollup = absurd (no_rollup refl)
 by_step f _ no_cube no_rollup = refl
 
-plain_step : (f : Filtered) (is : Several tree.Name) (x : Symbol) → (x ≡ sign s.Comma → ⊥) → step (columns_had f None is) x ≡ step (grouped_had (grouped_by f (grouped is))) x
+plain_step : (f : Filtered) (is : Several tree.Name) (x : Symbol) → (x ≡ sign s.Comma → ⊥)
+    → next_step (columns_had f None is) x ≡ next_step (grouped_had (grouped_by f (grouped is))) x
 plain_step f is (sign s.Comma) other = absurd (other refl)
 plain_step f is _ other = refl
 
-by_columns : (old mid here : Spot) (f : Filtered) → No (keyword k.Cube) old × (mid ≡ old) → No (keyword k.Rollup) mid × (here ≡ mid) → verdict old (by_had f) ≡ verdict here (column_wanted f None None)
+by_columns : (old mid here : Spot) (f : Filtered) → No (keyword k.Cube) old × (mid ≡ old)
+    → No (keyword k.Rollup) mid × (here ≡ mid)
+    → verdict old (by_had f) ≡ verdict here (column_wanted f None None)
 by_columns old mid here f no_cube no_rollup =
     ap (λ s. verdict s (by_had f)) (sym no_cube.1)
-    ∙ same_from mid (by_had f) (column_wanted f None None) refl (λ x head. by_step f x (λ q. no_cube.0 (ap (λ s. head_of s.left) (sym no_cube.1) ∙ head ∙ ap Some q)) (λ q. no_rollup.0 (head ∙ ap Some q)))
+    ∙ same_from mid (by_had f) (column_wanted f None None) refl
+    (λ x head. by_step f x (λ q.
+    no_cube.0 (ap (λ s. head_of s.left) (sym no_cube.1) ∙ head ∙ ap Some q))
+    (λ q. no_rollup.0 (head ∙ ap Some q)))
     ∙ ap (λ s. verdict s (column_wanted f None None)) (sym no_rollup.1)
 
-pub read_plain : (old mid here new : Spot) (v : _) → No (keyword k.Cube) old × (mid ≡ old) → No (keyword k.Rollup) mid × (here ≡ mid) → ReadsColumns here new (Ok v) → NoComma new → ReadsGroups old new (Ok (record { shape = Plain; columns = v }))
-read_plain old mid here new v no_cube no_rollup reads no_comma =
-    (grouped reads.0, ap (λ x. record { shape = Plain; columns = x }) reads.1, λ f u. by_columns old mid here f no_cube no_rollup ∙ reads.2 (f, None) tt ∙ same_from new (columns_had f None reads.0) (grouped_had (grouped_by f (grouped reads.0))) refl (λ x head. plain_step f reads.0 x (λ q. no_comma (head ∙ ap Some q))))
+pub read_plain : (old mid here new : Spot) (v : _) → No (keyword k.Cube) old × (mid ≡ old)
+    → No (keyword k.Rollup) mid × (here ≡ mid) → ReadsColumns here new (Ok v) → NoComma new
+    → ReadsGroups old new (Ok (record { shape = Plain; columns = v }))
+read_plain old mid here new v no_cube no_rollup reads no_comma = (
+  grouped reads.0,
+  ap (λ x. record { shape = Plain; columns = x }) reads.1,
+  λ f u. by_columns old mid here f no_cube no_rollup ∙ reads.2 (f, None) tt
+      ∙ same_from new (columns_had f None reads.0) (grouped_had (grouped_by f (grouped reads.0)))
+      refl (λ x head. plain_step f reads.0 x (λ q. no_comma (head ∙ ap Some q))),
+)
 
-pub bad_plain : (old mid here new : Spot) (r : Result Grouping ParseError) (e : ParseError) → r ≡ Err e → No (keyword k.Cube) old × (mid ≡ old) → No (keyword k.Rollup) mid × (here ≡ mid) → ReadsColumns here new (Err e) → ReadsGroups old new r
+pub bad_plain : (old mid here new : Spot) (r : Result Grouping ParseError) (e : ParseError)
+    → r ≡ Err e → No (keyword k.Cube) old × (mid ≡ old) → No (keyword k.Rollup) mid × (here ≡ mid)
+    → ReadsColumns here new (Err e) → ReadsGroups old new r
 bad_plain old mid here new r e is no_cube no_rollup b =
-    refused grouping_view groups_tree (λ h. Unit {0}) by_had (λ g f. grouped_had (grouped_by f g)) old new r e is (λ f u. bad_along e new _ _ (by_columns old mid here f no_cube no_rollup) (b (f, None) tt))
+    refused grouping_view groups_tree (λ h. Unit {0}) by_had (λ g f. grouped_had (grouped_by f g))
+    old new r e is (λ f u. bad_along e new _ _ (by_columns old mid here f no_cube no_rollup)
+    (b (f, None) tt))
 
 -- sort keys
-key_step : (g : Grouped) (b : Option (Several Key)) (i : tree.Name) (x : Symbol) → (x ≡ keyword k.Asc → ⊥) → (x ≡ keyword k.Desc → ⊥) → step (key_named g b i) x ≡ step (keys_had g (extended b (unmarked i))) x
+key_step : (g : Grouped) (b : Option (Several Key)) (i : tree.Name) (x : Symbol)
+    → (x ≡ keyword k.Asc → ⊥) → (x ≡ keyword k.Desc → ⊥)
+    → next_step (key_named g b i) x ≡ next_step (keys_had g (extended b (unmarked i))) x
 key_step g b i (keyword k.Asc) p q = absurd (p refl)
 key_step g b i (keyword k.Desc) p q = absurd (q refl)
 key_step g b i _ p q = refl
 
-pub read_descending : (old mid new : Spot) (n : Name) → Takes old mid (ident (name_view n)) (part.SortKey ∷ []) → Takes mid new (keyword k.Desc) [] → ReadsKey old new (Ok (record { name = n; direction = Descending }))
-read_descending old mid new n t u =
-    (descending (name_view n), refl, λ h v. takes old mid _ (part.SortKey ∷ []) 0 (key_wanted h.0 h.1) (key_named h.0 h.1 (name_view n)) t zero_deep refl ∙ takes mid new _ [] 0 (key_named h.0 h.1 (name_view n)) (keys_had h.0 (extended h.1 (descending (name_view n)))) u zero_deep refl)
+pub read_descending : (old mid new : Spot) (n : Name)
+    → Takes old mid (ident (name_view n)) (part.SortKey ∷ []) → Takes mid new (keyword k.Desc) []
+    → ReadsKey old new (Ok (record { name = n; direction = Descending }))
+read_descending old mid new n t u = (
+  descending (name_view n),
+  refl,
+  λ h v. takes old mid _ (part.SortKey ∷ []) 0 (key_wanted h.0 h.1)
+      (key_named h.0 h.1 (name_view n)) t zero_deep refl
+      ∙ takes mid new _ [] 0 (key_named h.0 h.1 (name_view n))
+      (keys_had h.0 (extended h.1 (descending (name_view n)))) u zero_deep refl,
+)
 
-pub read_ascending : (old mid here new : Spot) (n : Name) → Takes old mid (ident (name_view n)) (part.SortKey ∷ []) → here ≡ mid → Takes here new (keyword k.Asc) [] → ReadsKey old new (Ok (record { name = n; direction = Ascending }))
-read_ascending old mid here new n t same u =
-    (ascending (name_view n), refl, λ h v. takes old mid _ (part.SortKey ∷ []) 0 (key_wanted h.0 h.1) (key_named h.0 h.1 (name_view n)) t zero_deep refl ∙ ap (λ s. verdict s (key_named h.0 h.1 (name_view n))) (sym same) ∙ takes here new _ [] 0 (key_named h.0 h.1 (name_view n)) (keys_had h.0 (extended h.1 (ascending (name_view n)))) u zero_deep refl)
+pub read_ascending : (old mid here new : Spot) (n : Name)
+    → Takes old mid (ident (name_view n)) (part.SortKey ∷ []) → here ≡ mid
+    → Takes here new (keyword k.Asc) []
+    → ReadsKey old new (Ok (record { name = n; direction = Ascending }))
+read_ascending old mid here new n t same u = (
+  ascending (name_view n),
+  refl,
+  λ h v. takes old mid _ (part.SortKey ∷ []) 0 (key_wanted h.0 h.1)
+      (key_named h.0 h.1 (name_view n)) t zero_deep refl
+      ∙ ap (λ s. verdict s (key_named h.0 h.1 (name_view n))) (sym same)
+      ∙ takes here new _ [] 0 (key_named h.0 h.1 (name_view n))
+      (keys_had h.0 (extended h.1 (ascending (name_view n)))) u zero_deep refl,
+)
 
-pub read_unmarked : (old mid here new : Spot) (n : Name) → Takes old mid (ident (name_view n)) (part.SortKey ∷ []) → No (keyword k.Desc) mid → here ≡ mid → No (keyword k.Asc) here → new ≡ here → ReadsKey old new (Ok (record { name = n; direction = Ascending }))
-read_unmarked old mid here new n t no_desc same no_asc last =
-    (unmarked (name_view n), refl, λ h v. takes old mid _ (part.SortKey ∷ []) 0 (key_wanted h.0 h.1) (key_named h.0 h.1 (name_view n)) t zero_deep refl ∙ same_from mid (key_named h.0 h.1 (name_view n)) (keys_had h.0 (extended h.1 (unmarked (name_view n)))) refl (λ x head. key_step h.0 h.1 (name_view n) x (λ q. no_asc (ap (λ s. head_of s.left) same ∙ head ∙ ap Some q)) (λ q. no_desc (head ∙ ap Some q))) ∙ ap (λ s. verdict s (keys_had h.0 (extended h.1 (unmarked (name_view n))))) (sym (last ∙ same)))
+pub read_unmarked : (old mid here new : Spot) (n : Name)
+    → Takes old mid (ident (name_view n)) (part.SortKey ∷ []) → No (keyword k.Desc) mid → here ≡ mid
+    → No (keyword k.Asc) here → new ≡ here
+    → ReadsKey old new (Ok (record { name = n; direction = Ascending }))
+read_unmarked old mid here new n t no_desc same no_asc last = (
+  unmarked (name_view n),
+  refl,
+  λ h v. takes old mid _ (part.SortKey ∷ []) 0 (key_wanted h.0 h.1)
+      (key_named h.0 h.1 (name_view n)) t zero_deep refl
+      ∙ same_from mid (key_named h.0 h.1 (name_view n))
+      (keys_had h.0 (extended h.1 (unmarked (name_view n)))) refl
+      (λ x head. key_step h.0 h.1 (name_view n) x
+      (λ q. no_asc (ap (λ s. head_of s.left) same ∙ head ∙ ap Some q))
+      (λ q. no_desc (head ∙ ap Some q)))
+      ∙ ap (λ s. verdict s (keys_had h.0 (extended h.1 (unmarked (name_view n)))))
+      (sym (last ∙ same)),
+)
 
-only_key : (g : Grouped) (b : Option (Several Key)) (x : Symbol) → NoName (x ∷ []) → step (key_wanted g b) x ≡ None
+only_key : (g : Grouped) (b : Option (Several Key)) (x : Symbol) → NoName (x ∷ [])
+    → next_step (key_wanted g b) x ≡ None
 only_key g b (name t p) none = absurd none
 only_key g b _ none = refl
 
-keys_step : (g : Grouped) (ks : Several Key) (x : Symbol) → (x ≡ sign s.Comma → ⊥) → step (keys_had g ks) x ≡ step (done g (Some ks)) x
+keys_step : (g : Grouped) (ks : Several Key) (x : Symbol) → (x ≡ sign s.Comma → ⊥)
+    → next_step (keys_had g ks) x ≡ next_step (done g (Some ks)) x
 keys_step g ks (sign s.Comma) other = absurd (other refl)
 keys_step g ks _ other = refl
 
 -- behind ORDER BY
-order_by_passed : (old a b : Spot) (g : Grouped) → Takes old a (keyword k.Order) [] → Takes a b (keyword k.By) [] → verdict old (grouped_had g) ≡ verdict b (key_wanted g None)
+order_by_passed : (old a b : Spot) (g : Grouped) → Takes old a (keyword k.Order) []
+    → Takes a b (keyword k.By) [] → verdict old (grouped_had g) ≡ verdict b (key_wanted g None)
 order_by_passed old a b g order by =
-    takes old a _ [] 0 (grouped_had g) (order_had g) order zero_deep refl ∙ takes a b _ [] 0 (order_had g) (key_wanted g None) by zero_deep refl
+    takes old a _ [] 0 (grouped_had g) (order_had g) order zero_deep refl
+    ∙ takes a b _ [] 0 (order_had g) (key_wanted g None) by zero_deep refl
 
-pub read_keys : (old a b new : Spot) (r : Result (Vec SortKey Global) ParseError) → Takes old a (keyword k.Order) [] → Takes a b (keyword k.By) [] → ReadsKeyList b new r → OnOk r (NoComma new) → ReadsKeys old new r
-read_keys old a b new (Ok v) order by reads none =
-    (Some reads.0, reads.1, λ g u. order_by_passed old a b g order by ∙ reads.2 g tt ∙ same_from new (keys_had g reads.0) (done g (Some reads.0)) refl (λ x head. keys_step g reads.0 x (λ q. none (head ∙ ap Some q))))
-read_keys old a b new (Err e) order by bad none = λ g u. bad_along e new _ _ (order_by_passed old a b g order by) (bad g tt)
+pub read_keys : (old a b new : Spot) (r : Result (Vec SortKey Global) ParseError)
+    → Takes old a (keyword k.Order) [] → Takes a b (keyword k.By) [] → ReadsKeyList b new r
+    → OnOk r (NoComma new) → ReadsKeys old new r
+read_keys old a b new (Ok v) order by reads none = (
+  Some reads.0,
+  reads.1,
+  λ g u.
+      order_by_passed old a b g order by ∙ reads.2 g tt
+      ∙ same_from new (keys_had g reads.0) (done g (Some reads.0)) refl
+      (λ x head. keys_step g reads.0 x (λ q. none (head ∙ ap Some q))),
+)
+read_keys old a b new (Err e) order by bad none =
+    λ g u. bad_along e new _ _ (order_by_passed old a b g order by) (bad g tt)
 
 -- the end
-at_nothing : (here : Spot) (from : State) (q : Query) → length here.left ≡ 0 → at_end from ≡ Some q → verdict here from ≡ Whole q
+at_nothing : (here : Spot) (from : ParserState) (q : Query) → length here.left ≡ 0
+    → query_at_end from ≡ Some q → verdict here from ≡ Whole q
 at_nothing here from q none e = by_left here.left none
   where
     by_left : (left : List Symbol) → length left ≡ 0 → run left from here.counts ≡ Whole q
     by_left [] none = ap ends e
     by_left (x ∷ xs) none = absurd (omega arith)
 
-pub read_end : {A : Type 0} (old new : Spot) (b : Bool) (a : A) → (OnTrue b (Takes old new (sign s.Semicolon) [])) → (OnFalse b (No (sign s.Semicolon) old × (new ≡ old))) → length new.left ≡ 0 → ReadsEnd old new (Ok a)
-read_end old new true a t f none =
-    (true, λ g ks. takes old new _ [] 0 (done g ks) (ended g ks) t zero_deep refl ∙ at_nothing new (ended g ks) (query_of g ks true) none refl)
-read_end old new false a t f none =
-    (false, λ g ks. ap (λ s. verdict s (done g ks)) (sym f.1) ∙ at_nothing new (done g ks) (query_of g ks false) none refl)
+pub read_end : {A : Type 0} (old new : Spot) (b : Bool) (a : A)
+    → (OnTrue b (Takes old new (sign s.Semicolon) []))
+    → (OnFalse b (No (sign s.Semicolon) old × (new ≡ old))) → length new.left ≡ 0
+    → ReadsEnd old new (Ok a)
+read_end old new true a t f none = (
+  true,
+  λ g ks. takes old new _ [] 0 (done g ks) (ended g ks) t zero_deep refl
+      ∙ at_nothing new (ended g ks) (query_of g ks true) none refl,
+)
+read_end old new false a t f none = (
+  false,
+  λ g ks. ap (λ s. verdict s (done g ks)) (sym f.1)
+      ∙ at_nothing new (done g ks) (query_of g ks false) none refl,
+)
 
-past_nothing : (here : Spot) (from : State) → 0 < length here.left → ((x : Symbol) → head_of here.left ≡ Some x → step from x ≡ None) → verdict here from ≡ Bad Unexpected here.left
+past_nothing : (here : Spot) (from : ParserState) → 0 < length here.left
+    → ((x : Symbol) → head_of here.left ≡ Some x → next_step from x ≡ None)
+    → verdict here from ≡ Bad Unexpected here.left
 past_nothing here from some none = by_left here.left some none
   where
-    by_left : (left : List Symbol) → 0 < length left → ((x : Symbol) → head_of left ≡ Some x → step from x ≡ None) → run left from here.counts ≡ Bad Unexpected left
+    by_left : (left : List Symbol) → 0 < length left
+        → ((x : Symbol) → head_of left ≡ Some x → next_step from x ≡ None)
+        → run left from here.counts ≡ Bad Unexpected left
     by_left [] some none = absurd (omega arith)
-    by_left (x ∷ xs) some none = ap (λ o. after o here.counts (x ∷ xs) (run xs)) (none x refl)
+    by_left (x ∷ xs) some none =
+        ap (λ o. verdict_after o here.counts (x ∷ xs) (run xs)) (none x refl)
 
-only_semicolon : (g : Grouped) (ks : Option (Several Key)) (x : Symbol) → (x ≡ sign s.Semicolon → ⊥) → step (done g ks) x ≡ None
+only_semicolon : (g : Grouped) (ks : Option (Several Key)) (x : Symbol) → (x ≡ sign s.Semicolon → ⊥)
+    → next_step (done g ks) x ≡ None
 only_semicolon g ks (sign s.Semicolon) other = absurd (other refl)
 only_semicolon g ks _ other = refl
 
-pub bad_end : {A : Type 0} (old new : Spot) (b : Bool) (r : Result A ParseError) → r ≡ Err (errors.Fault Unexpected) → (OnTrue b (Takes old new (sign s.Semicolon) [])) → (OnFalse b (No (sign s.Semicolon) old × (new ≡ old))) → 0 < length new.left → ReadsEnd old new r
+pub bad_end : {A : Type 0} (old new : Spot) (b : Bool) (r : Result A ParseError)
+    → r ≡ Err (errors.Fault Unexpected) → (OnTrue b (Takes old new (sign s.Semicolon) []))
+    → (OnFalse b (No (sign s.Semicolon) old × (new ≡ old))) → 0 < length new.left
+    → ReadsEnd old new r
 bad_end {A} old new true r is t f some =
-    subst (ReadsEnd {A = A} old new) (sym is) (λ g ks. takes old new _ [] 0 (done g ks) (ended g ks) t zero_deep refl ∙ past_nothing new (ended g ks) some (λ x head. refl))
+    subst (ReadsEnd {A = A} old new) (sym is)
+    (λ g ks. takes old new _ [] 0 (done g ks) (ended g ks) t zero_deep refl
+    ∙ past_nothing new (ended g ks) some (λ x head. refl))
 bad_end {A} old new false r is t f some =
-    subst (ReadsEnd {A = A} old new) (sym is) (λ g ks. ap (λ s. verdict s (done g ks)) (sym f.1) ∙ past_nothing new (done g ks) some (λ x head. only_semicolon g ks x (λ q. f.0 (ap (λ s. head_of s.left) (sym f.1) ∙ head ∙ ap Some q))))
+    subst (ReadsEnd {A = A} old new) (sym is)
+    (λ g ks. ap (λ s. verdict s (done g ks)) (sym f.1)
+    ∙ past_nothing new (done g ks) some
+    (λ x head. only_semicolon g ks x
+    (λ q. f.0 (ap (λ s. head_of s.left) (sym f.1) ∙ head ∙ ap Some q))))
 
-some_left : (f : Token → Symbol) (ts : List Token) (b : Bool) → b ≡ (length ts == 0) → b ≡ false → 0 < length (map f ts)
+some_left : (f : Token → Symbol) (ts : List Token) (b : Bool) → b ≡ (length ts == 0) → b ≡ false
+    → 0 < length (map f ts)
 some_left f [] b e none = cc
 some_left f (t ∷ ts) b e none = omega arith
 
-pub left_over : (parser : Parser) (b : Bool) → b ≡ (length parser.left.now == 0) → b ≡ false → 0 < length (spot_of parser).left
+pub left_over : (parser : Parser) (b : Bool) → b ≡ (length parser.left.now == 0) → b ≡ false
+    → 0 < length (spot_of parser).left
 left_over parser b e none = some_left (λ t. symbol_of t.kind t.place) parser.left.now b e none
 
 -- what was refused in a list
-pub bad_aggregate : (f : Function) (old mid new : Spot) (m : Measure Name) (r : Result Aggregate ParseError) (e : ParseError) → r ≡ Err e → ReadsMeasure f old mid (Ok m) → ReadsAlias mid new (Err e) → ReadsAggregate f old new r
+pub bad_aggregate : (f : Function) (old mid new : Spot) (m : Measure Name)
+    (r : Result Aggregate ParseError) (e : ParseError) → r ≡ Err e → ReadsMeasure f old mid (Ok m)
+    → ReadsAlias mid new (Err e) → ReadsAggregate f old new r
 bad_aggregate f old mid new m r e is measure b =
-    refused (λ a. tree.aggregate (aggregate_view a)) item_tree (λ h. Unit {0}) (λ b. function_named b f) (λ i b. items_had (extended b i)) old new r e is (λ h u. bad_along e new _ _ (measure.2 h tt) (b (h, measure.0) tt))
+    refused (λ a. tree.aggregate (aggregate_view a)) item_tree (λ h. Unit {0})
+    (λ b. function_named b f) (λ i b. items_had (extended b i)) old new r e is
+    (λ h u. bad_along e new _ _ (measure.2 h tt) (b (h, measure.0) tt))
 
-pub bad_item_aggregate : (old mid new : Spot) (f : Function) (r : Result Item ParseError) (e : ParseError) → r ≡ Err e → Takes old mid (function_symbol f) function_parts → ReadsAggregate f mid new (Err e) → ReadsItem old new r
+pub bad_item_aggregate :
+    (old mid new : Spot) (f : Function) (r : Result Item ParseError) (e : ParseError) → r ≡ Err e
+    → Takes old mid (function_symbol f) function_parts → ReadsAggregate f mid new (Err e)
+    → ReadsItem old new r
 bad_item_aggregate old mid new f r e is t b =
-    refused item_view item_tree (λ h. Unit {0}) item_wanted (λ i b. items_had (extended b i)) old new r e is (λ h u. bad_along e new _ _ (takes old mid _ function_parts 0 (item_wanted h) (function_named h f) t zero_deep (function_step h f.fold f.place)) (b h tt))
+    refused item_view item_tree (λ h. Unit {0}) item_wanted (λ i b. items_had (extended b i)) old
+    new r e is (λ h u. bad_along e new _ _
+    (takes old mid _ function_parts 0 (item_wanted h) (function_named h f) t zero_deep
+    (function_step h f.fold f.place)) (b h tt))
 
 -- a query
-pub past_select : (old a : Spot) → Takes old a (keyword k.Select) [] → verdict old begin ≡ verdict a (item_wanted None)
+pub past_select : (old a : Spot) → Takes old a (keyword k.Select) []
+    → verdict old begin ≡ verdict a (item_wanted None)
 past_select old a t = takes old a _ [] 0 begin (item_wanted None) t zero_deep refl
 
-pub past_from : (b c : Spot) (is : Several grammar.Item) → Takes b c (keyword k.From) [] → verdict b (items_had is) ≡ verdict c (table_wanted is None)
+pub past_from : (b c : Spot) (is : Several grammar.Item) → Takes b c (keyword k.From) []
+    → verdict b (items_had is) ≡ verdict c (table_wanted is None)
 past_from b c is t = takes b c _ [] 0 (items_had is) (table_wanted is None) t zero_deep refl
 
-items_end : (is : Several grammar.Item) (x : Symbol) → (x ≡ sign s.Comma → ⊥) → (x ≡ keyword k.From → ⊥) → step (items_had is) x ≡ None
+items_end : (is : Several grammar.Item) (x : Symbol) → (x ≡ sign s.Comma → ⊥)
+    → (x ≡ keyword k.From → ⊥) → next_step (items_had is) x ≡ None
 items_end is (sign s.Comma) f g = absurd (f refl)
 items_end is (keyword k.From) f g = absurd (g refl)
 items_end is _ f g = refl
 
 -- what was refused behind a front of the query
-pub bad_query : (old mid new : Spot) (from : State) (r : Result Tree ParseError) (e : ParseError) → r ≡ Err e → verdict old begin ≡ verdict mid from → EndsBad e new (verdict mid from) → ReadsQuery old new r
-bad_query old mid new from r e is way b = subst (ReadsQuery old new) (sym is) (bad_along e new _ _ way b)
+pub bad_query : (old mid new : Spot) (from : ParserState) (r : Result Tree ParseError)
+    (e : ParseError) → r ≡ Err e → verdict old begin ≡ verdict mid from
+    → EndsBad e new (verdict mid from) → ReadsQuery old new r
+bad_query old mid new from r e is way b =
+    subst (ReadsQuery old new) (sym is) (bad_along e new _ _ way b)
 
-pub bad_from : (b new : Spot) (is : Several grammar.Item) (e : ParseError) → NoComma b → (e ≡ errors.Fault Unexpected) × No (keyword k.From) b × (new ≡ b) → EndsBad e new (verdict b (items_had is))
+pub bad_from : (b new : Spot) (is : Several grammar.Item) (e : ParseError) → NoComma b
+    → (e ≡ errors.Fault Unexpected) × No (keyword k.From) b × (new ≡ b)
+    → EndsBad e new (verdict b (items_had is))
 bad_from b new is e none bad =
-    not_next (keyword k.From) b new (items_had is) e refl (λ y head other. items_end is y (λ q. none (head ∙ ap Some q)) other) bad
+    not_next (keyword k.From) b new (items_had is) e refl
+    (λ y head other. items_end is y (λ q. none (head ∙ ap Some q)) other) bad
 
-abbrev the_tree : List tree.Item → List tree.Name → Option (tree.Condition tree.Test) → tree.Grouping → List tree.SortKey → tree.Tree
+abbrev the_tree : List tree.Item → List tree.Name → Option (tree.Condition tree.Test)
+    → tree.Grouping → List tree.SortKey → tree.Tree
 the_tree i t c g m = record { items = i; tables = t; condition = c; grouping = g; keys = m }
 
-same_tree : (i j : List tree.Item) (t u : List tree.Name) (c d : Option (tree.Condition tree.Test)) (g h : tree.Grouping) (m n : List tree.SortKey) → i ≡ j → t ≡ u → c ≡ d → g ≡ h → m ≡ n → the_tree i t c g m ≡ the_tree j u d h n
+same_tree : (i j : List tree.Item) (t u : List tree.Name) (c d : Option (tree.Condition tree.Test))
+    (g h : tree.Grouping) (m n : List tree.SortKey) → i ≡ j → t ≡ u → c ≡ d → g ≡ h → m ≡ n
+    → the_tree i t c g m ≡ the_tree j u d h n
 same_tree i j t u c d g h m n p q r s v = cc
 
-pub read_query : (old a b c d e f g new : Spot) (t : Tree) (u : Unit {0}) → Takes old a (keyword k.Select) [] → ReadsItems a b (Ok t.items) → Takes b c (keyword k.From) [] → ReadsTables c d (Ok t.tables) → ReadsFilter d e (Ok t.condition) → ReadsGrouping e f (Ok t.grouping) → ReadsKeys f g (Ok t.keys) → ReadsEnd g new (Ok u) → ReadsQuery old new (Ok t)
-read_query old a b c d e f g new t u select is from ts filter groups keys end =
-    (query_of (grouped_by (filtered_by is.0 ts.0 filter.0) groups.0) keys.0 end.0, same_tree _ _ _ _ _ _ _ _ _ _ is.1 ts.1 filter.1 groups.1 keys.1, past_select old a select ∙ is.2 tt tt ∙ past_from b c is.0 from ∙ ts.2 is.0 tt ∙ filter.2 (is.0, ts.0) tt ∙ groups.2 (filtered_by is.0 ts.0 filter.0) tt ∙ keys.2 (grouped_by (filtered_by is.0 ts.0 filter.0) groups.0) tt ∙ end.1 (grouped_by (filtered_by is.0 ts.0 filter.0) groups.0) keys.0)
+pub read_query : (old a b c d e f g new : Spot) (t : Tree) (u : Unit {0})
+    → Takes old a (keyword k.Select) [] → ReadsItems a b (Ok t.items)
+    → Takes b c (keyword k.From) [] → ReadsTables c d (Ok t.tables)
+    → ReadsFilter d e (Ok t.condition) → ReadsGrouping e f (Ok t.grouping)
+    → ReadsKeys f g (Ok t.keys) → ReadsEnd g new (Ok u) → ReadsQuery old new (Ok t)
+read_query old a b c d e f g new t u select is from ts filter groups keys end = (
+  query_of (grouped_by (filtered_by is.0 ts.0 filter.0) groups.0) keys.0 end.0,
+  same_tree _ _ _ _ _ _ _ _ _ _ is.1 ts.1 filter.1 groups.1 keys.1,
+  past_select old a select ∙ is.2 tt tt ∙ past_from b c is.0 from ∙ ts.2 is.0 tt
+      ∙ filter.2 (is.0, ts.0) tt ∙ groups.2 (filtered_by is.0 ts.0 filter.0) tt
+      ∙ keys.2 (grouped_by (filtered_by is.0 ts.0 filter.0) groups.0) tt
+      ∙ end.1 (grouped_by (filtered_by is.0 ts.0 filter.0) groups.0) keys.0,
+)

@@ -10,25 +10,38 @@ use Rattle.star_query.specs.declared.fault.ParseError.{ParseError}
 use Rattle.star_query.specs.declared.fault.ParseError.TheVariants as errors
 use Rattle.star_query.specs.declared.fault.Fault.TheVariants.{Unexpected, TooDeep, TooMany}
 use Rattle.star_query.specs.Symbols.{Symbol, name, number}
-use Rattle.star_query.specs.Private.Quoted.{unquoted, unquoted_after}
+use Rattle.star_query.specs.Private.Quoted.{undoubled, unquoted_after}
 use Rattle.star_query.specs.Maxima.{limit}
-use Rattle.star_query.specs.Private.Machine.{number_of, bump}
+use Rattle.star_query.specs.Private.Machine.{count_of_part, bump}
 use Rattle.star_query.specs.Private.Reads.{Spot, spot_of, Takes, IsName, IsNumber, NoName, NoNumber, IsBeyond, ReadsToken}
 use Rattle.star_query.proofs.Counting.{one_too_many, one_allowed}
 
-beyond_token : (Is : List Symbol → Type 0) → (Is [] → ⊥) → (p : Part) (n : Counts) (left : List Symbol) → Is left → limit p ≤ number_of n p → IsBeyond (p ∷ []) n left
+beyond_token : (Is : List Symbol → Type 0) → (Is [] → ⊥)
+    → (p : Part) (n : Counts) (left : List Symbol) → Is left → limit p ≤ count_of_part n p
+    → IsBeyond (p ∷ []) n left
 beyond_token Is there p n [] is e = there is
 beyond_token Is there p n (x ∷ xs) is e = rw (one_too_many p n e) refl
 
 -- a doubled quote, or another byte of a text
-pub unquoted_doubled : (inside so_far after : List ℕ) (i : ℕ) (q p : Bool) → i < length inside → q ≡ true → after ≡ so_far → p ≡ false → unquoted inside ≡ so_far ++ unquoted_after q (drop i inside) → unquoted inside ≡ after ++ unquoted_after p (drop (i + 1) inside)
+pub unquoted_doubled : (inside so_far after : List ℕ) (i : ℕ) (q p : Bool) → i < length inside
+    → q ≡ true → after ≡ so_far → p ≡ false
+    → undoubled inside ≡ so_far ++ unquoted_after q (drop i inside)
+    → undoubled inside ≡ after ++ unquoted_after p (drop (i + 1) inside)
 unquoted_doubled inside so_far after i q p below was same now e =
     rw (same, now) (rw (was, drop_more inside i 0 below) at e)
 
-pub unquoted_next : (inside so_far after : List ℕ) (i b : ℕ) (q p : Bool) → i < length inside → q ≡ false → after ≡ so_far ++ b ∷ [] → b ≡ get_or inside i 0 → p ≡ (b == 39) → unquoted inside ≡ so_far ++ unquoted_after q (drop i inside) → unquoted inside ≡ after ++ unquoted_after p (drop (i + 1) inside)
+pub unquoted_next : (inside so_far after : List ℕ) (i b : ℕ) (q p : Bool) → i < length inside
+    → q ≡ false → after ≡ so_far ++ b ∷ [] → b ≡ get_or inside i 0 → p ≡ (b == 39)
+    → undoubled inside ≡ so_far ++ unquoted_after q (drop i inside)
+    → undoubled inside ≡ after ++ unquoted_after p (drop (i + 1) inside)
 unquoted_next inside so_far after i b q p below was same byte now e =
-    let next : unquoted inside ≡ so_far ++ get_or inside i 0 ∷ unquoted_after (get_or inside i 0 == 39) (drop (i + 1) inside) = rw (was, drop_more inside i 0 below) at e in
-    rw (same, now, byte) (next ∙ sym (append_assoc so_far (get_or inside i 0 ∷ []) (unquoted_after (get_or inside i 0 == 39) (drop (i + 1) inside))))
+    let next : undoubled inside
+    ≡ so_far ++ get_or inside i 0
+    ∷ unquoted_after (get_or inside i 0 == 39) (drop (i + 1) inside) =
+    rw (was, drop_more inside i 0 below) at e in
+    rw (same, now, byte) (next
+    ∙ sym (append_assoc so_far (get_or inside i 0 ∷ [])
+    (unquoted_after (get_or inside i 0 == 39) (drop (i + 1) inside))))
 
 pub no_name_there : (left : List Symbol) → IsName left → NoName left → ⊥
 no_name_there [] is none = is
@@ -42,9 +55,11 @@ no_number_there (_ ∷ xs) is none = is
 
 -- one more part was counted at the symbol
 abbrev pub HasCounted : Part → Spot → Spot → Type 0
-HasCounted p old mid = (number_of old.counts p < limit p) × (mid ≡ record old { counts = bump p old.counts })
+HasCounted p old mid = (count_of_part old.counts p < limit p)
+    × (mid ≡ record old { counts = bump p old.counts })
 
-counted_takes : (p : Part) (old mid new : Spot) (x : Symbol) → HasCounted p old mid → Takes mid new x [] → Takes old new x (p ∷ [])
+counted_takes : (p : Part) (old mid new : Spot) (x : Symbol) → HasCounted p old mid
+    → Takes mid new x [] → Takes old new x (p ∷ [])
 counted_takes p old mid new x c t =
     record {
       next = ap (λ s. s.left) (sym c.1) ∙ t.next;
@@ -53,17 +68,24 @@ counted_takes p old mid new x c t =
       short = t.short;
     }
 
-counted_beyond : (p : Part) (old mid : Spot) → HasCounted p old mid → IsBeyond [] mid.counts mid.left → IsBeyond (p ∷ []) old.counts old.left
-counted_beyond p old mid c b = beyond_at old.left (subst (λ left. IsBeyond [] mid.counts left) (ap (λ s. s.left) c.1) b)
+counted_beyond : (p : Part) (old mid : Spot) → HasCounted p old mid
+    → IsBeyond [] mid.counts mid.left → IsBeyond (p ∷ []) old.counts old.left
+counted_beyond p old mid c b =
+    beyond_at old.left (subst (λ left. IsBeyond [] mid.counts left) (ap (λ s. s.left) c.1) b)
   where
-    beyond_at : (left : List Symbol) → IsBeyond [] mid.counts left → IsBeyond (p ∷ []) old.counts left
+    beyond_at : (left : List Symbol) → IsBeyond [] mid.counts left
+        → IsBeyond (p ∷ []) old.counts left
     beyond_at [] b = b
     beyond_at (x ∷ xs) b = rw (one_allowed p old.counts c.0) b
 
 -- where a part begins with a token of a kind
-pub token_counted : {A : Type 0} (symbol : A → Symbol) (NoMemory : Type 0) (Is IsNo : List Symbol → Type 0) → ((left : List Symbol) → Is left → IsNo left → ⊥)
-    → (p : Part) (old mid new : Spot) (r : Result A ParseError) → Is old.left → HasCounted p old mid → ReadsToken symbol NoMemory Is IsNo [] mid new r → ReadsToken symbol NoMemory Is IsNo (p ∷ []) old new r
-token_counted symbol NoMemory Is IsNo apart p old mid new (Ok x) is c t = counted_takes p old mid new _ c t
+pub token_counted : {A : Type 0} (symbol : A → Symbol) (NoMemory : Type 0)
+    (Is IsNo : List Symbol → Type 0) → ((left : List Symbol) → Is left → IsNo left → ⊥)
+    → (p : Part) (old mid new : Spot) (r : Result A ParseError) → Is old.left → HasCounted p old mid
+    → ReadsToken symbol NoMemory Is IsNo [] mid new r
+    → ReadsToken symbol NoMemory Is IsNo (p ∷ []) old new r
+token_counted symbol NoMemory Is IsNo apart p old mid new (Ok x) is c t =
+    counted_takes p old mid new _ c t
 token_counted symbol NoMemory Is IsNo apart p old mid new (Err errors.OutOfMemory) is c t = t
 token_counted symbol NoMemory Is IsNo apart p old mid new (Err (errors.Fault Unexpected)) is c t =
     absurd (apart old.left is (subst IsNo (ap (λ s. s.left) c.1) t.0))
@@ -71,14 +93,20 @@ token_counted symbol NoMemory Is IsNo apart p old mid new (Err (errors.Fault Too
 token_counted symbol NoMemory Is IsNo apart p old mid new (Err (errors.Fault TooMany)) is c t =
     (counted_beyond p old mid c t.0, t.1 ∙ ap (λ s. s.left) c.1, is)
 
-pub token_not_counted : {A : Type 0} (symbol : A → Symbol) (NoMemory : Type 0) (Is IsNo : List Symbol → Type 0) → (Is [] → ⊥)
-    → (p : Part) (old new : Spot) (r : Result A ParseError) (e : ParseError) → r ≡ Err e → Is old.left → (e ≡ errors.Fault TooMany) × (limit p ≤ number_of old.counts p) × (new ≡ old) → ReadsToken symbol NoMemory Is IsNo (p ∷ []) old new r
+pub token_not_counted : {A : Type 0} (symbol : A → Symbol) (NoMemory : Type 0)
+    (Is IsNo : List Symbol → Type 0) → (Is [] → ⊥)
+    → (p : Part) (old new : Spot) (r : Result A ParseError) (e : ParseError) → r ≡ Err e
+    → Is old.left → (e ≡ errors.Fault TooMany) × (limit p ≤ count_of_part old.counts p)
+    × (new ≡ old) → ReadsToken symbol NoMemory Is IsNo (p ∷ []) old new r
 token_not_counted symbol NoMemory Is IsNo there p old new r e same is c =
-    subst (ReadsToken symbol NoMemory Is IsNo (p ∷ []) old new) (sym (same ∙ ap Err c.0)) (beyond_token Is there p old.counts old.left is c.1, ap (λ s. s.left) c.2, is)
+    subst (ReadsToken symbol NoMemory Is IsNo (p ∷ []) old new) (sym (same ∙ ap Err c.0))
+    (beyond_token Is there p old.counts old.left is c.1, ap (λ s. s.left) c.2, is)
 
-f_length : {A B : Type 0} (f : A → B) (old new : List A) (x : B) → map f old ≡ x ∷ map f new → length new ≤ length old
+f_length : {A B : Type 0} (f : A → B) (old new : List A) (x : B) → map f old ≡ x ∷ map f new
+    → length new ≤ length old
 f_length f old new x e = omega (arith, ap length e, length-map old f, length-map new f)
 
 -- fewer tokens are left
-pub shorter : (old new : Parser) (x : Symbol) (ps : List Part) → Takes (spot_of old) (spot_of new) x ps → length new.left.now ≤ length old.left.now
+pub shorter : (old new : Parser) (x : Symbol) (ps : List Part)
+    → Takes (spot_of old) (spot_of new) x ps → length new.left.now ≤ length old.left.now
 shorter old new x ps t = f_length (λ t. symbol_of t.kind t.place) old.left.now new.left.now x t.next

@@ -14,126 +14,187 @@ use Rattle.star_query.specs.Tree.{Tree}
 use Rattle.star_query.specs.Grammar.{Query, Mark, query_marks, query_tree}
 use Rattle.star_query.specs.Maxima.{limit}
 use Rattle.star_query.specs.Derives.{count_begun, IsShortName, IsLongName, AreWithinLimits, symbols_at, Derives, BeginsQuery, NoQueryGoesOn, Breaks, IsTooDeep, IsTooMany, QueryFails, FirstQueryFault, Means}
-use Rattle.star_query.specs.Private.Machine.{State, begin, Step, to, step, at_end, Verdict, Whole, Bad, number_of, plus, is_over, is_long, checked, after, ends, run, nothing_counted}
+use Rattle.star_query.specs.Private.Machine.{ParserState, begin, Step, to, next_step, query_at_end, Verdict, Whole, Bad, count_of_part, plus, is_over, is_long, checked, verdict_after, ends, run, nothing_counted}
 use Rattle.star_query.proofs.Counting.{not_below, number-plus, not_over, over_some, fits_after, short_name, long_name, not_long}
 use Rattle.star_query.proofs.Accepting.{Accepts, query_goes}
 use Rattle.star_query.proofs.Passed.{passed, step_moves}
 use Rattle.star_query.proofs.Finishes.{state_finishes, end_passed}
 
 -- from one state to another through these marks
-abbrev pub Goes : State → List Mark → State → Type 0
+abbrev pub Goes : ParserState → List Mark → ParserState → Type 0
 Goes from [] last = from ≡ last
-Goes from (m ∷ ms) last = (next : State) × (step from m.symbol ≡ to next m) × Goes next ms last
+Goes from (m ∷ ms) last =
+    (next : ParserState) × (next_step from m.symbol ≡ to next m) × Goes next ms last
 
 abbrev pub Fits : Counts → Type 0
-Fits n = (p : Part) → number_of n p ≤ limit p
+Fits n = (p : Part) → count_of_part n p ≤ limit p
 
 -- what is read through marks
-pub goes_passed : (ms : List Mark) (from last : State) → Goes from ms last → (rest : List Mark) → passed last rest ≡ passed from (ms ++ rest)
+pub goes_passed : (ms : List Mark) (from last : ParserState) → Goes from ms last
+    → (rest : List Mark) → passed last rest ≡ passed from (ms ++ rest)
 goes_passed [] from last g rest = ap (λ s. passed s rest) (sym g)
 goes_passed (m ∷ ms) from last g rest =
-    goes_passed ms g.0 last g.2 rest ∙ (step_moves from m.symbol (record { next = g.0; at = m }) g.1).more (ms ++ rest)
+    goes_passed ms g.0 last g.2 rest
+    ∙ (step_moves from m.symbol (record { next = g.0; at = m }) g.1).more (ms ++ rest)
 
 -- from one state to another through marks within the limits
-pub record Reaches (from : State) (n : Counts) (xs : List Symbol) (last : State) (n' : Counts) (ms : List Mark) (left : List Symbol) : Type 0 where
+pub record Reaches (from : ParserState) (n : Counts) (xs : List Symbol) (last : ParserState)
+    (n' : Counts) (ms : List Mark) (left : List Symbol) : Type 0 where
   pub cut : xs ≡ symbols_at ms ++ left
   pub goes : Goes from ms last
   pub depth : AllByRecursion (λ m. m.depth ≤ 32) ms
   pub names : AllByRecursion (λ m. IsShortName m.symbol) ms
-  pub numbers : (p : Part) → number_of n' p ≡ number_of n p + count_begun p ms
-  pub fits : (p : Part) → number_of n' p ≤ limit p
+  pub numbers : (p : Part) → count_of_part n' p ≡ count_of_part n p + count_begun p ms
+  pub fits : (p : Part) → count_of_part n' p ≤ limit p
 
 -- why it stops there
-pub record Halts (IsOver : Mark → Type 0) (from : State) (left : List Symbol) : Type 0 where
-  pub next : State
+pub record Halts (IsOver : Mark → Type 0) (from : ParserState) (left : List Symbol) : Type 0 where
+  pub next : ParserState
   pub at : Mark
   pub others : List Symbol
   pub here : left ≡ at.symbol ∷ others
-  pub does : step from at.symbol ≡ to next at
+  pub does : next_step from at.symbol ≡ to next at
   pub over : IsOver at
 
 abbrev pub IsBeyond : Counts → Mark → Type 0
-IsBeyond n m = (nat_lt 32 m.depth ≡ false) × (is_over (plus n m.parts) m.parts || is_long m.symbol ≡ true)
+IsBeyond n m = (nat_lt 32 m.depth ≡ false)
+    × (is_over (plus n m.parts) m.parts || is_long m.symbol ≡ true)
 
-abbrev pub HaltsAt : Fault → State → Counts → List Symbol → Type 0
-HaltsAt Unexpected from n [] = at_end from ≡ None
-HaltsAt Unexpected from n (x ∷ left) = step from x ≡ None
+abbrev pub HaltsAt : Fault → ParserState → Counts → List Symbol → Type 0
+HaltsAt Unexpected from n [] = query_at_end from ≡ None
+HaltsAt Unexpected from n (x ∷ left) = next_step from x ≡ None
 HaltsAt TooDeep from n left = Halts (λ m. nat_lt 32 m.depth ≡ true) from left
 HaltsAt TooMany from n left = Halts (IsBeyond n) from left
 
 -- what a verdict says of the way to it
-abbrev pub Found : State → Counts → List Symbol → Verdict → Type 0
+abbrev pub Found : ParserState → Counts → List Symbol → Verdict → Type 0
 Found from n xs (Whole q) =
-    (last : State) × (n' : Counts) × (ms : List Mark) × Reaches from n xs last n' ms [] × (at_end last ≡ Some q)
+    (last : ParserState) × (n' : Counts) × (ms : List Mark) × Reaches from n xs last n' ms []
+    × (query_at_end last ≡ Some q)
 Found from n xs (Bad f left) =
-    (last : State) × (n' : Counts) × (ms : List Mark) × Reaches from n xs last n' ms left × HaltsAt f last n' left
+    (last : ParserState) × (n' : Counts) × (ms : List Mark) × Reaches from n xs last n' ms left
+    × HaltsAt f last n' left
 
-here_already : (from : State) (n : Counts) (xs : List Symbol) → Fits n → Reaches from n xs from n [] xs
+here_already : (from : ParserState) (n : Counts) (xs : List Symbol) → Fits n
+    → Reaches from n xs from n [] xs
 here_already from n xs fits =
-    record { cut = refl; goes = refl; depth = tt; names = tt; numbers = λ p. omega arith; fits = fits }
+    record {
+      cut = refl;
+      goes = refl;
+      depth = tt;
+      names = tt;
+      numbers = λ p. omega arith;
+      fits =
+          fits;
+    }
 
-one_before : (from : State) (n : Counts) (x : Symbol) (xs : List Symbol) (st : Step) (last : State) (n' : Counts) (ms : List Mark) (left : List Symbol) → step from x ≡ Some st → nat_lt 32 st.at.depth ≡ false → is_long st.at.symbol ≡ false → Reaches st.next (plus n st.at.parts) xs last n' ms left → Reaches from n (x ∷ xs) last n' (st.at ∷ ms) left
+one_before : (from : ParserState) (n : Counts) (x : Symbol) (xs : List Symbol) (st : Step)
+    (last : ParserState) (n' : Counts) (ms : List Mark) (left : List Symbol)
+    → next_step from x ≡ Some st → nat_lt 32 st.at.depth ≡ false → is_long st.at.symbol ≡ false
+    → Reaches st.next (plus n st.at.parts) xs last n' ms left
+    → Reaches from n (x ∷ xs) last n' (st.at ∷ ms) left
 one_before from n x xs st last n' ms left e shallow short r =
     let m = step_moves from x st e in
     record {
       cut = ap (λ y. y ∷ xs) (sym m.symbol) ∙ ap (λ l. st.at.symbol ∷ l) r.cut;
-      goes = (st.next, ap (step from) m.symbol ∙ e, r.goes);
+      goes = (st.next, ap (next_step from) m.symbol ∙ e, r.goes);
       depth = (ltb-false _ _ shallow, r.depth);
       names = (short_name st.at.symbol short, r.names);
       numbers = λ p. omega (arith, r.numbers p, number-plus st.at.parts n p);
       fits = r.fits;
     }
 
-before : (from : State) (n : Counts) (x : Symbol) (xs : List Symbol) (st : Step) → step from x ≡ Some st → nat_lt 32 st.at.depth ≡ false → is_long st.at.symbol ≡ false → (v : Verdict) → Found st.next (plus n st.at.parts) xs v → Found from n (x ∷ xs) v
+before : (from : ParserState) (n : Counts) (x : Symbol) (xs : List Symbol) (st : Step)
+    → next_step from x ≡ Some st → nat_lt 32 st.at.depth ≡ false → is_long st.at.symbol ≡ false
+    → (v : Verdict) → Found st.next (plus n st.at.parts) xs v → Found from n (x ∷ xs) v
 before from n x xs st e shallow short (Whole q) r =
     (r.0, r.1, st.at ∷ r.2, one_before from n x xs st r.0 r.1 r.2 [] e shallow short r.3, r.4)
 before from n x xs st e shallow short (Bad f left) r =
     (r.0, r.1, st.at ∷ r.2, one_before from n x xs st r.0 r.1 r.2 left e shallow short r.3, r.4)
 
-halts_at : (IsOver : Mark → Type 0) (from : State) (x : Symbol) (xs : List Symbol) (st : Step) → step from x ≡ Some st → IsOver st.at → Halts IsOver from (x ∷ xs)
+halts_at : (IsOver : Mark → Type 0) (from : ParserState) (x : Symbol) (xs : List Symbol) (st : Step)
+    → next_step from x ≡ Some st → IsOver st.at → Halts IsOver from (x ∷ xs)
 halts_at IsOver from x xs st e over =
     let m = step_moves from x st e in
-    record { next = st.next; at = st.at; others = xs; here = ap (λ y. y ∷ xs) (sym m.symbol); does = ap (step from) m.symbol ∙ e; over = over }
+    record {
+      next = st.next;
+      at = st.at;
+      others = xs;
+      here = ap (λ y. y ∷ xs) (sym m.symbol);
+      does =
+          ap (next_step from) m.symbol ∙ e;
+      over = over;
+    }
 
 not_either : (a b : Bool) → a || b ≡ false → (a ≡ false) × (b ≡ false)
 not_either true b e = cc
 not_either false b e = (refl, e)
 
 -- every verdict is found on the way
-pub found : (xs : List Symbol) (from : State) (n : Counts) → Fits n → Found from n xs (run xs from n)
-found [] from n fits = at_the_end (at_end from) refl
+pub found : (xs : List Symbol) (from : ParserState) (n : Counts) → Fits n
+    → Found from n xs (run xs from n)
+found [] from n fits = at_the_end (query_at_end from) refl
   where
-    at_the_end : (o : Option Query) → at_end from ≡ o → Found from n [] (ends o)
+    at_the_end : (o : Option Query) → query_at_end from ≡ o → Found from n [] (ends o)
     at_the_end None e = (from, n, [], here_already from n [] fits, e)
     at_the_end (Some q) e = (from, n, [], here_already from n [] fits, e)
-found (x ∷ xs) from n fits = by_step (step from x) refl (λ next m. found xs next m)
+found (x ∷ xs) from n fits = by_step (next_step from x) refl (λ next m. found xs next m)
   where
     Rest : Type 0
-    Rest = (next : State) (m : Counts) → Fits m → Found next m xs (run xs next m)
+    Rest = (next : ParserState) (m : Counts) → Fits m → Found next m xs (run xs next m)
 
-    many : (st : Step) → step from x ≡ Some st → nat_lt 32 st.at.depth ≡ false → Rest → (b : Bool) → is_over (plus n st.at.parts) st.at.parts || is_long st.at.symbol ≡ b → Found from n (x ∷ xs) (cond b (Bad TooMany (x ∷ xs)) (run xs st.next (plus n st.at.parts)))
-    many st e shallow rest true h = (from, n, [], here_already from n (x ∷ xs) fits, halts_at (IsBeyond n) from x xs st e (shallow, h))
+    many : (st : Step) → next_step from x ≡ Some st → nat_lt 32 st.at.depth ≡ false → Rest
+        → (b : Bool) → is_over (plus n st.at.parts) st.at.parts || is_long st.at.symbol ≡ b
+        → Found from n (x ∷ xs) (cond b (Bad TooMany (x ∷ xs))
+        (run xs st.next (plus n st.at.parts)))
+    many st e shallow rest true h = (
+      from,
+      n,
+      [],
+      here_already from n (x ∷ xs) fits,
+      halts_at (IsBeyond n) from x xs st e (shallow, h),
+    )
     many st e shallow rest false h =
-        let neither = not_either (is_over (plus n st.at.parts) st.at.parts) (is_long st.at.symbol) h in
-        before from n x xs st e shallow neither.1 (run xs st.next (plus n st.at.parts)) (rest st.next (plus n st.at.parts) (fits_after n st.at.parts fits neither.0))
+        let neither = not_either (is_over (plus n st.at.parts) st.at.parts) (is_long st.at.symbol)
+        h in
+        before from n x xs st e shallow neither.1 (run xs st.next (plus n st.at.parts))
+        (rest st.next (plus n st.at.parts) (fits_after n st.at.parts fits neither.0))
 
-    deep : (st : Step) → step from x ≡ Some st → Rest → (b : Bool) → nat_lt 32 st.at.depth ≡ b → Found from n (x ∷ xs) (cond b (Bad TooDeep (x ∷ xs)) (cond (is_over (plus n st.at.parts) st.at.parts || is_long st.at.symbol) (Bad TooMany (x ∷ xs)) (run xs st.next (plus n st.at.parts))))
-    deep st e rest true h = (from, n, [], here_already from n (x ∷ xs) fits, halts_at (λ m. nat_lt 32 m.depth ≡ true) from x xs st e h)
-    deep st e rest false h = many st e h rest (is_over (plus n st.at.parts) st.at.parts || is_long st.at.symbol) refl
+    deep : (st : Step) → next_step from x ≡ Some st → Rest → (b : Bool) → nat_lt 32 st.at.depth ≡ b
+        → Found from n (x ∷ xs) (cond b (Bad TooDeep (x ∷ xs))
+        (cond (is_over (plus n st.at.parts) st.at.parts || is_long st.at.symbol)
+        (Bad TooMany (x ∷ xs)) (run xs st.next (plus n st.at.parts))))
+    deep st e rest true h = (
+      from,
+      n,
+      [],
+      here_already from n (x ∷ xs) fits,
+      halts_at (λ m. nat_lt 32 m.depth ≡ true) from x xs st e h,
+    )
+    deep st e rest false h =
+        many st e h rest (is_over (plus n st.at.parts) st.at.parts || is_long st.at.symbol) refl
 
-    by_step : (o : Option Step) → step from x ≡ o → Rest → Found from n (x ∷ xs) (after o n (x ∷ xs) (run xs))
+    by_step : (o : Option Step) → next_step from x ≡ o → Rest
+        → Found from n (x ∷ xs) (verdict_after o n (x ∷ xs) (run xs))
     by_step None e rest = (from, n, [], here_already from n (x ∷ xs) fits, e)
     by_step (Some st) e rest = deep st e rest (nat_lt 32 st.at.depth) refl
 
 -- within the limits nothing stops it
-accepts_run : (ms : List Mark) (from : State) (n : Counts) (q : Query) → Accepts from ms q → AllByRecursion (λ m. m.depth ≤ 32) ms → AllByRecursion (λ m. IsShortName m.symbol) ms → ((p : Part) → number_of n p + count_begun p ms ≤ limit p) → run (symbols_at ms) from n ≡ Whole q
+accepts_run : (ms : List Mark) (from : ParserState) (n : Counts) (q : Query) → Accepts from ms q
+    → AllByRecursion (λ m. m.depth ≤ 32) ms → AllByRecursion (λ m. IsShortName m.symbol) ms
+    → ((p : Part) → count_of_part n p + count_begun p ms ≤ limit p)
+    → run (symbols_at ms) from n ≡ Whole q
 accepts_run [] from n q g deep names fits = ap ends g
 accepts_run (m ∷ ms) from n q g deep names fits =
     let shallow : nat_lt 32 m.depth ≡ false = not_below 32 m.depth deep.0 in
-    let few : is_over (plus n m.parts) m.parts ≡ false = not_over (plus n m.parts) m.parts (λ p. omega (arith, number-plus m.parts n p, fits p)) in
+    let few : is_over (plus n m.parts) m.parts ≡ false =
+    not_over (plus n m.parts) m.parts (λ p. omega (arith, number-plus m.parts n p, fits p)) in
     let short : is_long m.symbol ≡ false = not_long m.symbol names.0 in
-    let now : checked n m (symbols_at (m ∷ ms)) (run (symbols_at ms) g.0) ≡ run (symbols_at ms) g.0 (plus n m.parts) = rw (shallow, few, short) refl in
-    ap (λ o. after o n (symbols_at (m ∷ ms)) (run (symbols_at ms))) g.1 ∙ now ∙ accepts_run ms g.0 (plus n m.parts) q g.2 deep.1 names.1 (λ p. omega (arith, number-plus m.parts n p, fits p))
+    let now : checked n m (symbols_at (m ∷ ms)) (run (symbols_at ms) g.0)
+    ≡ run (symbols_at ms) g.0 (plus n m.parts) = rw (shallow, few, short) refl in
+    ap (λ o. verdict_after o n (symbols_at (m ∷ ms)) (run (symbols_at ms))) g.1 ∙ now
+    ∙ accepts_run ms g.0 (plus n m.parts) q g.2 deep.1 names.1
+    (λ p. omega (arith, number-plus m.parts n p, fits p))
 
 -- a verdict from the beginning
 abbrev pub verdict_of : List Symbol → Verdict
@@ -142,7 +203,7 @@ verdict_of xs = run xs begin nothing_counted
 pub fits_at_first : Fits nothing_counted
 fits_at_first p = omega (arith, none p)
   where
-    none : (p : Part) → number_of nothing_counted p ≤ 0
+    none : (p : Part) → count_of_part nothing_counted p ≤ 0
     none Item = omega arith
     none Aggregate = omega arith
     none GroupColumn = omega arith
@@ -150,7 +211,7 @@ fits_at_first p = omega (arith, none p)
     none Comparison = omega arith
     none Operand = omega arith
 
-pub none_counted : (p : Part) → number_of nothing_counted p ≡ 0
+pub none_counted : (p : Part) → count_of_part nothing_counted p ≡ 0
 none_counted Item = refl
 none_counted Aggregate = refl
 none_counted GroupColumn = refl
@@ -158,19 +219,33 @@ none_counted SortKey = refl
 none_counted Comparison = refl
 none_counted Operand = refl
 
-pub only : (xs : List Symbol) (t : Tree) → Derives xs t → (q : Query) × (verdict_of xs ≡ Whole q) × (query_tree q ≡ t)
-only xs t d =
-    (d.phrase, ap verdict_of (sym d.written) ∙ accepts_run (query_marks d.phrase) begin nothing_counted d.phrase (query_goes d.phrase) d.within.depth d.within.names (λ p. omega (arith, none_counted p, d.within.counts p)), d.read)
+pub only : (xs : List Symbol) (t : Tree) → Derives xs t
+    → (q : Query) × (verdict_of xs ≡ Whole q) × (query_tree q ≡ t)
+only xs t d = (
+  d.phrase,
+  ap verdict_of (sym d.written)
+      ∙ accepts_run (query_marks d.phrase) begin nothing_counted d.phrase (query_goes d.phrase)
+      d.within.depth d.within.names (λ p. omega (arith, none_counted p, d.within.counts p)),
+  d.read,
+)
 
 -- what was reached from the beginning is within the limits
-reached_within : (xs : List Symbol) (last : State) (n : Counts) (ms : List Mark) (left : List Symbol) → Reaches begin nothing_counted xs last n ms left → AreWithinLimits ms
+reached_within : (xs : List Symbol) (last : ParserState) (n : Counts) (ms : List Mark)
+    (left : List Symbol) → Reaches begin nothing_counted xs last n ms left → AreWithinLimits ms
 reached_within xs last n ms left r =
-    record { depth = r.depth; counts = λ p. omega (arith, none_counted p, r.numbers p, r.fits p); names = r.names }
+    record {
+      depth = r.depth;
+      counts =
+          λ p. omega (arith, none_counted p, r.numbers p, r.fits p);
+      names = r.names;
+    }
 
-derives_found : (xs : List Symbol) (q : Query) → Found begin nothing_counted xs (Whole q) → Derives xs (query_tree q)
+derives_found : (xs : List Symbol) (q : Query) → Found begin nothing_counted xs (Whole q)
+    → Derives xs (query_tree q)
 derives_found xs q r =
     let way = r.3 in
-    let written : query_marks q ≡ r.2 = sym (end_passed r.0 q r.4) ∙ goes_passed r.2 begin r.0 way.goes [] ∙ append-nil r.2 in
+    let written : query_marks q ≡ r.2 =
+    sym (end_passed r.0 q r.4) ∙ goes_passed r.2 begin r.0 way.goes [] ∙ append-nil r.2 in
     record {
       phrase = q;
       written = ap symbols_at written ∙ sym (append-nil (symbols_at r.2)) ∙ sym way.cut;
@@ -179,7 +254,8 @@ derives_found xs q r =
     }
 
 pub derives : (xs : List Symbol) (q : Query) → verdict_of xs ≡ Whole q → Derives xs (query_tree q)
-derives xs q e = derives_found xs q (subst (Found begin nothing_counted xs) e (found xs begin nothing_counted fits_at_first))
+derives xs q e = derives_found xs q
+    (subst (Found begin nothing_counted xs) e (found xs begin nothing_counted fits_at_first))
 
 -- no symbols are two queries
 pub one_tree : (xs : List Symbol) (t u : Tree) → Derives xs t → Derives xs u → t ≡ u
@@ -190,7 +266,7 @@ one_tree xs t u d e =
     sym a.2 ∙ ap query_tree same ∙ b.2
 
 -- a step is one
-abbrev next_or : State → Option Step → State
+abbrev next_or : ParserState → Option Step → ParserState
 next_or other None = other
 next_or other (Some st) = st.next
 
@@ -198,56 +274,77 @@ abbrev mark_or : Mark → Option Step → Mark
 mark_or other None = other
 mark_or other (Some st) = st.at
 
-same_next : (a b : State) (m n : Mark) → to a m ≡ to b n → a ≡ b
+same_next : (a b : ParserState) (m n : Mark) → to a m ≡ to b n → a ≡ b
 same_next a b m n e = ap (next_or a) e
 
-same_mark : (a b : State) (m n : Mark) → to a m ≡ to b n → m ≡ n
+same_mark : (a b : ParserState) (m n : Mark) → to a m ≡ to b n → m ≡ n
 same_mark a b m n e = ap (mark_or m) e
 
 -- no query goes on where no step does
-no_way : (front ms : List Mark) (from last : State) (x : Symbol) (more : List Symbol) (q : Query) → Accepts from ms q → Goes from front last → symbols_at ms ≡ symbols_at front ++ x ∷ more → step last x ≡ None → ⊥
+no_way : (front ms : List Mark) (from last : ParserState) (x : Symbol) (more : List Symbol)
+    (q : Query) → Accepts from ms q → Goes from front last
+    → symbols_at ms ≡ symbols_at front ++ x ∷ more → next_step last x ≡ None → ⊥
 no_way [] [] from last x more q g way same e = cc
 no_way [] (m ∷ ms) from last x more q g way same e =
     let here : m.symbol ≡ x = cc in
-    let stuck : to g.0 m ≡ None = sym g.1 ∙ ap (step from) here ∙ ap (λ s. step s x) way ∙ e in cc
+    let stuck : to g.0 m ≡ None =
+    sym g.1 ∙ ap (next_step from) here ∙ ap (λ s. next_step s x) way ∙ e in cc
 no_way (f ∷ fs) [] from last x more q g way same e = cc
 no_way (f ∷ fs) (m ∷ ms) from last x more q g way same e =
     let here : m.symbol ≡ f.symbol = cc in
     let rest : symbols_at ms ≡ symbols_at fs ++ x ∷ more = cc in
-    let steps : to g.0 m ≡ to way.0 f = sym g.1 ∙ ap (step from) here ∙ way.1 in
+    let steps : to g.0 m ≡ to way.0 f = sym g.1 ∙ ap (next_step from) here ∙ way.1 in
     let next = sym (same_next g.0 way.0 m f steps) in
     no_way fs ms g.0 last x more q g.2 (subst (λ s. Goes s fs last) next way.2) rest e
 
 -- none ends where none may
-no_end : (front ms : List Mark) (from last : State) (q : Query) → Accepts from ms q → Goes from front last → symbols_at ms ≡ symbols_at front → at_end last ≡ None → ⊥
-no_end [] [] from last q g way same e = let stuck : Some q ≡ None = sym g ∙ ap at_end way ∙ e in cc
+no_end : (front ms : List Mark) (from last : ParserState) (q : Query) → Accepts from ms q
+    → Goes from front last → symbols_at ms ≡ symbols_at front → query_at_end last ≡ None → ⊥
+no_end [] [] from last q g way same e = let stuck : Some q ≡ None =
+    sym g ∙ ap query_at_end way ∙ e in cc
 no_end [] (m ∷ ms) from last q g way same e = cc
 no_end (f ∷ fs) [] from last q g way same e = cc
 no_end (f ∷ fs) (m ∷ ms) from last q g way same e =
     let here : m.symbol ≡ f.symbol = cc in
     let rest : symbols_at ms ≡ symbols_at fs = cc in
-    let steps : to g.0 m ≡ to way.0 f = sym g.1 ∙ ap (step from) here ∙ way.1 in
+    let steps : to g.0 m ≡ to way.0 f = sym g.1 ∙ ap (next_step from) here ∙ way.1 in
     let next = sym (same_next g.0 way.0 m f steps) in
     no_end fs ms g.0 last q g.2 (subst (λ s. Goes s fs last) next way.2) rest e
 
-dead : (front : List Mark) (last : State) (n : Counts) (left : List Symbol) → Goes begin front last → HaltsAt Unexpected last n left → NoQueryGoesOn (symbols_at front) left
-dead front last n [] way e = λ q same. no_end front (query_marks q) begin last q (query_goes q) way same e
-dead front last n (x ∷ left) way e = λ q more same. no_way front (query_marks q) begin last x more q (query_goes q) way same e
+dead : (front : List Mark) (last : ParserState) (n : Counts) (left : List Symbol)
+    → Goes begin front last → HaltsAt Unexpected last n left → NoQueryGoesOn (symbols_at front) left
+dead front last n [] way e =
+    λ q same. no_end front (query_marks q) begin last q (query_goes q) way same e
+dead front last n (x ∷ left) way e =
+    λ q more same. no_way front (query_marks q) begin last x more q (query_goes q) way same e
 
 -- a query begins with what was read
-pub begins : (front : List Mark) (last : State) → Goes begin front last → BeginsQuery front
+pub begins : (front : List Mark) (last : ParserState) → Goes begin front last → BeginsQuery front
 begins front last way =
-    let r = state_finishes last in record { phrase = r.0; more = r.1; written = r.2 ∙ goes_passed front begin last way r.1 }
+    let r = state_finishes last in
+    record { phrase = r.0; more = r.1; written = r.2 ∙ goes_passed front begin last way r.1 }
 
-pub goes_one_more : (front : List Mark) (from last next : State) (m : Mark) → Goes from front last → step last m.symbol ≡ to next m → Goes from (front ++ m ∷ []) next
-goes_one_more [] from last next m way e = (next, ap (λ s. step s m.symbol) way ∙ e, refl)
-goes_one_more (f ∷ fs) from last next m way e = (way.0, way.1, goes_one_more fs way.0 last next m way.2 e)
+pub goes_one_more : (front : List Mark) (from last next : ParserState) (m : Mark)
+    → Goes from front last → next_step last m.symbol ≡ to next m → Goes from (front ++ m ∷ []) next
+goes_one_more [] from last next m way e = (next, ap (λ s. next_step s m.symbol) way ∙ e, refl)
+goes_one_more (f ∷ fs) from last next m way e =
+    (way.0, way.1, goes_one_more fs way.0 last next m way.2 e)
 
-breaks : (IsOver : List Mark → Mark → Type 0) (Over : Mark → Type 0) (front : List Mark) (last : State) (left : List Symbol) → ((m : Mark) → Over m → IsOver front m) → Goes begin front last → Halts Over last left → Breaks IsOver front left
+breaks : (IsOver : List Mark → Mark → Type 0) (Over : Mark → Type 0) (front : List Mark)
+    (last : ParserState) (left : List Symbol) → ((m : Mark) → Over m → IsOver front m)
+    → Goes begin front last → Halts Over last left → Breaks IsOver front left
 breaks IsOver Over front last left f way h =
-    record { at = h.at; others = h.others; here = h.here; begins = begins (front ++ h.at ∷ []) h.next (goes_one_more front begin last h.next h.at way h.does); over = f h.at h.over }
+    record {
+      at = h.at;
+      others = h.others;
+      here = h.here;
+      begins =
+          begins (front ++ h.at ∷ []) h.next (goes_one_more front begin last h.next h.at way h.does);
+      over = f h.at h.over;
+    }
 
-count_of-append : (p : Part) (ms ns : List Mark) → count_begun p (ms ++ ns) ≡ count_begun p ms + count_begun p ns
+count_of-append : (p : Part) (ms ns : List Mark)
+    → count_begun p (ms ++ ns) ≡ count_begun p ms + count_begun p ns
 count_of-append p [] ns = omega arith
 count_of-append p (m ∷ ms) ns = omega (arith, count_of-append p ms ns)
 
@@ -255,55 +352,84 @@ either : (a b : Bool) → a || b ≡ true → (a ≡ true) ⊎ (b ≡ true)
 either true b e = inl refl
 either false b e = inr e
 
-too_many : (front : List Mark) (n : Counts) → ((p : Part) → number_of n p ≡ count_begun p front) → (m : Mark) → IsBeyond n m → IsTooMany front m
-too_many front n numbers m over =
-    (ltb-false _ _ over.0, by_cause (either (is_over (plus n m.parts) m.parts) (is_long m.symbol) over.1))
+too_many : (front : List Mark) (n : Counts) → ((p : Part) → count_of_part n p ≡ count_begun p front)
+    → (m : Mark) → IsBeyond n m → IsTooMany front m
+too_many front n numbers m over = (
+  ltb-false _ _ over.0,
+  by_cause
+      (either (is_over (plus n m.parts) m.parts) (is_long m.symbol) over.1),
+)
   where
-    by_cause : (is_over (plus n m.parts) m.parts ≡ true) ⊎ (is_long m.symbol ≡ true) → ((p : Part) × (limit p < count_begun p (front ++ m ∷ []))) ⊎ IsLongName m.symbol
+    by_cause : (is_over (plus n m.parts) m.parts ≡ true) ⊎ (is_long m.symbol ≡ true)
+        → ((p : Part) × (limit p < count_begun p (front ++ m ∷ []))) ⊎ IsLongName m.symbol
     by_cause (inl e) =
         let r = over_some (plus n m.parts) m.parts e in
-        inl (r.0, omega (arith, r.1, number-plus m.parts n r.0, numbers r.0, count_of-append r.0 front (m ∷ [])))
+        inl (
+          r.0,
+          omega (
+            arith,
+            r.1,
+            number-plus m.parts n r.0,
+            numbers r.0,
+            count_of-append r.0 front (m ∷ []),
+          ),
+        )
     by_cause (inr e) = inr (long_name m.symbol e)
 
-fails : (f : Fault) (front : List Mark) (last : State) (n : Counts) (left : List Symbol) → ((p : Part) → number_of n p ≡ count_begun p front) → Goes begin front last → HaltsAt f last n left → QueryFails f front left
+fails : (f : Fault) (front : List Mark) (last : ParserState) (n : Counts) (left : List Symbol)
+    → ((p : Part) → count_of_part n p ≡ count_begun p front) → Goes begin front last
+    → HaltsAt f last n left → QueryFails f front left
 fails Unexpected front last n left numbers way h = dead front last n left way h
 fails TooDeep front last n left numbers way h =
-    breaks IsTooDeep (λ m. nat_lt 32 m.depth ≡ true) front last left (λ m over. ltb-true _ _ over) way h
-fails TooMany front last n left numbers way h = breaks IsTooMany (IsBeyond n) front last left (too_many front n numbers) way h
+    breaks IsTooDeep (λ m. nat_lt 32 m.depth ≡ true) front last left (λ m over. ltb-true _ _ over)
+    way h
+fails TooMany front last n left numbers way h =
+    breaks IsTooMany (IsBeyond n) front last left (too_many front n numbers) way h
 
-first_found : (xs : List Symbol) (f : Fault) (left : List Symbol) → Found begin nothing_counted xs (Bad f left) → FirstQueryFault xs f left
+first_found : (xs : List Symbol) (f : Fault) (left : List Symbol)
+    → Found begin nothing_counted xs (Bad f left) → FirstQueryFault xs f left
 first_found xs f left r =
     record {
       front = r.2;
       cut = r.3.cut;
       begins = begins r.2 r.0 r.3.goes;
       within = reached_within xs r.0 r.1 r.2 left r.3;
-      fails = fails f r.2 r.0 r.1 left (λ p. omega (arith, none_counted p, r.3.numbers p)) r.3.goes r.4;
+      fails = fails f r.2 r.0 r.1 left (λ p. omega (arith, none_counted p, r.3.numbers p)) r.3.goes
+          r.4;
     }
 
-pub first_fault : (xs : List Symbol) (f : Fault) (left : List Symbol) → verdict_of xs ≡ Bad f left → FirstQueryFault xs f left
-first_fault xs f left e = first_found xs f left (subst (Found begin nothing_counted xs) e (found xs begin nothing_counted fits_at_first))
+pub first_fault : (xs : List Symbol) (f : Fault) (left : List Symbol) → verdict_of xs ≡ Bad f left
+    → FirstQueryFault xs f left
+first_fault xs f left e =
+    first_found xs f left (subst (Found begin nothing_counted xs) e
+    (found xs begin nothing_counted fits_at_first))
 
-pub refuses : (xs : List Symbol) (f : Fault) (left : List Symbol) (t : Tree) → verdict_of xs ≡ Bad f left → Derives xs t → ⊥
+pub refuses : (xs : List Symbol) (f : Fault) (left : List Symbol) (t : Tree)
+    → verdict_of xs ≡ Bad f left → Derives xs t → ⊥
 refuses xs f left t e d = let o = only xs t d in let w : Whole o.0 ≡ Bad f left = sym o.1 ∙ e in cc
 
 -- marks that begin a query are those that the machine puts
-same_front : (a b ms ns : List Mark) (from : State) (q r : Query) → Accepts from (a ++ ms) q → Accepts from (b ++ ns) r → symbols_at a ≡ symbols_at b → a ≡ b
+same_front : (a b ms ns : List Mark) (from : ParserState) (q r : Query) → Accepts from (a ++ ms) q
+    → Accepts from (b ++ ns) r → symbols_at a ≡ symbols_at b → a ≡ b
 same_front [] [] ms ns from q r g h e = refl
 same_front [] (y ∷ b) ms ns from q r g h e = cc
 same_front (x ∷ a) [] ms ns from q r g h e = cc
 same_front (x ∷ a) (y ∷ b) ms ns from q r g h e =
     let here : x.symbol ≡ y.symbol = cc in
     let rest : symbols_at a ≡ symbols_at b = cc in
-    let steps : to g.0 x ≡ to h.0 y = sym g.1 ∙ ap (step from) here ∙ h.1 in
+    let steps : to g.0 x ≡ to h.0 y = sym g.1 ∙ ap (next_step from) here ∙ h.1 in
     let head = same_mark g.0 h.0 x y steps in
     let next = sym (same_next g.0 h.0 x y steps) in
-    ap (λ m. m ∷ a) head ∙ ap (λ l. y ∷ l) (same_front a b ms ns g.0 q r g.2 (subst (λ s. Accepts s (b ++ ns) r) next h.2) rest)
+    ap (λ m. m ∷ a) head ∙ ap (λ l. y ∷ l)
+    (same_front a b ms ns g.0 q r g.2 (subst (λ s. Accepts s (b ++ ns) r) next h.2) rest)
 
 -- fronts of the same symbols have the same nestings and parts
-pub one_front : (a b : List Mark) → BeginsQuery a → BeginsQuery b → symbols_at a ≡ symbols_at b → a ≡ b
+pub one_front : (a b : List Mark) → BeginsQuery a → BeginsQuery b → symbols_at a ≡ symbols_at b
+    → a ≡ b
 one_front a b f g e =
-    same_front a b f.more g.more begin f.phrase g.phrase (subst (λ ms. Accepts begin ms f.phrase) f.written (query_goes f.phrase)) (subst (λ ms. Accepts begin ms g.phrase) g.written (query_goes g.phrase)) e
+    same_front a b f.more g.more begin f.phrase g.phrase
+    (subst (λ ms. Accepts begin ms f.phrase) f.written (query_goes f.phrase))
+    (subst (λ ms. Accepts begin ms g.phrase) g.written (query_goes g.phrase)) e
 
 abbrev the_ok : List Placed → Result (List Placed) QueryFault
 the_ok ts = Ok ts

@@ -1,4 +1,5 @@
--- Worked rows: how some texts are cut into tokens, and what is a query's first fault, by computation.
+-- Worked rows: how some texts are cut into tokens, and what is a query's first fault, by
+-- computation.
 use Rattle.std.proofs.Common.{◌≡◌, ℕ, [], ◌∷◌, ◌++◌, Ok, Err, refl}
 use Rattle.std.specs.Prelude.{codes}
 use Rattle.star_query.specs.declared.fault.Fault.TheVariants.{Unexpected}
@@ -26,7 +27,8 @@ a_doubled_quote : cut_of (codes "'a''b'") ≡ Ok (at 0 (text (codes "a'b")) ∷ 
 unfolding cut_from
 a_doubled_quote = refl
 
-an_empty_text_and_a_quote : cut_of (codes "'' ''''") ≡ Ok (at 0 (text []) ∷ at 3 (text (codes "'")) ∷ [])
+an_empty_text_and_a_quote :
+    cut_of (codes "'' ''''") ≡ Ok (at 0 (text []) ∷ at 3 (text (codes "'")) ∷ [])
 unfolding cut_from
 an_empty_text_and_a_quote = refl
 
@@ -35,7 +37,8 @@ unfolding cut_from
 a_doubled_quote_closes_nothing = refl
 
 -- the ends of what may stand in a text, and what is next to them
-from_the_space_to_the_tilde : cut_of (39 ∷ 32 ∷ 126 ∷ 39 ∷ []) ≡ Ok (at 0 (text (32 ∷ 126 ∷ [])) ∷ [])
+from_the_space_to_the_tilde :
+    cut_of (39 ∷ 32 ∷ 126 ∷ 39 ∷ []) ≡ Ok (at 0 (text (32 ∷ 126 ∷ [])) ∷ [])
 unfolding cut_from
 from_the_space_to_the_tilde = refl
 
@@ -54,7 +57,8 @@ a_bad_byte_in_an_open_text = refl
 
 -- ---- numbers
 
-eighteen_digits : cut_of (codes "999999999999999999,000000000000000007") ≡ Ok (at 0 (number 999999999999999999) ∷ at 18 (sign Comma) ∷ at 19 (number 7) ∷ [])
+eighteen_digits : cut_of (codes "999999999999999999,000000000000000007")
+    ≡ Ok (at 0 (number 999999999999999999) ∷ at 18 (sign Comma) ∷ at 19 (number 7) ∷ [])
 unfolding cut_from
 eighteen_digits = refl
 
@@ -72,11 +76,15 @@ an_underscore_behind_a_number = refl
 
 -- ---- signs, the longest that fit
 
-signs : cut_of (codes ",()*+-;") ≡ Ok (at 0 (sign Comma) ∷ at 1 (sign Open) ∷ at 2 (sign Close) ∷ at 3 (sign Star) ∷ at 4 (additive Plus) ∷ at 5 (additive Minus) ∷ at 6 (sign Semicolon) ∷ [])
+signs : cut_of (codes ",()*+-;")
+    ≡ Ok (at 0 (sign Comma) ∷ at 1 (sign Open) ∷ at 2 (sign Close) ∷ at 3 (sign Star)
+    ∷ at 4 (additive Plus) ∷ at 5 (additive Minus) ∷ at 6 (sign Semicolon) ∷ [])
 unfolding cut_from
 signs = refl
 
-relations : cut_of (codes "=<> < <=> >=") ≡ Ok (at 0 (relation Equal) ∷ at 1 (relation Unequal) ∷ at 4 (relation Less) ∷ at 6 (relation AtMost) ∷ at 8 (relation Greater) ∷ at 10 (relation AtLeast) ∷ [])
+relations : cut_of (codes "=<> < <=> >=")
+    ≡ Ok (at 0 (relation Equal) ∷ at 1 (relation Unequal) ∷ at 4 (relation Less)
+    ∷ at 6 (relation AtMost) ∷ at 8 (relation Greater) ∷ at 10 (relation AtLeast) ∷ [])
 unfolding cut_from
 relations = refl
 
@@ -91,7 +99,9 @@ no_sign = refl
 -- ---- words
 
 -- white space is the space, the tab, the carriage return and the line feed
-words : cut_of (codes "SeLeCt" ++ 9 ∷ codes "_A1" ++ 13 ∷ 10 ∷ codes "fRom" ++ 32 ∷ codes "from_") ≡ Ok (at 0 (keyword Select) ∷ at 7 (name (codes "_a1") 7) ∷ at 12 (keyword From) ∷ at 17 (name (codes "from_") 17) ∷ [])
+words : cut_of (codes "SeLeCt" ++ 9 ∷ codes "_A1" ++ 13 ∷ 10 ∷ codes "fRom" ++ 32 ∷ codes "from_")
+    ≡ Ok (at 0 (keyword Select) ∷ at 7 (name (codes "_a1") 7) ∷ at 12 (keyword From)
+    ∷ at 17 (name (codes "from_") 17) ∷ [])
 unfolding cut_from reserved reserved_words spelling
 words = refl
 
@@ -99,12 +109,15 @@ no_white_space : cut_of (11 ∷ []) ≡ Err (BadCharacter 0)
 unfolding cut_from
 no_white_space = refl
 
-rollup_is_reserved : cut_of (codes "Rollup rollups") ≡ Ok (at 0 (keyword Rollup) ∷ at 7 (name (codes "rollups") 7) ∷ [])
+rollup_is_reserved : cut_of (codes "Rollup rollups")
+    ≡ Ok (at 0 (keyword Rollup) ∷ at 7 (name (codes "rollups") 7) ∷ [])
 unfolding cut_from reserved reserved_words spelling
 rollup_is_reserved = refl
 
 -- ---- a fault of the grammar
 
 -- select count(*) from
-nothing_behind_from : FirstQueryFault (keyword Select ∷ count 7 ∷ sign Open ∷ sign Star ∷ sign Close ∷ keyword From ∷ []) Unexpected []
+nothing_behind_from : FirstQueryFault
+    (keyword Select ∷ count 7 ∷ sign Open ∷ sign Star ∷ sign Close ∷ keyword From ∷ []) Unexpected
+    []
 nothing_behind_from = first_fault _ Unexpected [] refl

@@ -6,7 +6,7 @@ use Rattle.std.specs.Str.Parse.{digits_value}
 use Rattle.std.specs.Cmp.Lexicographic.{pointwise}
 use Rattle.star_common.specs.Quotes.{doubled}
 use Rattle.star_common.specs.WhiteSpace.{is_blank}
-use Rattle.star_schema.specs.Tables.{is_printable}
+use Rattle.star_common.specs.Printable.{is_printable}
 use Rattle.star_query.specs.declared.token.Word.{Word}
 use Rattle.star_query.specs.declared.token.Relation.TheVariants as r
 use Rattle.star_query.specs.declared.token.Sign.TheVariants as s

@@ -26,7 +26,7 @@ pub data Several (A : Type 0) : Type 0 where
 mutual
   pub data Expr : Type 0 where
     lone_term : Term → Expr
-    joined : Expr → Additive → Term → Expr
+    plus_or_minus : Expr → Additive → Term → Expr
 
   pub data Term : Type 0 where
     lone_factor : Factor → Term
@@ -39,8 +39,8 @@ mutual
 
 -- lit = [-] number | text
 pub data Lit : Type 0 where
-  whole negated : ℕ → Lit
-  quoted : List ℕ → Lit
+  unsigned_literal negative_literal : ℕ → Lit
+  string_literal : List ℕ → Lit
 
 -- cond = conj {or conj}      conj = unit {and unit}
 -- unit = not unit | ( cond ) | name = name | name sign lit | name between lit and lit
@@ -112,7 +112,7 @@ ident i = name i.text i.place
 abbrev mutual
   pub expr_marks : ℕ → Expr → List Mark → List Mark
   expr_marks d (lone_term t) rest = term_marks d t rest
-  expr_marks d (joined e q t) rest = expr_marks d e (at d (additive q) ∷ term_marks d t rest)
+  expr_marks d (plus_or_minus e q t) rest = expr_marks d e (at d (additive q) ∷ term_marks d t rest)
 
   pub term_marks : ℕ → Term → List Mark → List Mark
   term_marks d (lone_factor f) rest = factor_marks d f rest
@@ -125,9 +125,9 @@ abbrev mutual
   factor_marks d (parens e) rest = at (d + 1) (sign s.Open) ∷ expr_marks (d + 1) e (at (d + 1) (sign s.Close) ∷ rest)
 
 abbrev pub lit_marks : ℕ → Lit → List Mark → List Mark
-lit_marks d (whole n) rest = at d (number n) ∷ rest
-lit_marks d (negated n) rest = at d (additive Minus) ∷ at d (number n) ∷ rest
-lit_marks d (quoted t) rest = at d (text t) ∷ rest
+lit_marks d (unsigned_literal n) rest = at d (number n) ∷ rest
+lit_marks d (negative_literal n) rest = at d (additive Minus) ∷ at d (number n) ∷ rest
+lit_marks d (string_literal t) rest = at d (text t) ∷ rest
 
 abbrev mutual
   pub cond_marks : ℕ → Cond → List Mark → List Mark
@@ -212,7 +212,7 @@ sum_or_difference Minus a b = tree.sub a b
 abbrev mutual
   pub expr_tree : Expr → tree.Expression tree.Name
   expr_tree (lone_term t) = term_tree t
-  expr_tree (joined e q t) = sum_or_difference q (expr_tree e) (term_tree t)
+  expr_tree (plus_or_minus e q t) = sum_or_difference q (expr_tree e) (term_tree t)
 
   pub term_tree : Term → tree.Expression tree.Name
   term_tree (lone_factor f) = factor_tree f
@@ -225,9 +225,9 @@ abbrev mutual
   factor_tree (parens e) = expr_tree e
 
 abbrev pub lit_tree : Lit → tree.Literal
-lit_tree (whole n) = tree.number (pos n)
-lit_tree (negated n) = tree.number (neg_ℤ (pos n))
-lit_tree (quoted t) = tree.text t
+lit_tree (unsigned_literal n) = tree.number (pos n)
+lit_tree (negative_literal n) = tree.number (neg_ℤ (pos n))
+lit_tree (string_literal t) = tree.text t
 
 abbrev mutual
   pub cond_tree : Cond → tree.Condition tree.Test

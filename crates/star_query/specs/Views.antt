@@ -76,8 +76,8 @@ item_view (items.Aggregate a) = tree.aggregate (aggregate_view a)
 abbrev pub grouping_view : Grouping → tree.Grouping
 grouping_view g = record { shape = g.shape; columns = map name_view g.columns.items }
 
-abbrev pub key_view : SortKey → tree.SortKey
-key_view k = record { name = name_view k.name; direction = k.direction }
+abbrev pub sort_key_view : SortKey → tree.SortKey
+sort_key_view k = record { name = name_view k.name; direction = k.direction }
 
 abbrev pub tree_view : Tree → tree.Tree
 tree_view t =
@@ -86,5 +86,5 @@ tree_view t =
       tables = map name_view t.tables.items;
       condition = option_map condition_view t.condition;
       grouping = grouping_view t.grouping;
-      keys = map key_view t.keys.items;
+      keys = map sort_key_view t.keys.items;
     }

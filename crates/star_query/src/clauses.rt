@@ -51,7 +51,7 @@ impl<'a> Parser<'a> {
         }
     }
 
-    // ( expr ), behind the word of a function
+    // ( expr ), after the word of a function
     fn folded(&mut self, fold: Fold) -> Result<Measure<Name>, ParseError>
         ensures reads { ReadsFolded fold (spot_of self.old) (spot_of self.new) result }
         ensures shorter { length self.new.left.now ≤ length self.old.left.now }
@@ -62,7 +62,7 @@ impl<'a> Parser<'a> {
         Ok(Measure::Fold(fold, expression))
     }
 
-    // ( * ), behind `count`
+    // ( * ), after `count`
     fn counted(&mut self) -> Result<Measure<Name>, ParseError>
         ensures reads { ReadsCounted (spot_of self.old) (spot_of self.new) result }
         ensures shorter { length self.new.left.now ≤ length self.old.left.now }
@@ -73,7 +73,7 @@ impl<'a> Parser<'a> {
         Ok(Measure::Count)
     }
 
-    // agg, behind the word of the function
+    // agg, after the word of the function
     fn measure(&mut self, function: Function) -> Result<Measure<Name>, ParseError>
         ensures reads { ReadsMeasure function (spot_of self.old) (spot_of self.new) result }
         ensures shorter { length self.new.left.now ≤ length self.old.left.now }
@@ -96,7 +96,7 @@ impl<'a> Parser<'a> {
         Ok(None)
     }
 
-    // agg [as name], behind the word of the function
+    // agg [as name], after the word of the function
     fn aggregate(&mut self, function: Function) -> Result<Aggregate, ParseError>
         ensures reads { ReadsAggregate function (spot_of self.old) (spot_of self.new) result }
         ensures shorter { length self.new.left.now ≤ length self.old.left.now }
@@ -140,7 +140,7 @@ impl<'a> Parser<'a> {
         Ok(None)
     }
 
-    // ( names ), behind the word of this shape
+    // ( names ), after the word of this shape
     fn hidden(&mut self, shape: Shape) -> Result<Grouping, ParseError>
         ensures { ReadsHidden shape (spot_of self.old) (spot_of self.new) result }
     {
@@ -150,7 +150,7 @@ impl<'a> Parser<'a> {
         Ok(Grouping { shape, columns })
     }
 
-    // names | cube ( names ) | rollup ( names ), behind `group by`
+    // names | cube ( names ) | rollup ( names ), after `group by`
     fn groups(&mut self) -> Result<Grouping, ParseError>
         ensures { ReadsGroups (spot_of self.old) (spot_of self.new) result }
     {
@@ -216,7 +216,7 @@ impl<'a> Parser<'a> {
         Ok(Vec::new(self.alloc))
     }
 
-    // [;], and nothing behind it
+    // [;], and nothing after it
     fn end(&mut self) -> Result<(), ParseError>
         ensures { ReadsEnd (spot_of self.old) (spot_of self.new) result }
     {
@@ -227,7 +227,7 @@ impl<'a> Parser<'a> {
         Ok(())
     }
 
-    // A query, and nothing behind it.
+    // A query, and nothing after it.
     pub(crate) fn query(&mut self) -> Result<Tree, ParseError>
         ensures { ReadsQuery (spot_of self.old) (spot_of self.new) result }
     {

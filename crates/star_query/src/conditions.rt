@@ -33,7 +33,7 @@ impl<'a> Parser<'a> {
         Ok(Literal::Text(text))
     }
 
-    // name between lit and lit, from behind `between`
+    // name between lit and lit, after `between`
     fn between(&mut self, column: Name) -> Result<Condition<Test>, ParseError>
         ensures reads { ReadsNamed (λ h. lit_wanted (low h (name_view column))) (spot_of self.old)
             (spot_of self.new) result }
@@ -45,7 +45,7 @@ impl<'a> Parser<'a> {
         Ok(Condition::Test(Test::Comparison(Comparison::Between(column, least, most))))
     }
 
-    // name sign lit, from behind the sign
+    // name sign lit, after the sign
     fn compared(&mut self, column: Name, relation: Relation) -> Result<Condition<Test>, ParseError>
         ensures reads { ReadsNamed (λ h. lit_wanted (compared h (name_view column) relation))
             (spot_of self.old) (spot_of self.new) result }
@@ -55,7 +55,7 @@ impl<'a> Parser<'a> {
         Ok(Condition::Test(Test::Comparison(Comparison::Compare(column, relation, literal))))
     }
 
-    // name = name | name = lit, from behind the sign
+    // name = name | name = lit, after the sign
     fn equal(&mut self, column: Name) -> Result<Condition<Test>, ParseError>
         ensures reads { ReadsNamed (λ h. equal_had h (name_view column)) (spot_of self.old)
             (spot_of self.new) result }

@@ -3,7 +3,7 @@
 
 ghost use Rattle.std.specs.Prelude.{◌≡◌, ◌≤◌, ◌<◌};
 ghost use Rattle.star_query.specs.Maxima.{limit};
-ghost use Rattle.star_query.specs.Private.Machine.{number_of, bump, nothing_counted};
+ghost use Rattle.star_query.specs.Private.Machine.{count_of_part, bump, nothing_counted};
 
 /// The most bytes of a query text.
 pub const MAX_TEXT: usize = 65_536;
@@ -73,7 +73,7 @@ impl Counts {
     }
 
     pub(crate) fn number(&self, part: Part) -> u16
-        ensures { result ≡ number_of self.now part }
+        ensures { result ≡ count_of_part self.now part }
     {
         match part {
             Part::Item => self.items,
@@ -87,7 +87,7 @@ impl Counts {
 
     // One more of a part.
     pub(crate) fn bump(&mut self, part: Part)
-        requires { number_of self.old part < 1000 }
+        requires { count_of_part self.old part < 1000 }
         ensures { self.new ≡ bump part self.old }
     {
         match part {

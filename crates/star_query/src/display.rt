@@ -169,7 +169,7 @@ impl fmt::Display for SortKey {
     }
 }
 
-/// How rows are grouped, behind a space; nothing where they aren't.
+/// How rows are grouped, after a space; nothing where they aren't.
 impl fmt::Display for Grouping {
     fn fmt<W: fmt::Write>(&self, f: &mut fmt::Formatter<W>) -> fmt::Result {
         write_grouping(f, self.shape, &self.columns)

@@ -59,7 +59,7 @@ pub fn tokens_make_their_text()
         → (cut_of bytes ≡ Ok tokens) ↔ AreTokens (length bytes) [] 0 bytes tokens }
 {}
 
-/// No longer bytes that stand there are a token: what a token goes on with is never behind it.
+/// No longer bytes that stand there are a token: what a token goes on with is never after it.
 pub fn tokens_are_the_longest()
     ensures { (place : ℕ) (word bytes longer left : List ℕ) (x y : Symbol)
         → IsToken place word x → is_whole x bytes ≡ true
@@ -67,7 +67,7 @@ pub fn tokens_are_the_longest()
         → length longer ≤ length word }
 {}
 
-/// A text has no cut exactly where behind some tokens something stops it: a byte that begins none,
+/// A text has no cut exactly where after some tokens something stops it: a byte that begins none,
 /// digits that are too many or that a letter follows, a text in quotes that nothing closes, or a
 /// byte in one that may not stand there.
 pub fn what_is_no_token_stops_the_cut()

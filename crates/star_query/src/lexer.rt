@@ -1,10 +1,9 @@
 // A text cut into tokens.
 
-ghost use Rattle.std.specs.Prelude.{◌≡◌, ◌≤◌, ◌+◌, length, IfOk, Ok, Some, None, Option, false, true, IfErr, option_to_list, map, Err};
+ghost use Rattle.std.specs.Prelude.{◌≡◌, ◌≤◌, ◌+◌, length, IfOk, Ok, Some, None, false, true, IfErr, option_to_list, map, Err};
 ghost use Rattle.std.specs.List.{prefix_len, take_while};
 ghost use Rattle.std.specs.Char.{is_ascii_digit};
 ghost use Rattle.star_common.specs.WhiteSpace as white;
-ghost use Rattle.star_schema.specs.Tables as tables;
 ghost use Rattle.star_query.specs.Cut as spec;
 ghost use Rattle.star_query.specs.Private.Lexed as lexed;
 ghost use Rattle.star_query.specs.Private.Quoted as quoting;
@@ -12,7 +11,7 @@ ghost use Rattle.star_query.specs.Private.Quoted as quoting;
 use crate::counts::MAX_DIGITS;
 use crate::fault::QueryFault;
 use crate::token::{Additive, Digits, Kind, Relation, Sign, Token, WORDS, Word};
-use star_common::numeral_value;
+use star_common::{is_printable, numeral_value};
 use std::alloc::Global;
 
 // What begins at a place.
@@ -23,8 +22,8 @@ enum Piece<'a> {
     Bad(QueryFault),
 }
 
-// How a text ends: by its closing quote, behind this many bytes; at a byte that may not stand in
-// it; or not at all.
+// How a text ends: by its closing quote, after this many bytes; at a byte that may not stand in it;
+// or not at all.
 #[derive(Clone, Copy)]
 enum Ending {
     Closed(usize),
@@ -48,12 +47,6 @@ fn is_word_byte(byte: u8) -> bool
     ensures { result ≡ spec.is_word_byte byte }
 {
     is_letter(byte) || byte.is_ascii_digit()
-}
-
-fn is_printable(byte: u8) -> bool
-    ensures { result ≡ tables.is_printable byte }
-{
-    (b' '..=b'~').contains(&byte)
 }
 
 // Whether a word is this reserved word, in any case.
@@ -93,7 +86,7 @@ fn word_width(text: &[u8]) -> usize
 
 // Whether a text goes on with a byte, and whether it then ends unless a quote follows.
 fn goes_on(quote: bool, byte: u8) -> Option<bool>
-    ensures { result ≡ quoting.goes_on quote byte }
+    ensures { result ≡ quoting.text_goes_on quote byte }
 {
     if quote {
         if byte == b'\'' { Some(false) } else { None }
@@ -106,10 +99,10 @@ fn goes_on(quote: bool, byte: u8) -> Option<bool>
     }
 }
 
-// How a text ends, from behind its opening quote.
+// How a text ends, after its opening quote.
 fn end_of_text(text: &[u8]) -> Ending
     ensures ending { lexed.ending_of result ≡ quoting.ending_after false text.now }
-    ensures within { lexed.EndsWithin result (length text.now) }
+    ensures within { lexed.IsEndingWithin result (length text.now) }
 {
     let mut quote = false;
     for (i, byte) in text.iter().enumerate() {
@@ -131,7 +124,7 @@ fn end_of_text(text: &[u8]) -> Ending
 
 // A sign, the longest that fits, and how many bytes it has.
 fn sign<'a>(byte: u8, next: Option<u8>, place: usize) -> Piece<'a>
-    ensures { lexed.IsPiece place (quoting.sign_piece place byte next)
+    ensures { lexed.IsPiece place (quoting.sign_by_bytes place byte next)
         (1 + length (option_to_list next)) result }
 {
     match byte {
@@ -198,10 +191,10 @@ fn word<'a>(text: &'a [u8], place: usize) -> Piece<'a>
     Piece::Token(kind, width)
 }
 
-// A text, from behind its opening quote.
+// A text, after its opening quote.
 fn quoted<'a>(text: &'a [u8], place: usize) -> Piece<'a>
     requires { place + 1 + length text.now ≤ usize.MAX }
-    ensures { lexed.IsPiece place (quoting.text_piece place text.now) (1 + length text.now) result }
+    ensures { lexed.IsPiece place (quoting.text_by_bytes place text.now) (1 + length text.now) result }
 {
     match end_of_text(text) {
         Ending::Closed(end) => {

@@ -101,7 +101,7 @@ impl Listing for Keys {
 }
 
 impl<'a> Parser<'a> {
-    // One element, and more behind commas.
+    // One element, and more after commas.
     pub(crate) fn several<L: Listing>(&mut self) -> Result<Vec<L::Element>, ParseError>
         ensures reads { L.ReadsAll (spot_of self.old) (spot_of self.new) result }
         ensures ends { OnOk result (NoComma (spot_of self.new)) }

@@ -210,7 +210,7 @@ impl<'a> Parser<'a> {
 
 // What a text says, of whose quotes each is doubled.
 fn unquoted(alloc: Global, inside: &[u8]) -> Result<Vec<u8>, AllocError>
-    ensures { IfOk result (λ text. text.items ≡ quoting.unquoted inside.now) }
+    ensures { IfOk result (λ text. text.items ≡ quoting.undoubled inside.now) }
 {
     let mut text = Vec::new(alloc);
     let mut doubled = false;
@@ -271,7 +271,7 @@ fn count_passed(tokens: &[Token<'_>], left: &[Token<'_>]) -> usize
     tokens.len().saturating_sub(left.len())
 }
 
-// Where the tokens behind so many begin.
+// Where the tokens after the first `passed` begin.
 fn place_at(tokens: &[Token<'_>], passed: usize, end: usize) -> usize
     ensures { result ≡ first_place (drop passed (map placed tokens.now)) end }
 {

@@ -53,7 +53,7 @@ pub fn write_list<T: fmt::Display, W: fmt::Write>(
     Ok(())
 }
 
-/// Writes how rows are grouped by these columns, behind a space; nothing where they aren't.
+/// Writes how rows are grouped by these columns, after a space; nothing where they aren't.
 pub fn write_grouping<T: fmt::Display, W: fmt::Write>(
     f: &mut fmt::Formatter<W>,
     shape: Shape,

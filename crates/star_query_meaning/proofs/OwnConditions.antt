@@ -1,4 +1,5 @@
--- WHERE, on a query's own tree, says of a row what the joins and the other conjuncts of the plan say.
+-- WHERE, on a query's own tree, says of a row what the joins and the other conjuncts of the plan
+-- say.
 use Rattle.std.proofs.Common.{◌≡◌, ◌∙◌, Bool, true, false, ◌&&◌, ◌||◌, not as negated, inl, inr, List, [], ◌∷◌, ◌++◌, Option, Some, None, option_map, refl, sym, ap}
 use Rattle.std.specs.List.{AllByRecursion}
 use Rattle.std.specs.Prelude.{pos}
@@ -30,18 +31,22 @@ use Rattle.star_query_meaning.proofs.Choices.{all_joined, is_joined_by}
 abbrev value_if : Option ColumnId → Joined → Value
 value_if o row = option_map_or (λ c. joined_value c row) o (Number (pos 0))
 
-pub named : (n : Name) (c : ColumnId) (row : Joined) → column_at n ≡ Some c → value_named n row ≡ joined_value c row
+pub named : (n : Name) (c : ColumnId) (row : Joined) → column_at n ≡ Some c
+    → value_named n row ≡ joined_value c row
 named n c row e = ap (λ o. value_if o row) e
 
 -- ---- conditions in which no two columns are compared
 
-condition_same : (q : Condition Test) (x : plan.RowCondition) (row : Joined) → resolved_condition q ≡ Some x → is_true q row ≡ holds x row
+condition_same : (q : Condition Test) (x : plan.RowCondition) (row : Joined)
+    → resolved_condition q ≡ Some x → is_true q row ≡ holds x row
 condition_same (tree.or a b) x row e =
     let g = both_gave or (resolved_condition a) (resolved_condition b) x e in
-    (λ i. condition_same a g.left row g.first i || condition_same b g.right row g.second i) ∙ ap (λ y. holds y row) g.made
+    (λ i. condition_same a g.left row g.first i || condition_same b g.right row g.second i)
+    ∙ ap (λ y. holds y row) g.made
 condition_same (tree.and a b) x row e =
     let g = both_gave and (resolved_condition a) (resolved_condition b) x e in
-    (λ i. condition_same a g.left row g.first i && condition_same b g.right row g.second i) ∙ ap (λ y. holds y row) g.made
+    (λ i. condition_same a g.left row g.first i && condition_same b g.right row g.second i)
+    ∙ ap (λ y. holds y row) g.made
 condition_same (tree.not a) x row e =
     let g = mapped_gave not (resolved_condition a) x e in
     ap negated (condition_same a g.0 row g.1) ∙ ap (λ y. holds y row) g.2
@@ -49,18 +54,26 @@ condition_same (tree.test (tree.pair m n)) x row e = absurd (cc)
 condition_same (tree.test (tree.comparison (tree.compare n s l))) x row e =
     let t = mapped_gave test (resolved_test (tree.comparison (tree.compare n s l))) x e in
     let g = mapped_gave (λ c. compare c s (literal_value l)) (column_at n) t.0 t.1 in
-    (λ i. tests s (value_cmp (named n g.0 row g.1 i) (literal_value l))) ∙ ap (λ y. holds (test y) row) g.2 ∙ ap (λ y. holds y row) t.2
+    (λ i. tests s (value_cmp (named n g.0 row g.1 i) (literal_value l)))
+    ∙ ap (λ y. holds (test y) row) g.2 ∙ ap (λ y. holds y row) t.2
 condition_same (tree.test (tree.comparison (tree.between n from upto))) x row e =
     let t = mapped_gave test (resolved_test (tree.comparison (tree.between n from upto))) x e in
-    let g = mapped_gave (λ c. between c (literal_value from) (literal_value upto)) (column_at n) t.0 t.1 in
-    (λ i. is_le (value_cmp (literal_value from) (named n g.0 row g.1 i)) && is_le (value_cmp (named n g.0 row g.1 i) (literal_value upto))) ∙ ap (λ y. holds (test y) row) g.2 ∙ ap (λ y. holds y row) t.2
+    let g = mapped_gave (λ c. between c (literal_value from) (literal_value upto)) (column_at n) t.0
+    t.1 in
+    (λ i. is_le (value_cmp (literal_value from) (named n g.0 row g.1 i))
+    && is_le (value_cmp (named n g.0 row g.1 i) (literal_value upto)))
+    ∙ ap (λ y. holds (test y) row) g.2 ∙ ap (λ y. holds y row) t.2
 
-no_pairs : (q : Condition Test) (x : plan.RowCondition) (b : Bool) → resolved_condition q ≡ Some x → pairs_of b q ≡ []
+no_pairs : (q : Condition Test) (x : plan.RowCondition) (b : Bool) → resolved_condition q ≡ Some x
+    → pairs_of b q ≡ []
 no_pairs (tree.or a d) x b e =
-    let g = both_gave or (resolved_condition a) (resolved_condition d) x e in λ i. no_pairs a g.left false g.first i ++ no_pairs d g.right false g.second i
+    let g = both_gave or (resolved_condition a) (resolved_condition d) x e in
+    λ i. no_pairs a g.left false g.first i ++ no_pairs d g.right false g.second i
 no_pairs (tree.and a d) x b e =
-    let g = both_gave and (resolved_condition a) (resolved_condition d) x e in λ i. no_pairs a g.left b g.first i ++ no_pairs d g.right b g.second i
-no_pairs (tree.not a) x b e = let g = mapped_gave not (resolved_condition a) x e in no_pairs a g.0 false g.1
+    let g = both_gave and (resolved_condition a) (resolved_condition d) x e in
+    λ i. no_pairs a g.left b g.first i ++ no_pairs d g.right b g.second i
+no_pairs (tree.not a) x b e = let g = mapped_gave not (resolved_condition a) x e in
+    no_pairs a g.0 false g.1
 no_pairs (tree.test (tree.pair m n)) x b e = absurd (cc)
 no_pairs (tree.test (tree.comparison (tree.compare n s l))) x b e = refl
 no_pairs (tree.test (tree.comparison (tree.between n from upto))) x b e = refl
@@ -75,20 +88,24 @@ eq_turned Greater = refl
 same_either_way : (x y : Value) → is_eq (value_cmp x y) ≡ is_eq (value_cmp y x)
 same_either_way x y = ap is_eq (value_turned x y) ∙ eq_turned (value_cmp y x)
 
-pub join_made : (f k : ColumnId) (j : Join) → join_by f k ≡ Some j → record { foreign = f; key = k } ≡ j
+pub join_made : (f k : ColumnId) (j : Join) → join_by f k ≡ Some j
+    → record { foreign = f; key = k } ≡ j
 join_made f k j e = go (is_foreign f k) refl e
   where
-    go : (b : Bool) → is_foreign f k ≡ b → join_by f k ≡ Some j → record { foreign = f; key = k } ≡ j
+    go : (b : Bool) → is_foreign f k ≡ b → join_by f k ≡ Some j
+        → record { foreign = f; key = k } ≡ j
     go true h e = let found : Some (record { foreign = f; key = k }) ≡ Some j = rw h at e in cc
     go false h e = absurd (let none : None ≡ Some j = rw h at e in cc)
 
-join_same : (m n : Option ColumnId) (j : Join) (row : Joined) → join_of m n ≡ Some j → is_eq (value_cmp (value_if m row) (value_if n row)) ≡ is_joined_by row j
+join_same : (m n : Option ColumnId) (j : Join) (row : Joined) → join_of m n ≡ Some j
+    → is_eq (value_cmp (value_if m row) (value_if n row)) ≡ is_joined_by row j
 join_same None n j row e = absurd (cc)
 join_same (Some a) None j row e = absurd (cc)
 join_same (Some a) (Some b) j row e =
     elim (first_or_second (join_by a b) (join_by b a) j e) [
       | inl first ↦ ap (is_joined_by row) (join_made a b j first)
-      | inr second ↦ same_either_way (joined_value a row) (joined_value b row) ∙ ap (is_joined_by row) (join_made b a j second)
+      | inr second ↦ same_either_way (joined_value a row) (joined_value b row)
+          ∙ ap (is_joined_by row) (join_made b a j second)
     ]
 
 -- ---- conjuncts
@@ -108,13 +125,16 @@ and_true true = refl
 and_true false = refl
 
 -- a condition that is one conjunct
-lone_same : (q : Condition Test) (xs : List plan.RowCondition) (row : Joined) → option_map (λ x. x ∷ []) (resolved_condition q) ≡ Some xs
+lone_same : (q : Condition Test) (xs : List plan.RowCondition) (row : Joined)
+    → option_map (λ x. x ∷ []) (resolved_condition q) ≡ Some xs
     → is_true q row ≡ (all_joined (joins_of (pairs_of true q)) row && all_hold xs row)
 lone_same q xs row e =
     let g = mapped_gave (λ x. x ∷ []) (resolved_condition q) xs e in
-    condition_same q g.0 row g.1 ∙ and_true (holds g.0 row) ∙ (λ i. all_joined (joins_of (sym (no_pairs q g.0 true g.1) i)) row && all_hold (g.2 i) row)
+    condition_same q g.0 row g.1 ∙ and_true (holds g.0 row)
+    ∙ (λ i. all_joined (joins_of (sym (no_pairs q g.0 true g.1) i)) row && all_hold (g.2 i) row)
 
-conjuncts_same : (q : Condition Test) (xs : List plan.RowCondition) (row : Joined) → conjuncts_of q ≡ Some xs → AreJoins (pairs_of true q)
+conjuncts_same : (q : Condition Test) (xs : List plan.RowCondition) (row : Joined)
+    → conjuncts_of q ≡ Some xs → AreJoins (pairs_of true q)
     → is_true q row ≡ (all_joined (joins_of (pairs_of true q)) row && all_hold xs row)
 conjuncts_same (tree.and a b) xs row e all =
     let g = both_gave (λ ys zs. ys ++ zs) (conjuncts_of a) (conjuncts_of b) xs e in
@@ -122,25 +142,33 @@ conjuncts_same (tree.and a b) xs row e all =
     let qs = pairs_of true b in
     let left = conjuncts_same a g.left row g.first (each_left _ ps qs all) in
     let right = conjuncts_same b g.right row g.second (each_right _ ps qs all) in
-    let joins : all_joined (joins_of (ps ++ qs)) row ≡ (all_joined (joins_of ps) row && all_joined (joins_of qs) row) =
-    ap (λ js. all_joined js row) (flat_map-append (λ (p : Pair). option_to_list p.join) ps qs) ∙ list_all-append (is_joined_by row) (joins_of ps) (joins_of qs) in
+    let joins : all_joined (joins_of (ps ++ qs)) row
+    ≡ (all_joined (joins_of ps) row && all_joined (joins_of qs) row) =
+    ap (λ js. all_joined js row) (flat_map-append (λ (p : Pair). option_to_list p.join) ps qs)
+    ∙ list_all-append (is_joined_by row) (joins_of ps) (joins_of qs) in
     let others : all_hold xs row ≡ (all_hold g.left row && all_hold g.right row) =
     ap (λ cs. all_hold cs row) (sym g.made) ∙ list_all-append (λ c. holds c row) g.left g.right in
     (λ i. left i && right i)
-    ∙ ands_crossed (all_joined (joins_of ps) row) (all_hold g.left row) (all_joined (joins_of qs) row) (all_hold g.right row)
+    ∙ ands_crossed (all_joined (joins_of ps) row) (all_hold g.left row)
+    (all_joined (joins_of qs) row) (all_hold g.right row)
     ∙ (λ i. sym joins i && sym others i)
 conjuncts_same (tree.test (tree.pair m n)) xs row e all =
     let none : [] ≡ xs = cc in
     let j = all.0.0 in
-    let joins : j ∷ [] ≡ joins_of (pairs_of true (tree.test (tree.pair m n))) = λ i. option_to_list (sym all.0.1 i) ++ [] in
-    join_same (column_at m) (column_at n) j row all.0.1 ∙ and_true (is_joined_by row j) ∙ and_true (is_joined_by row j && true)
+    let joins : j ∷ [] ≡ joins_of (pairs_of true (tree.test (tree.pair m n))) =
+    λ i. option_to_list (sym all.0.1 i) ++ [] in
+    join_same (column_at m) (column_at n) j row all.0.1 ∙ and_true (is_joined_by row j)
+    ∙ and_true (is_joined_by row j && true)
     ∙ (λ i. all_joined (joins i) row && all_hold (none i) row)
 conjuncts_same (tree.or a b) xs row e all = lone_same (tree.or a b) xs row e
 conjuncts_same (tree.not a) xs row e all = lone_same (tree.not a) xs row e
-conjuncts_same (tree.test (tree.comparison (tree.compare n s l))) xs row e all = lone_same (tree.test (tree.comparison (tree.compare n s l))) xs row e
-conjuncts_same (tree.test (tree.comparison (tree.between n from upto))) xs row e all = lone_same (tree.test (tree.comparison (tree.between n from upto))) xs row e
+conjuncts_same (tree.test (tree.comparison (tree.compare n s l))) xs row e all =
+    lone_same (tree.test (tree.comparison (tree.compare n s l))) xs row e
+conjuncts_same (tree.test (tree.comparison (tree.between n from upto))) xs row e all =
+    lone_same (tree.test (tree.comparison (tree.between n from upto))) xs row e
 
-pub where_same : (o : Option (Condition Test)) (xs : List plan.RowCondition) (row : Joined) → where_conjuncts o ≡ Some xs → AreJoins (where_pairs o)
+pub where_same : (o : Option (Condition Test)) (xs : List plan.RowCondition) (row : Joined)
+    → where_conjuncts o ≡ Some xs → AreJoins (where_pairs o)
     → where_is_true o row ≡ (all_joined (joins_of (where_pairs o)) row && all_hold xs row)
 where_same None xs row e all = let none : [] ≡ xs = cc in ap (λ cs. all_hold cs row) none
 where_same (Some q) xs row e all = conjuncts_same q xs row e all

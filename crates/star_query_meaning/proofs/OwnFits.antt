@@ -23,55 +23,81 @@ module _ (ts : Tables) where
   ranges_same : (e : Expression Name) (x : Expression ColumnId) → resolved_expression e ≡ Some x
       → expression_range (range_named ts) e ≡ expression_range (bounds_in ts) x
   ranges_same (tree.column n) x h =
-      let g = mapped_gave column (column_at n) x h in named n g.0 g.1 ∙ ap (expression_range (bounds_in ts)) g.2
-  ranges_same (tree.constant z) x h = let same : constant z ≡ x = cc in ap (expression_range (bounds_in ts)) same
+      let g = mapped_gave column (column_at n) x h in
+      named n g.0 g.1 ∙ ap (expression_range (bounds_in ts)) g.2
+  ranges_same (tree.constant z) x h = let same : constant z ≡ x = cc in
+      ap (expression_range (bounds_in ts)) same
   ranges_same (tree.add a b) x h =
       let g = both_gave add (resolved_expression a) (resolved_expression b) x h in
-      (λ i. corner_range ◌+ℤ◌ (ranges_same a g.left g.first i) (ranges_same b g.right g.second i)) ∙ ap (expression_range (bounds_in ts)) g.made
+      (λ i. corner_range ◌+ℤ◌ (ranges_same a g.left g.first i) (ranges_same b g.right g.second i))
+      ∙ ap (expression_range (bounds_in ts)) g.made
   ranges_same (tree.sub a b) x h =
       let g = both_gave sub (resolved_expression a) (resolved_expression b) x h in
-      (λ i. corner_range ◌-ℤ◌ (ranges_same a g.left g.first i) (ranges_same b g.right g.second i)) ∙ ap (expression_range (bounds_in ts)) g.made
+      (λ i. corner_range ◌-ℤ◌ (ranges_same a g.left g.first i) (ranges_same b g.right g.second i))
+      ∙ ap (expression_range (bounds_in ts)) g.made
   ranges_same (tree.mul a b) x h =
       let g = both_gave mul (resolved_expression a) (resolved_expression b) x h in
-      (λ i. corner_range ◌*ℤ◌ (ranges_same a g.left g.first i) (ranges_same b g.right g.second i)) ∙ ap (expression_range (bounds_in ts)) g.made
+      (λ i. corner_range ◌*ℤ◌ (ranges_same a g.left g.first i) (ranges_same b g.right g.second i))
+      ∙ ap (expression_range (bounds_in ts)) g.made
 
   nodes_same : (e : Expression Name) (x : Expression ColumnId) → resolved_expression e ≡ Some x
       → nodes_fit (range_named ts) e ≡ nodes_fit (bounds_in ts) x
   nodes_same (tree.column n) x h =
-      let g = mapped_gave column (column_at n) x h in ap fits_i64 (named n g.0 g.1) ∙ ap (nodes_fit (bounds_in ts)) g.2
-  nodes_same (tree.constant z) x h = let same : constant z ≡ x = cc in ap (nodes_fit (bounds_in ts)) same
+      let g = mapped_gave column (column_at n) x h in
+      ap fits_i64 (named n g.0 g.1) ∙ ap (nodes_fit (bounds_in ts)) g.2
+  nodes_same (tree.constant z) x h = let same : constant z ≡ x = cc in
+      ap (nodes_fit (bounds_in ts)) same
   nodes_same (tree.add a b) x h =
       let g = both_gave add (resolved_expression a) (resolved_expression b) x h in
       let whole = ap (nodes_fit (bounds_in ts)) g.made in
-      let range : expression_range (range_named ts) (add a b) ≡ expression_range (bounds_in ts) (add g.left g.right) = λ i. corner_range ◌+ℤ◌ (ranges_same a g.left g.first i) (ranges_same b g.right g.second i) in
-      (λ i. nodes_same a g.left g.first i && (nodes_same b g.right g.second i && fits_i64 (range i))) ∙ whole
+      let range : expression_range (range_named ts) (add a b)
+      ≡ expression_range (bounds_in ts) (add g.left g.right) =
+      λ i. corner_range ◌+ℤ◌ (ranges_same a g.left g.first i)
+      (ranges_same b g.right g.second i) in
+      (λ i. nodes_same a g.left g.first i
+      && (nodes_same b g.right g.second i && fits_i64 (range i))) ∙ whole
   nodes_same (tree.sub a b) x h =
       let g = both_gave sub (resolved_expression a) (resolved_expression b) x h in
       let whole = ap (nodes_fit (bounds_in ts)) g.made in
-      let range : expression_range (range_named ts) (sub a b) ≡ expression_range (bounds_in ts) (sub g.left g.right) = λ i. corner_range ◌-ℤ◌ (ranges_same a g.left g.first i) (ranges_same b g.right g.second i) in
-      (λ i. nodes_same a g.left g.first i && (nodes_same b g.right g.second i && fits_i64 (range i))) ∙ whole
+      let range : expression_range (range_named ts) (sub a b)
+      ≡ expression_range (bounds_in ts) (sub g.left g.right) =
+      λ i. corner_range ◌-ℤ◌ (ranges_same a g.left g.first i)
+      (ranges_same b g.right g.second i) in
+      (λ i. nodes_same a g.left g.first i
+      && (nodes_same b g.right g.second i && fits_i64 (range i))) ∙ whole
   nodes_same (tree.mul a b) x h =
       let g = both_gave mul (resolved_expression a) (resolved_expression b) x h in
       let whole = ap (nodes_fit (bounds_in ts)) g.made in
-      let range : expression_range (range_named ts) (mul a b) ≡ expression_range (bounds_in ts) (mul g.left g.right) = λ i. corner_range ◌*ℤ◌ (ranges_same a g.left g.first i) (ranges_same b g.right g.second i) in
-      (λ i. nodes_same a g.left g.first i && (nodes_same b g.right g.second i && fits_i64 (range i))) ∙ whole
+      let range : expression_range (range_named ts) (mul a b)
+      ≡ expression_range (bounds_in ts) (mul g.left g.right) =
+      λ i. corner_range ◌*ℤ◌ (ranges_same a g.left g.first i)
+      (ranges_same b g.right g.second i) in
+      (λ i. nodes_same a g.left g.first i
+      && (nodes_same b g.right g.second i && fits_i64 (range i))) ∙ whole
 
   measure_same : (m : Measure Name) (x : Measure ColumnId) → resolved_measure m ≡ Some x
       → measure_fits (range_named ts) m ≡ measure_fits (bounds_in ts) x
-  measure_same tree.count x e = let same : tree.count ≡ x = cc in ap (measure_fits (bounds_in ts)) same
+  measure_same tree.count x e = let same : tree.count ≡ x = cc in
+      ap (measure_fits (bounds_in ts)) same
   measure_same (tree.fold f e) x h =
       let g = mapped_gave (tree.fold f) (resolved_expression e) x h in
       nodes_same e g.0 g.1 ∙ ap (measure_fits (bounds_in ts)) g.2
 
-  measures_same : (items : List Item) (ms : List (Measure ColumnId)) → resolved.resolved_measures items ≡ Some ms
-      → list_all (measure_fits (range_named ts)) (measures_of items) ≡ list_all (measure_fits (bounds_in ts)) ms
-  measures_same [] ms e = let none : [] ≡ ms = cc in ap (list_all (measure_fits (bounds_in ts))) none
+  measures_same : (items : List Item) (ms : List (Measure ColumnId))
+      → resolved.resolved_measures items ≡ Some ms
+      → list_all (measure_fits (range_named ts)) (measures_of items)
+      ≡ list_all (measure_fits (bounds_in ts)) ms
+  measures_same [] ms e = let none : [] ≡ ms = cc in
+      ap (list_all (measure_fits (bounds_in ts))) none
   measures_same (tree.plain n ∷ items) ms e = measures_same items ms e
   measures_same (tree.aggregate a ∷ items) ms e =
-      let g = both_gave (λ x xs. x ∷ xs) (resolved_measure a.measure) (resolved.resolved_measures items) ms e in
-      (λ i. measure_same a.measure g.left g.first i && measures_same items g.right g.second i) ∙ ap (list_all (measure_fits (bounds_in ts))) g.made
+      let g = both_gave (λ x xs. x ∷ xs) (resolved_measure a.measure)
+      (resolved.resolved_measures items) ms e in
+      (λ i. measure_same a.measure g.left g.first i && measures_same items g.right g.second i)
+      ∙ ap (list_all (measure_fits (bounds_in ts))) g.made
 
-pub own_fits : (most : ℕ) (ts : Tables) (q : Tree) (p : Plan) → IsResolved q p → FitsTables most ts q ↔ PlanFitsTables most ts p
+pub own_fits : (most : ℕ) (ts : Tables) (q : Tree) (p : Plan) → IsResolved q p
+    → FitsTables most ts q ↔ PlanFitsTables most ts p
 own_fits most ts q p is =
     let same = measures_same ts q.items p.measures is.measures in (
       λ fits. record { visits = fits.visits; nodes = sym same ∙ fits.nodes },

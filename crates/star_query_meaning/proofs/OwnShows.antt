@@ -31,116 +31,168 @@ use Rattle.star_query_meaning.proofs.OwnConditions.{named}
 
 -- ---- the values of a row
 
-pub keys_same : (names : List Name) (cs : List ColumnId) (row : Joined) → option_all column_at names ≡ Some cs → map (λ n. value_named n row) names ≡ map (λ c. joined_value c row) cs
+pub keys_same : (names : List Name) (cs : List ColumnId) (row : Joined)
+    → option_all column_at names ≡ Some cs
+    → map (λ n. value_named n row) names ≡ map (λ c. joined_value c row) cs
 keys_same [] cs row e = let none : [] ≡ cs = cc in ap (map (λ c. joined_value c row)) none
 keys_same (n ∷ ns) cs row e =
     let g = both_gave (λ y ys. y ∷ ys) (column_at n) (option_all column_at ns) cs e in
-    (λ i. named n g.left row g.first i ∷ keys_same ns g.right row g.second i) ∙ ap (map (λ c. joined_value c row)) g.made
+    (λ i. named n g.left row g.first i ∷ keys_same ns g.right row g.second i)
+    ∙ ap (map (λ c. joined_value c row)) g.made
 
-expression_same : (e : Expression Name) (x : Expression ColumnId) (row : Joined) → resolved_expression e ≡ Some x → plan.number_with (λ n. value_named n row) e ≡ plan.expression_number x row
+expression_same : (e : Expression Name) (x : Expression ColumnId) (row : Joined)
+    → resolved_expression e ≡ Some x
+    → plan.number_with (λ n. value_named n row) e ≡ plan.expression_number x row
 expression_same (tree.column n) x row e =
-    let g = mapped_gave column (column_at n) x e in ap plan.value_number (named n g.0 row g.1) ∙ ap (λ y. plan.expression_number y row) g.2
-expression_same (tree.constant z) x row e = let same : constant z ≡ x = cc in ap (λ y. plan.expression_number y row) same
+    let g = mapped_gave column (column_at n) x e in
+    ap plan.value_number (named n g.0 row g.1) ∙ ap (λ y. plan.expression_number y row) g.2
+expression_same (tree.constant z) x row e = let same : constant z ≡ x = cc in
+    ap (λ y. plan.expression_number y row) same
 expression_same (tree.add a b) x row e =
     let g = both_gave add (resolved_expression a) (resolved_expression b) x e in
-    (λ i. expression_same a g.left row g.first i +ℤ expression_same b g.right row g.second i) ∙ ap (λ y. plan.expression_number y row) g.made
+    (λ i. expression_same a g.left row g.first i +ℤ expression_same b g.right row g.second i)
+    ∙ ap (λ y. plan.expression_number y row) g.made
 expression_same (tree.sub a b) x row e =
     let g = both_gave sub (resolved_expression a) (resolved_expression b) x e in
-    (λ i. expression_same a g.left row g.first i -ℤ expression_same b g.right row g.second i) ∙ ap (λ y. plan.expression_number y row) g.made
+    (λ i. expression_same a g.left row g.first i -ℤ expression_same b g.right row g.second i)
+    ∙ ap (λ y. plan.expression_number y row) g.made
 expression_same (tree.mul a b) x row e =
     let g = both_gave mul (resolved_expression a) (resolved_expression b) x e in
-    (λ i. expression_same a g.left row g.first i *ℤ expression_same b g.right row g.second i) ∙ ap (λ y. plan.expression_number y row) g.made
+    (λ i. expression_same a g.left row g.first i *ℤ expression_same b g.right row g.second i)
+    ∙ ap (λ y. plan.expression_number y row) g.made
 
-measure_same : (m : Measure Name) (x : Measure ColumnId) (row : Joined) → resolved_measure m ≡ Some x
+measure_same : (m : Measure Name) (x : Measure ColumnId) (row : Joined)
+    → resolved_measure m ≡ Some x
     → plan.measured (λ n. value_named n row) m ≡ plan.measured (λ c. joined_value c row) x
-measure_same tree.count x row e = let same : tree.count ≡ x = cc in ap (plan.measured (λ c. joined_value c row)) same
+measure_same tree.count x row e = let same : tree.count ≡ x = cc in
+    ap (plan.measured (λ c. joined_value c row)) same
 measure_same (tree.fold f e) x row h =
     let g = mapped_gave (tree.fold f) (resolved_expression e) x h in
     expression_same e g.0 row g.1 ∙ ap (plan.measured (λ c. joined_value c row)) g.2
 
-folded_function : (f : Fold) (e : Expression Name) (x : Expression ColumnId) → plan.aggregate_of (tree.fold f e) ≡ plan.aggregate_of (tree.fold f x)
+folded_function : (f : Fold) (e : Expression Name) (x : Expression ColumnId)
+    → plan.aggregate_of (tree.fold f e) ≡ plan.aggregate_of (tree.fold f x)
 folded_function fold.Sum e x = refl
 folded_function fold.Min e x = refl
 folded_function fold.Max e x = refl
 
-function_same : (m : Measure Name) (x : Measure ColumnId) → resolved_measure m ≡ Some x → plan.aggregate_of m ≡ plan.aggregate_of x
+function_same : (m : Measure Name) (x : Measure ColumnId) → resolved_measure m ≡ Some x
+    → plan.aggregate_of m ≡ plan.aggregate_of x
 function_same tree.count x e = let same : tree.count ≡ x = cc in ap plan.aggregate_of same
 function_same (tree.fold f e) x h =
-    let g = mapped_gave (tree.fold f) (resolved_expression e) x h in folded_function f e g.0 ∙ ap plan.aggregate_of g.2
+    let g = mapped_gave (tree.fold f) (resolved_expression e) x h in
+    folded_function f e g.0 ∙ ap plan.aggregate_of g.2
 
-pub values_same : (items : List Item) (ms : List (Measure ColumnId)) (row : Joined) → resolved.resolved_measures items ≡ Some ms → map (plan.measured (λ n. value_named n row)) (measures_of items) ≡ map (plan.measured (λ c. joined_value c row)) ms
-values_same [] ms row e = let none : [] ≡ ms = cc in ap (map (plan.measured (λ c. joined_value c row))) none
+pub values_same : (items : List Item) (ms : List (Measure ColumnId)) (row : Joined)
+    → resolved.resolved_measures items ≡ Some ms
+    → map (plan.measured (λ n. value_named n row)) (measures_of items)
+    ≡ map (plan.measured (λ c. joined_value c row)) ms
+values_same [] ms row e = let none : [] ≡ ms = cc in
+    ap (map (plan.measured (λ c. joined_value c row))) none
 values_same (tree.plain n ∷ items) ms row e = values_same items ms row e
 values_same (tree.aggregate a ∷ items) ms row e =
-    let g = both_gave (λ x xs. x ∷ xs) (resolved_measure a.measure) (resolved.resolved_measures items) ms e in
-    (λ i. measure_same a.measure g.left row g.first i ∷ values_same items g.right row g.second i) ∙ ap (map (plan.measured (λ c. joined_value c row))) g.made
+    let g = both_gave (λ x xs. x ∷ xs) (resolved_measure a.measure)
+    (resolved.resolved_measures items) ms e in
+    (λ i. measure_same a.measure g.left row g.first i ∷ values_same items g.right row g.second i)
+    ∙ ap (map (plan.measured (λ c. joined_value c row))) g.made
 
-pub functions_same : (items : List Item) (ms : List (Measure ColumnId)) → resolved.resolved_measures items ≡ Some ms → map plan.aggregate_of (measures_of items) ≡ map plan.aggregate_of ms
+pub functions_same : (items : List Item) (ms : List (Measure ColumnId))
+    → resolved.resolved_measures items ≡ Some ms
+    → map plan.aggregate_of (measures_of items) ≡ map plan.aggregate_of ms
 functions_same [] ms e = let none : [] ≡ ms = cc in ap (map plan.aggregate_of) none
 functions_same (tree.plain n ∷ items) ms e = functions_same items ms e
 functions_same (tree.aggregate a ∷ items) ms e =
-    let g = both_gave (λ x xs. x ∷ xs) (resolved_measure a.measure) (resolved.resolved_measures items) ms e in
-    (λ i. function_same a.measure g.left g.first i ∷ functions_same items g.right g.second i) ∙ ap (map plan.aggregate_of) g.made
+    let g = both_gave (λ x xs. x ∷ xs) (resolved_measure a.measure)
+    (resolved.resolved_measures items) ms e in
+    (λ i. function_same a.measure g.left g.first i ∷ functions_same items g.right g.second i)
+    ∙ ap (map plan.aggregate_of) g.made
 
 -- ---- the columns that are shown
 
-pub columns_same : (groups : List Name) (before : ℕ) (items : List Item) (cs : List GroupColumn) → items_from groups before items ≡ Some cs → columns_from groups before items ≡ cs
+pub columns_same : (groups : List Name) (before : ℕ) (items : List Item) (cs : List GroupColumn)
+    → items_from groups before items ≡ Some cs → columns_from groups before items ≡ cs
 columns_same groups before [] cs e = cc
 columns_same groups before (tree.plain n ∷ items) cs e =
-    let g = both_gave (λ c cs. c ∷ cs) (key_column groups n.text) (items_from groups (before + 0) items) cs e in
+    let g = both_gave (λ c cs. c ∷ cs) (key_column groups n.text)
+    (items_from groups (before + 0) items) cs e in
     let same : before + 0 ≡ before = omega arith in
-    let rest : columns_from groups before items ≡ g.right = columns_same groups before items g.right (ap (λ k. items_from groups k items) (sym same) ∙ g.second) in
+    let rest : columns_from groups before items ≡ g.right =
+    columns_same groups before items g.right
+    (ap (λ k. items_from groups k items) (sym same) ∙ g.second) in
     (λ i. option_to_list (g.first i) ++ rest i) ∙ g.made
 columns_same groups before (tree.aggregate a ∷ items) cs e =
-    let g = both_gave (λ c cs. c ∷ cs) (Some (group.Aggregate before)) (items_from groups (before + 1) items) cs e in
+    let g = both_gave (λ c cs. c ∷ cs) (Some (group.Aggregate before))
+    (items_from groups (before + 1) items) cs e in
     let first : group.Aggregate before ≡ g.left = (let h = g.first in cc) in
     (λ i. first i ∷ columns_same groups (before + 1) items g.right g.second i) ∙ g.made
 
 -- ---- names
 
 -- the column at a place
-column_there : (names : List Name) (cs : List ColumnId) (place : ℕ) (n : Name) (c : ColumnId) → option_all column_at names ≡ Some cs → place < length names → column_at (get_or names place n) ≡ Some (get_or cs place c)
+column_there : (names : List Name) (cs : List ColumnId) (place : ℕ) (n : Name) (c : ColumnId)
+    → option_all column_at names ≡ Some cs → place < length names
+    → column_at (get_or names place n) ≡ Some (get_or cs place c)
 column_there [] cs place n c e h = absurd (omega arith)
 column_there (m ∷ ms) cs zero n c e h =
-    let g = both_gave (λ y ys. y ∷ ys) (column_at m) (option_all column_at ms) cs e in g.first ∙ ap (λ ds. Some (get_or ds 0 c)) g.made
+    let g = both_gave (λ y ys. y ∷ ys) (column_at m) (option_all column_at ms) cs e in
+    g.first ∙ ap (λ ds. Some (get_or ds 0 c)) g.made
 column_there (m ∷ ms) cs (suc place) n c e h =
     let g = both_gave (λ y ys. y ∷ ys) (column_at m) (option_all column_at ms) cs e in
-    column_there ms g.right place n c g.second (omega arith) ∙ ap (λ ds. Some (get_or ds (suc place) c)) g.made
+    column_there ms g.right place n c g.second (omega arith)
+    ∙ ap (λ ds. Some (get_or ds (suc place) c)) g.made
 
 column_named : (n : Name) (c : ColumnId) → column_at n ≡ Some c → column_name c ≡ n.text
 unfolding column_called
 column_named n c e = found_named column_name n.text COLUMNS c e
 
 -- a group column is shown under the name that stands in SELECT
-key_shown : (groups : List Name) (cs : List ColumnId) (text : List ℕ) (place : ℕ) → option_all column_at groups ≡ Some cs → position (λ n. pointwise nat_eq n.text text) groups ≡ Some place → text ≡ column_name (get_or cs place DDatekey)
+key_shown : (groups : List Name) (cs : List ColumnId) (text : List ℕ) (place : ℕ)
+    → option_all column_at groups ≡ Some cs
+    → position (λ n. pointwise nat_eq n.text text) groups ≡ Some place
+    → text ≡ column_name (get_or cs place DDatekey)
 key_shown [] cs text place e h = absurd (cc)
 key_shown (g ∷ gs) cs text place e h =
     let found = position-Some (λ n. pointwise nat_eq n.text text) (g ∷ gs) place g h in
     let there = column_there (g ∷ gs) cs place g DDatekey e found.0 in
-    sym (column_named (get_or (g ∷ gs) place g) (get_or cs place DDatekey) there ∙ same_text (get_or (g ∷ gs) place g).text text (sym found.1))
+    sym (column_named (get_or (g ∷ gs) place g) (get_or cs place DDatekey) there
+    ∙ same_text (get_or (g ∷ gs) place g).text text (sym found.1))
 
 -- the names that are shown, where these names of aggregates come last
-pub names_same : (groups : List Name) (p : Plan) (before : ℕ) (items : List Item) (cs : List GroupColumn) → option_all column_at groups ≡ Some p.keys → items_from groups before items ≡ Some cs
-    → ((k : ℕ) → get_or p.names (before + k) [] ≡ get_or (names_from (before + 1) items) k []) → item_names_from (before + 1) items ≡ map (shown_name p) cs
-names_same groups p before [] cs keys e names = let none : [] ≡ cs = cc in ap (map (shown_name p)) none
+pub names_same : (groups : List Name) (p : Plan) (before : ℕ) (items : List Item)
+    (cs : List GroupColumn) → option_all column_at groups ≡ Some p.keys
+    → items_from groups before items ≡ Some cs
+    → ((k : ℕ) → get_or p.names (before + k) [] ≡ get_or (names_from (before + 1) items) k [])
+    → item_names_from (before + 1) items ≡ map (shown_name p) cs
+names_same groups p before [] cs keys e names = let none : [] ≡ cs = cc in
+    ap (map (shown_name p)) none
 names_same groups p before (tree.plain n ∷ items) cs keys e names =
-    let g = both_gave (λ c cs. c ∷ cs) (key_column groups n.text) (items_from groups (before + 0) items) cs e in
-    let at = mapped_gave (λ place. group.Key place) (position (λ m. pointwise nat_eq m.text n.text) groups) g.left g.first in
+    let g = both_gave (λ c cs. c ∷ cs) (key_column groups n.text)
+    (items_from groups (before + 0) items) cs e in
+    let at = mapped_gave (λ place. group.Key place)
+    (position (λ m. pointwise nat_eq m.text n.text) groups) g.left g.first in
     let same : before + 0 ≡ before = omega arith in
-    let rest = names_same groups p before items g.right keys (ap (λ k. items_from groups k items) (sym same) ∙ g.second) names in
-    (λ i. (key_shown groups p.keys n.text at.0 keys at.1 ∙ ap (shown_name p) at.2) i ∷ rest i) ∙ ap (map (shown_name p)) g.made
+    let rest = names_same groups p before items g.right keys
+    (ap (λ k. items_from groups k items) (sym same) ∙ g.second) names in
+    (λ i. (key_shown groups p.keys n.text at.0 keys at.1 ∙ ap (shown_name p) at.2) i ∷ rest i)
+    ∙ ap (map (shown_name p)) g.made
 names_same groups p before (tree.aggregate a ∷ items) cs keys e names =
-    let g = both_gave (λ c cs. c ∷ cs) (Some (group.Aggregate before)) (items_from groups (before + 1) items) cs e in
+    let g = both_gave (λ c cs. c ∷ cs) (Some (group.Aggregate before))
+    (items_from groups (before + 1) items) cs e in
     let first : group.Aggregate before ≡ g.left = (let h = g.first in cc) in
     let here : before + 0 ≡ before = omega arith in
-    let own : name_of_aggregate (before + 1) a ≡ get_or p.names before [] = sym (names 0) ∙ ap (λ k. get_or p.names k []) here in
-    let rest = names_same groups p (before + 1) items g.right keys g.second (λ k. let next : before + 1 + k ≡ before + suc k = omega arith in ap (λ j. get_or p.names j []) next ∙ names (suc k)) in
+    let own : name_of_aggregate (before + 1) a ≡ get_or p.names before [] =
+    sym (names 0) ∙ ap (λ k. get_or p.names k []) here in
+    let rest = names_same groups p (before + 1) items g.right keys g.second
+    (λ k. let next : before + 1 + k ≡ before + suc k = omega arith in
+    ap (λ j. get_or p.names j []) next ∙ names (suc k)) in
     (λ i. (own ∙ ap (shown_name p) first) i ∷ rest i) ∙ ap (map (shown_name p)) g.made
 
 -- ---- the order
 
-pub sorts_same : (t : Tree) (ks : List SortKey) (ss : List sorted.SortKey) → option_all (resolved_key t.grouping.columns (aggregate_names t.items)) ks ≡ Some ss
-    → flat_map (λ k. option_to_list (resolved_key t.grouping.columns (aggregate_names t.items) k)) ks ≡ ss
+pub sorts_same : (t : Tree) (ks : List SortKey) (ss : List sorted.SortKey)
+    → option_all (resolved_key t.grouping.columns (aggregate_names t.items)) ks ≡ Some ss
+    → flat_map (λ k. option_to_list (resolved_key t.grouping.columns (aggregate_names t.items) k))
+    ks ≡ ss
 sorts_same t [] ss e = cc
 sorts_same t (k ∷ ks) ss e =
     let f = resolved_key t.grouping.columns (aggregate_names t.items) in

@@ -149,8 +149,8 @@ fn a_number_has_at_most_18_digits(rt: HostRuntime) -> Result<(), Fail> {
 
 const A_COLUMN: &str = "select count(*) from t where a ";
 
-// Behind each front, no query goes on with the token at this place; where there is none, the text
-// is a query.
+// After each front, no query goes on with the token at this place; where there is none, the text is
+// a query.
 const TOKENS: [(&str, &str, Option<usize>); 20] = [
     // Thirteen signs: the front takes the first that is left, so the fault tells where the next
     // begins.
@@ -164,7 +164,7 @@ const TOKENS: [(&str, &str, Option<usize>); 20] = [
     ("select sum", "()*+-;", Some(11)),
     ("select sum(a", ")*+-;", Some(13)),
     ("select sum(a", "*+-;", Some(13)),
-    // A minus may follow a plus, so the fault is behind both.
+    // A minus may follow a plus, so the fault is after both.
     ("select sum(a", "+-;", Some(14)),
     ("select sum(a", "-;", Some(13)),
     ("select count(*) from t", ";", None),
@@ -277,10 +277,10 @@ fn each_count_has_its_limit(rt: HostRuntime) -> Result<(), Fail> {
 
 const MANY: QueryFault = QueryFault::TooMany;
 
-// The first fault of the front, so many times the middle, and the end.
+// A front, a middle, how often it comes, an end, and the first fault of the whole.
 const COUNTED: [(&str, &str, u32, &str, QueryFault); 8] = [
-    // The 17th item and the 257th comparison, though the text goes wrong behind them, and what
-    // can't begin one.
+    // The 17th item and the 257th comparison, though the text goes wrong after them, and what can't
+    // begin one.
     ("select a", ", a", 15, ", a b", MANY),
     (
         "select a",

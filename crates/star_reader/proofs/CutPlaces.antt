@@ -6,7 +6,7 @@ use Rattle.std.proofs.Math.Seq.{take-suc}
 use Rattle.std.proofs.lemmas.Bool.{cases_Bool, ltb-false, ltb-true, true≢false}
 use Rattle.std.proofs.lemmas.List.{get_or-drop, take_all}
 use Rattle.star_schema.specs.Records.{ends_line}
-use Rattle.star_reader.specs.Private.Cut.{IsBegun, IsCut, IsEnded, is_inner}
+use Rattle.star_reader.specs.Private.Cut.{AreLinesOf, EndsInLineEnd, IsBegun, is_inner}
 use Rattle.star_reader.proofs.Fronts.{all_at}
 
 -- a line end is no inner byte
@@ -26,7 +26,8 @@ begun_at piece first n there starts = record {
 }
 
 ended_at : (piece : List ℕ) (first n : ℕ) → first + n < length piece
-    → ends_line (get_or piece (first + n) 0) ≡ true → IsEnded (take (suc n) (drop first piece))
+    → ends_line (get_or piece (first + n) 0) ≡ true
+    → EndsInLineEnd (take (suc n) (drop first piece))
 ended_at piece first n there ends =
     let long = length-drop first piece in
     let inside : n < length (drop first piece) = omega (arith, long, there) in
@@ -40,7 +41,7 @@ ended_at piece first n there ends =
 pub cut_is : (piece : List ℕ) (first behind : ℕ) → first < length piece
     → list_all is_inner (take first piece) ≡ true → ends_line (get_or piece first 0) ≡ true
     → behind ≤ length piece → list_all is_inner (drop behind piece) ≡ true
-    → (0 < behind → ends_line (get_or piece (behind - 1) 0) ≡ true) → IsCut piece first behind
+    → (0 < behind → ends_line (get_or piece (behind - 1) 0) ≡ true) → AreLinesOf piece first behind
 cut_is piece first behind there head starts within tail ends =
     elim (cases_Bool (nat_lt first behind)) [
       | inl order ↦ whole (ltb-true first behind order)
@@ -64,7 +65,7 @@ cut_is piece first behind there head starts within tail ends =
     begun : first < behind → IsBegun (take (behind - first) (drop first piece))
     begun order = rw (size order) (begun_at piece first (behind - first - 1) there starts)
 
-    ended : first < behind → IsEnded (take (behind - first) (drop first piece))
+    ended : first < behind → EndsInLineEnd (take (behind - first) (drop first piece))
     ended order =
         let place : first + (behind - first - 1) ≡ behind - 1 = omega (arith, order) in
         let last : ends_line (get_or piece (first + (behind - first - 1)) 0) ≡ true =
@@ -72,7 +73,7 @@ cut_is piece first behind there head starts within tail ends =
         rw (size order)
         (ended_at piece first (behind - first - 1) (omega (arith, order, within)) last)
 
-    whole : first < behind → IsCut piece first behind
+    whole : first < behind → AreLinesOf piece first behind
     whole order = record {
       order = order;
       within = within;

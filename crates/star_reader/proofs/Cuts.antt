@@ -12,7 +12,7 @@ use Rattle.star_schema.specs.Records.{ends_line, fields_of, is_filled, pieces, r
 use Rattle.star_schema.specs.Schema.{kinds_of}
 use Rattle.star_reader.specs.declared.fault.ReadFault.TheVariants as fault
 use Rattle.star_reader.specs.Faults.{byte_order_mark, record_fault, records_fault}
-use Rattle.star_reader.specs.Private.Cut.{IsBegun, IsEnded, is_inner}
+use Rattle.star_reader.specs.Private.Cut.{EndsInLineEnd, IsBegun, is_inner}
 
 first_never_empty : (b : ℕ) (ps : List (List ℕ)) → with_first b ps ≡ [] → ⊥
 first_never_empty b [] e = cc e
@@ -61,7 +61,7 @@ records_begun x lines h =
     ∙ ap (λ (rs : List (List ℕ)). records_of x ++ rs) (sym (records_cut [] h.byte h.rest h.ends)))
 
 -- a text that ends with a line end leaves no record open
-pub records_ended : (lines more : List ℕ) → IsEnded lines
+pub records_ended : (lines more : List ℕ) → EndsInLineEnd lines
     → records_of (lines ++ more) ≡ records_of lines ++ records_of more
 unfolding pieces
 records_ended lines more h =
@@ -90,7 +90,8 @@ pub inner_records : (line : List ℕ) → list_all is_inner line ≡ true
     → records_of line ≡ filter is_filled (line ∷ [])
 inner_records line h = ap (filter is_filled) (inner_pieces line h)
 
-or_assoc : {A : Type 0} (a b c : Option A) → option_or a (option_or b c) ≡ option_or (option_or a b) c
+or_assoc : {A : Type 0} (a b c : Option A)
+    → option_or a (option_or b c) ≡ option_or (option_or a b) c
 or_assoc None b c = refl
 or_assoc (Some x) b c = refl
 

@@ -4,7 +4,8 @@ use Rattle.std.specs.List.{list_all}
 use Rattle.std.specs.Prelude.{nat_le}
 use Rattle.std.proofs.lemmas.Bool.{and_from, and_parts, cases_Bool, le-leb, leb-true, true≢false}
 use Rattle.std.proofs.lemmas.List.{length-take-le}
-use Rattle.star_schema.specs.Tables.{is_printable, is_short}
+use Rattle.star_common.specs.Printable.{is_printable}
+use Rattle.star_schema.specs.Tables.{is_short}
 use Rattle.star_reader.specs.Private.Fronts.{IsFront, is_plain}
 use Rattle.star_reader.proofs.Fronts.{all_at}
 
@@ -25,7 +26,8 @@ past_plain text i n plain within front = go (below_or n i)
     go (inl less) = absurd (elim front.end [
       | inl all ↦ omega (arith, less, within, all)
       | inr bar ↦
-          let no_bar : is_plain (get_or text n 0) ≡ true = all_at is_plain text i n plain less within
+          let no_bar : is_plain (get_or text n 0) ≡ true =
+          all_at is_plain text i n plain less within
           in
           let bad : false ≡ true = rw bar.1 at no_bar in
           true≢false (sym bad)

@@ -8,7 +8,7 @@ use Rattle.star_schema.specs.declared.column.Kind.{Kind}
 use Rattle.star_schema.specs.Records.{fields_of, is_bar, is_filled, pieces, with_first}
 use Rattle.star_schema.specs.Tables.{cells_of, ends_in_bar, is_empty_field}
 use Rattle.star_reader.specs.Faults.{byte_order_mark}
-use Rattle.star_reader.specs.Private.Open.{AreOneRecord, HasKept, StandsFor, run_from}
+use Rattle.star_reader.specs.Private.Open.{AreOneRecord, HasKeptByte, StandsFor, run_from}
 use Rattle.star_reader.specs.declared.open_line.OpenLine.{OpenLine}
 use Rattle.star_reader.proofs.Cuts.{pieces_cut}
 use Rattle.star_reader.proofs.AlikeLines.{alike_record, long_alike, miscounted_both}
@@ -86,7 +86,7 @@ filled_more (c ∷ a) b = refl
 
 -- one more byte that was kept
 pub kept_byte : (ks : List Kind) (old new : OpenLine) (bytes : List ℕ) (b : ℕ)
-    → StandsFor ks old bytes → HasKept b old new → StandsFor ks new (bytes ++ b ∷ [])
+    → StandsFor ks old bytes → HasKeptByte b old new → StandsFor ks new (bytes ++ b ∷ [])
 kept_byte ks old new bytes b h kept = record {
   bars = rw kept.kept (elim (cases_Bool (is_bar b)) [
     | inl bar ↦

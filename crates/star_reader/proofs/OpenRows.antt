@@ -28,7 +28,8 @@ use Rattle.star_reader.proofs.Law.{marked_fault, plain_fault, records_sound, wid
 use Rattle.star_reader.proofs.TableSteps.{row_on}
 
 -- a line with a byte is a record
-filled_line : (line : List ℕ) → (length line == 0) ≡ false → filter is_filled (line ∷ []) ≡ line ∷ []
+filled_line : (line : List ℕ) → (length line == 0) ≡ false
+    → filter is_filled (line ∷ []) ≡ line ∷ []
 filled_line [] h = absurd (true≢false h)
 filled_line (b ∷ line) h = refl
 
@@ -97,7 +98,8 @@ same_fault table most from a b same filled = elim (cases_Bool (is_filled b)) [
 -- and, where that is none, the same row
 same_rows : (table : TableId) (most from : ℕ) (a b : List ℕ) → AreOneRecord (kinds_of table) a b
     → is_filled a ≡ is_filled b → records_fault table most from (filter is_filled (a ∷ [])) ≡ None
-    → map (row_of table) (filter is_filled (a ∷ [])) ≡ map (row_of table) (filter is_filled (b ∷ []))
+    → map (row_of table) (filter is_filled (a ∷ []))
+    ≡ map (row_of table) (filter is_filled (b ∷ []))
 unfolding first_answer
 same_rows table most from a b same filled none = elim (cases_Bool (is_filled b)) [
   | inr empty ↦ rw (filled, empty) refl
@@ -192,7 +194,8 @@ ended table most old new bytes columns after stands inner plain within added fre
         counted = omega (arith, added.1.counted, count);
         of_table = added.1.of_table;
         so_far = added.1.so_far
-            ∙ ap (λ (more : List (List Value)). first_rows old.rows (map values columns) ++ more) rows;
+            ∙ ap (λ (more : List (List Value)). first_rows old.rows (map values columns) ++ more)
+            rows;
       });
       few = omega (arith, sound.0, added.1.counted);
       fresh = fresh;

@@ -8,7 +8,7 @@ use Rattle.star_schema.specs.declared.table.TableId.{TableId}
 use Rattle.star_schema.specs.Records.{ends_line, pieces, records_of}
 use Rattle.star_reader.specs.Faults.{records_fault}
 use Rattle.star_reader.specs.Pieces.{ended_of, fault_from, joined_pieces, open_of, records_from}
-use Rattle.star_reader.specs.Private.Cut.{IsEnded}
+use Rattle.star_reader.specs.Private.Cut.{EndsInLineEnd}
 use Rattle.star_reader.proofs.Cuts.{records_ended, records_fault-append}
 
 ended_open : (text : List ℕ) → ended_of text ++ open_of text ≡ text
@@ -29,7 +29,7 @@ unfolding ended_of
 some_ended [] h e = true≢false (sym h)
 some_ended (b ∷ text) h e = let some : b ∷ ended_of text ≡ [] = rw h at e in cc some
 
-ended_is : (text : List ℕ) → (ended_of text ≡ []) ⊎ IsEnded (ended_of text)
+ended_is : (text : List ℕ) → (ended_of text ≡ []) ⊎ EndsInLineEnd (ended_of text)
 unfolding ended_of
 ended_is [] = inl refl
 ended_is (b ∷ text) = elim (cases_Bool (list_any ends_line (b ∷ text))) [
@@ -46,7 +46,7 @@ ended_is (b ∷ text) = elim (cases_Bool (list_any ends_line (b ∷ text))) [
 ]
   where
     first : (b : ℕ) (text : List ℕ) → list_any ends_line (b ∷ text) ≡ true → ended_of text ≡ []
-        → IsEnded (b ∷ ended_of text)
+        → EndsInLineEnd (b ∷ ended_of text)
     first b text some nothing = elim (cases_Bool (list_any ends_line text)) [
       | inl later ↦ absurd (some_ended text later nothing)
       | inr none ↦
@@ -67,7 +67,8 @@ ended_cut text more = elim (ended_is text)
 
 -- a text behind what was carried, as what has ended and what goes on
 gone_on : (carried piece later : List ℕ)
-    → carried ++ (piece ++ later) ≡ ended_of (carried ++ piece) ++ (open_of (carried ++ piece) ++ later)
+    → carried ++ (piece ++ later)
+    ≡ ended_of (carried ++ piece) ++ (open_of (carried ++ piece) ++ later)
 gone_on carried piece later =
     sym (append_assoc carried piece later)
     ∙ ap (λ (text : List ℕ). text ++ later) (sym (ended_open (carried ++ piece)))

@@ -17,7 +17,7 @@ use Rattle.star_reader.specs.declared.progress.Progress.{Progress}
 use Rattle.star_reader.specs.Columns.{AreColumnsOf, first_rows, raw_kind, values}
 use Rattle.star_reader.specs.Faults.{byte_order_mark, parts_fault, records_fault, text_fault}
 use Rattle.star_reader.specs.Partway.{IsFaultOf, IsPartway, left_fault}
-use Rattle.star_reader.specs.Private.Cut.{IsBegun, IsCut, IsEnded, is_inner}
+use Rattle.star_reader.specs.Private.Cut.{AreLinesOf, EndsInLineEnd, IsBegun, is_inner}
 use Rattle.star_reader.specs.Private.Ended.{HasEnded}
 use Rattle.star_reader.specs.Private.Open.{StandsFor}
 use Rattle.star_reader.specs.Private.Steps.{HasRows}
@@ -84,7 +84,8 @@ left_cut true table most from bytes x begun =
           ) (records_left table most from bytes x begun)
     ]
   where
-    same : starts_with nat_eq (bytes ++ x) byte_order_mark ≡ starts_with nat_eq bytes byte_order_mark
+    same : starts_with nat_eq (bytes ++ x) byte_order_mark
+        ≡ starts_with nat_eq bytes byte_order_mark
     same = rw begun.is (mark_ends bytes begun.byte begun.rest begun.ends)
 
 begun_more : (lines more : List ℕ) → IsBegun lines → IsBegun (lines ++ more)
@@ -141,7 +142,7 @@ behind_line table most parts text old mid columns after h e x later begun =
 pub lines_faulty : (table : TableId) (most : ℕ) (parts : List (List ℕ)) (text : List ℕ)
     (old mid : Progress) (columns after : List RawColumn) (lines : List ℕ) (f : ReadFault)
     → (h : IsPartway table most parts text old columns)
-    → HasEnded table most old h.carried columns mid after → IsBegun lines → IsEnded lines
+    → HasEnded table most old h.carried columns mid after → IsBegun lines → EndsInLineEnd lines
     → records_fault table most (mid.rows + 1) (records_of lines) ≡ Some f
     → IsFaultOf table most parts (text ++ lines) f
 lines_faulty table most parts text old mid columns after lines f h e begun closed bad =
@@ -172,13 +173,14 @@ rows_join f a b c k l m to_a to_b =
 pub lines_on : (table : TableId) (most : ℕ) (parts : List (List ℕ)) (text : List ℕ)
     (old mid new : Progress) (columns between after : List RawColumn) (lines : List ℕ)
     → (h : IsPartway table most parts text old columns)
-    → HasEnded table most old h.carried columns mid between → IsBegun lines → IsEnded lines
+    → HasEnded table most old h.carried columns mid between → IsBegun lines → EndsInLineEnd lines
     → (records_fault table most (mid.rows + 1) (records_of lines) ≡ None)
     × HasRows table mid.rows (first_rows mid.rows (map values between)) (records_of lines) []
     new.rows after
     → StandsFor (kinds_of table) new.line [] → new.is_start ≡ false
     → IsPartway table most parts (text ++ lines) new after
-lines_on table most parts text old mid new columns between after lines h e begun closed read fresh start =
+lines_on table most parts text old mid new columns between after lines h e begun closed read fresh
+    start =
     let sound = records_sound table most (mid.rows + 1) (records_of lines)
     (omega (arith, e.few)) read.0 in
     let counted : mid.rows + 1 + length (records_of lines) ≡ new.rows + 1 =
@@ -250,7 +252,8 @@ part_on table most parts text old mid new columns after h e rows line start =
           (rw (append-nil text, append-nil h.carried, e.no_fault, counted)
           at (h.no_fault [] (more ∷ later)));
       so_far = λ more.
-          let was : first_rows old.rows (map values columns) ++ map (row_of table) (records_of h.carried)
+          let was : first_rows old.rows (map values columns)
+          ++ map (row_of table) (records_of h.carried)
           ≡ map (row_of table) (records_in (parts ++ text ∷ [])) =
           rw (append-nil text, append-nil h.carried) at (h.so_far []) in
           let now : first_rows mid.rows (map values after)
@@ -266,7 +269,7 @@ part_on table most parts text old mid new columns after h e rows line start =
     }
 
 -- a piece is what stands before its lines, these, and what stands behind them
-pub piece_is : (piece : List ℕ) (first behind : ℕ) → IsCut piece first behind
+pub piece_is : (piece : List ℕ) (first behind : ℕ) → AreLinesOf piece first behind
     → take first piece ++ (take (behind - first) (drop first piece) ++ drop behind piece) ≡ piece
 piece_is piece first behind cut =
     let place : first + (behind - first) ≡ behind = omega (arith, cut.order) in
@@ -285,7 +288,7 @@ fault_on table most parts text bytes f h = λ more later.
     rw (append_assoc text bytes more) (h (bytes ++ more) later)
 
 -- a text, and behind it the parts of a piece
-text_is : (text piece : List ℕ) (first behind : ℕ) → IsCut piece first behind
+text_is : (text piece : List ℕ) (first behind : ℕ) → AreLinesOf piece first behind
     → text ++ take first piece ++ take (behind - first) (drop first piece) ++ drop behind piece
     ≡ text ++ piece
 text_is text piece first behind cut =
@@ -297,7 +300,7 @@ text_is text piece first behind cut =
 
 -- a fault of the lines of a piece is the first of the piece
 pub piece_faulty : (table : TableId) (most : ℕ) (parts : List (List ℕ)) (text piece : List ℕ)
-    (first behind : ℕ) (f : ReadFault) → IsCut piece first behind
+    (first behind : ℕ) (f : ReadFault) → AreLinesOf piece first behind
     → IsFaultOf table most parts
     (text ++ take first piece ++ take (behind - first) (drop first piece)) f
     → IsFaultOf table most parts (text ++ piece) f
@@ -308,7 +311,8 @@ piece_faulty table most parts text piece first behind f cut h =
 
 -- a piece has been read in three
 pub piece_on : (table : TableId) (most : ℕ) (parts : List (List ℕ)) (progress : Progress)
-    (columns : List RawColumn) (text piece : List ℕ) (first behind : ℕ) → IsCut piece first behind
+    (columns : List RawColumn) (text piece : List ℕ) (first behind : ℕ)
+    → AreLinesOf piece first behind
     → IsPartway table most parts
     (text ++ take first piece ++ take (behind - first) (drop first piece) ++ drop behind piece)
     progress columns

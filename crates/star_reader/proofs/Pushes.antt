@@ -12,20 +12,21 @@ use Rattle.star_common.proofs.Lists.{drop_at_place}
 use Rattle.star_reader.specs.declared.column.RawColumn.{RawColumn}
 use Rattle.star_reader.specs.declared.fault.ReadFault.{ReadFault}
 use Rattle.star_reader.specs.Columns.{raw_kind, values}
-use Rattle.star_reader.specs.Private.Extended.{extended}
+use Rattle.star_reader.specs.Private.Extended.{extended_columns}
 use Rattle.star_reader.specs.Faults.{cell_fault, cells_fault}
 use Rattle.star_reader.specs.Private.Steps.{HasPushed}
 
-extended-nil : (columns : List (List Value)) → extended columns [] ≡ columns
-unfolding extended
+extended-nil : (columns : List (List Value)) → extended_columns columns [] ≡ columns
+unfolding extended_columns
 extended-nil [] = refl
 extended-nil (column ∷ columns) = refl
 
 -- one more value goes to the next column
 extended-more : (columns : List (List Value)) (vs : List Value) (i : ℕ) (v : Value)
-    (column : List Value) → length vs ≡ i → slice_get (extended columns vs) i ≡ Some column
-    → extended columns (vs ++ v ∷ []) ≡ set (extended columns vs) i (column ++ v ∷ [])
-unfolding extended
+    (column : List Value) → length vs ≡ i → slice_get (extended_columns columns vs) i ≡ Some column
+    → extended_columns columns (vs ++ v ∷ [])
+    ≡ set (extended_columns columns vs) i (column ++ v ∷ [])
+unfolding extended_columns
 extended-more [] [] i v column e at = cc
 extended-more [] (w ∷ vs) i v column e at = cc
 extended-more (c ∷ columns) [] zero v column e at =
@@ -86,7 +87,7 @@ unfolding first_answer
 more at_row ks cells i old new k cell column next h at_k at_cell e at holds kind =
     let dk = drop_at_place ks i k at_k in
     let dc = drop_at_place cells i cell at_cell in
-    let there : slice_get (extended (map values old) h.pushed) i ≡ Some (values column) =
+    let there : slice_get (extended_columns (map values old) h.pushed) i ≡ Some (values column) =
     rw (← h.columns) (slice_get-map values new i ∙ ap (option_map values) at) in
     record {
       no_fault = h.no_fault ∙ rw (dk, dc, e) refl;
@@ -111,7 +112,7 @@ length-values_of (k ∷ ks) (cell ∷ cells) e = let rest : length cells ≡ len
 pub record IsPushed (at_row : ℕ) (ks : List Kind) (cells : List (List ℕ))
     (old new : List RawColumn) : Type 0 where
   pub no_fault : cells_fault at_row 1 ks cells ≡ None
-  pub columns : map values new ≡ extended (map values old) (values_of ks cells)
+  pub columns : map values new ≡ extended_columns (map values old) (values_of ks cells)
   pub width : length (values_of ks cells) ≡ length ks
 
 pub whole : (at_row : ℕ) (ks : List Kind) (cells : List (List ℕ)) (i : ℕ) (old new : List RawColumn)

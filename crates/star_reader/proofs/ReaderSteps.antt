@@ -20,7 +20,7 @@ use Rattle.star_reader.specs.Columns.{AreColumnsOf, first_rows, values}
 use Rattle.star_reader.specs.Faults.{part_fault, parts_fault, text_fault}
 use Rattle.star_reader.specs.Partway.{HasRead, IsFaultOf, IsPartway, Reading, left_fault, parts_with}
 use Rattle.star_reader.specs.Private.Open.{StandsFor}
-use Rattle.star_reader.specs.Private.Sound.{IsSound}
+use Rattle.star_reader.specs.Private.Sound.{IsSoundReader}
 use Rattle.star_reader.specs.declared.table_reader.TableReader.TheInside.{Inside}
 use Rattle.star_reader.proofs.Law.{refused, table_sound, width_kinds}
 use Rattle.star_reader.proofs.PieceSteps.{as_wide}
@@ -96,7 +96,7 @@ pub sound_step : (before after : Inside) (columns : List RawColumn)
     → IsPartway before.table before.most parts text before.progress before.columns.items
     → (later : List (List ℕ)) × (more : List ℕ)
     × IsPartway before.table before.most later more after.progress columns)
-    → IsSound before → IsSound after
+    → IsSoundReader before → IsSoundReader after
 sound_step before after columns none same table limit are step sound =
     let (parts, text, h) = rw none at sound.partway in
     let (later, more, next) = step parts text h in

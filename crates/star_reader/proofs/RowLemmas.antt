@@ -8,7 +8,7 @@ use Rattle.std.proofs.lemmas.List.Elements.{All-cons, All-head, All-nil, All-tai
 use Rattle.std.proofs.lemmas.Option.{slice_get-map}
 use Rattle.star_schema.specs.Tables.{Value, Number}
 use Rattle.star_reader.specs.Columns.{first_rows, row_of_columns}
-use Rattle.star_reader.specs.Private.Extended.{extended}
+use Rattle.star_reader.specs.Private.Extended.{extended_columns}
 
 pub length-first_rows : (n : ℕ) (columns : List (List Value)) → length (first_rows n columns) ≡ n
 unfolding first_rows
@@ -28,7 +28,8 @@ read_first : {X : Type 0} (read : Option Value → X) (n : ℕ) (columns : List 
 unfolding first_rows
 read_first read zero columns place column h at = refl
 read_first read (suc n) columns place column h at =
-    let last : slice_get (row_of_columns columns n) place ≡ Some (get_or column n (Number (pos 0))) =
+    let last : slice_get (row_of_columns columns n) place
+    ≡ Some (get_or column n (Number (pos 0))) =
     slice_get-map (λ (c : List Value). get_or c n (Number (pos 0))) columns place
     ∙ ap (option_map (λ (c : List Value). get_or c n (Number (pos 0)))) at in
     map-append (λ (row : List Value). read (slice_get row place)) (first_rows n columns)
@@ -50,8 +51,8 @@ read_there read n columns place column all at =
 -- a row of the columns before stays
 extended_before : (columns : List (List Value)) (vs : List Value) (n i : ℕ)
     → All (λ column. length column ≡ n) columns → i < n
-    → row_of_columns (extended columns vs) i ≡ row_of_columns columns i
-unfolding extended
+    → row_of_columns (extended_columns columns vs) i ≡ row_of_columns columns i
+unfolding extended_columns
 extended_before [] vs n i full h = refl
 extended_before (column ∷ columns) [] n i full h = refl
 extended_before (column ∷ columns) (v ∷ vs) n i full h =
@@ -66,8 +67,8 @@ extended_before (column ∷ columns) (v ∷ vs) n i full h =
 -- the new values are the new row
 extended_last : (columns : List (List Value)) (vs : List Value) (n : ℕ)
     → All (λ column. length column ≡ n) columns → length vs ≡ length columns
-    → row_of_columns (extended columns vs) n ≡ vs
-unfolding extended
+    → row_of_columns (extended_columns columns vs) n ≡ vs
+unfolding extended_columns
 extended_last [] [] n full e = refl
 extended_last [] (v ∷ vs) n full e = absurd (omega arith)
 extended_last (column ∷ columns) [] n full e = absurd (omega arith)
@@ -82,7 +83,7 @@ extended_last (column ∷ columns) (v ∷ vs) n full e =
 
 first_before : (m : ℕ) (columns : List (List Value)) (vs : List Value) (n : ℕ)
     → All (λ column. length column ≡ n) columns → m ≤ n
-    → first_rows m (extended columns vs) ≡ first_rows m columns
+    → first_rows m (extended_columns columns vs) ≡ first_rows m columns
 unfolding first_rows
 first_before zero columns vs n full h = refl
 first_before (suc m) columns vs n full h =
@@ -94,7 +95,7 @@ first_before (suc m) columns vs n full h =
 -- one more row
 pub first_rows-extended : (columns : List (List Value)) (vs : List Value) (n : ℕ)
     → All (λ column. length column ≡ n) columns → length vs ≡ length columns
-    → first_rows (n + 1) (extended columns vs) ≡ first_rows n columns ++ vs ∷ []
+    → first_rows (n + 1) (extended_columns columns vs) ≡ first_rows n columns ++ vs ∷ []
 unfolding first_rows
 first_rows-extended columns vs n full e =
     let one : n + 1 ≡ suc n = omega arith in
@@ -103,14 +104,14 @@ first_rows-extended columns vs n full e =
 -- each column is longer by one
 pub extended_full : (columns : List (List Value)) (vs : List Value) (n : ℕ)
     → All (λ column. length column ≡ n) columns → length vs ≡ length columns
-    → All (λ column. length column ≡ n + 1) (extended columns vs)
-unfolding extended
+    → All (λ column. length column ≡ n + 1) (extended_columns columns vs)
+unfolding extended_columns
 extended_full [] vs n full e = All-nil (λ (c : List Value). length c ≡ n + 1)
 extended_full (column ∷ columns) [] n full e = absurd (omega arith)
 extended_full (column ∷ columns) (v ∷ vs) n full e =
     let here = All-head (λ (c : List Value). length c ≡ n) column columns full in
     let rest : length vs ≡ length columns = omega arith in
-    All-cons (λ (c : List Value). length c ≡ n + 1) (column ++ v ∷ []) (extended columns vs)
+    All-cons (λ (c : List Value). length c ≡ n + 1) (column ++ v ∷ []) (extended_columns columns vs)
     (omega (arith, length-append column (v ∷ []), here))
     (extended_full columns vs n
     (All-tail (λ (c : List Value). length c ≡ n) column columns full) rest)

@@ -17,10 +17,10 @@ use Rattle.star_reader.specs.declared.column.RawColumn.{RawColumn}
 use Rattle.star_reader.specs.declared.fault.ReadFault.{ReadFault}
 use Rattle.star_reader.specs.declared.fault.ReadFault.TheVariants as fault
 use Rattle.star_reader.specs.Columns.{AreColumnsOf, first_rows, raw_kind, values}
-use Rattle.star_reader.specs.Private.Extended.{extended}
+use Rattle.star_reader.specs.Private.Extended.{extended_columns}
 use Rattle.star_reader.specs.Faults.{byte_order_mark, record_fault, records_fault}
 use Rattle.star_reader.specs.Private.Lines.{HasLeft, TakesFirst}
-use Rattle.star_reader.specs.Private.Steps.{AddsRecord, HasRead, HasRows}
+use Rattle.star_reader.specs.Private.Steps.{AddsRecord, HasReadRecords, HasRows}
 use Rattle.star_reader.proofs.Law.{width_kinds}
 use Rattle.star_reader.proofs.RowLemmas.{extended_full, first_rows-extended}
 
@@ -46,7 +46,7 @@ no_mark (a ∷ b ∷ c ∷ rest) h =
 
 pub start : (table : TableId) (most from : ℕ) (all : List (List ℕ)) (columns : List RawColumn)
     (reader : Reader (Bor (List ℕ))) → AreColumnsOf table from columns → HasLeft reader all
-    → HasRead table most from (first_rows from (map values columns)) all from columns reader
+    → HasReadRecords table most from (first_rows from (map values columns)) all from columns reader
 start table most from all columns reader full left =
     record {
       lines = all;
@@ -59,12 +59,13 @@ start table most from all columns reader full left =
 pub faulty : {table : TableId} {most from : ℕ} {before : List (List Value)} {all : List (List ℕ)}
     {count : ℕ} {columns : List RawColumn} {old new : Reader (Bor (List ℕ))}
     {pieces : List (List ℕ)} {f : ReadFault}
-    → (h : HasRead table most from before all count columns old)
+    → (h : HasReadRecords table most from before all count columns old)
     → (next : TakesFirst h.lines pieces new) → count < most
     → record_fault (map raw_kind columns) (count + 1) (fields_of next.line) ≡ Some f
     → records_fault table most (from + 1) all ≡ Some f
 unfolding first_answer
-faulty {table} {most} {from} {before} {all} {count} {columns} {old} {new} {pieces} {f} h next within e =
+faulty {table} {most} {from} {before} {all} {count} {columns} {old} {new} {pieces} {f} h next within
+    e =
     let room = le-ltb most (count + 1) (omega arith) in
     let here : record_fault (kinds_of table) (count + 1) (fields_of next.line) ≡ Some f =
     rw h.rows.of_table.kinds at e in
@@ -80,7 +81,7 @@ row_on {table} {from} {before} {all} {others} {line} {count} {columns} {later} w
     let row : values_of (map raw_kind columns)
     (cells_of (length (map raw_kind columns)) (fields_of line))
     ≡ row_of table line = rw (was.of_table.kinds, width_kinds table) refl in
-    let holds : map values later ≡ extended (map values columns) (row_of table line) =
+    let holds : map values later ≡ extended_columns (map values columns) (row_of table line) =
     rw row at adds.columns in
     let width : length (row_of table line) ≡ length (map values columns) =
     rw row at adds.width ∙ sym (length-map columns values) in
@@ -108,12 +109,13 @@ row_on {table} {from} {before} {all} {others} {line} {count} {columns} {later} w
 pub more : {table : TableId} {most from : ℕ} {before : List (List Value)} {all : List (List ℕ)}
     {count : ℕ} {columns later : List RawColumn} {old new : Reader (Bor (List ℕ))}
     {pieces : List (List ℕ)}
-    → (h : HasRead table most from before all count columns old)
+    → (h : HasReadRecords table most from before all count columns old)
     → (next : TakesFirst h.lines pieces new)
     → count < most → AddsRecord (count + 1) (fields_of next.line) columns later
-    → HasRead table most from before all (count + 1) later new
+    → HasReadRecords table most from before all (count + 1) later new
 unfolding first_answer
-more {table} {most} {from} {before} {all} {count} {columns} {later} {old} {new} {pieces} h next within adds =
+more {table} {most} {from} {before} {all} {count} {columns} {later} {old} {new} {pieces} h next
+    within adds =
     let room = le-ltb most (count + 1) (omega arith) in
     let here : record_fault (kinds_of table) (count + 1) (fields_of next.line) ≡ None =
     rw h.rows.of_table.kinds at adds.no_fault in
@@ -127,7 +129,7 @@ more {table} {most} {from} {before} {all} {count} {columns} {later} {old} {new} 
 -- there is no other record
 pub whole : {table : TableId} {most from : ℕ} {before : List (List Value)} {all : List (List ℕ)}
     {count : ℕ} {columns : List RawColumn} {reader : Reader (Bor (List ℕ))}
-    → (h : HasRead table most from before all count columns reader) → h.lines ≡ []
+    → (h : HasReadRecords table most from before all count columns reader) → h.lines ≡ []
     → (records_fault table most (from + 1) all ≡ None)
     × HasRows table from before all [] count columns
 unfolding first_answer
@@ -138,7 +140,8 @@ whole {table} {most} {from} {before} {all} {count} {columns} {reader} h none =
 pub too_many : {table : TableId} {most from : ℕ} {before : List (List Value)}
     {all : List (List ℕ)} {count : ℕ} {columns : List RawColumn}
     {old new : Reader (Bor (List ℕ))} {pieces : List (List ℕ)}
-    → (h : HasRead table most from before all count columns old) → TakesFirst h.lines pieces new
+    → (h : HasReadRecords table most from before all count columns old)
+    → TakesFirst h.lines pieces new
     → most ≤ count → records_fault table most (from + 1) all ≡ Some fault.TooManyRows
 unfolding first_answer
 too_many {table} {most} {from} {before} {all} {count} {columns} {old} {new} {pieces} h next full =

@@ -6,7 +6,7 @@ use Rattle.std.proofs.lemmas.List.{append-nil, drop_all}
 use Rattle.star_common.proofs.Lists.{drop_at_place}
 use Rattle.star_schema.specs.Records.{pieces, with_first}
 use Rattle.star_reader.specs.Private.Fronts.{behind_zeros}
-use Rattle.star_reader.specs.Private.Zeros.{is_zero, pieces_of}
+use Rattle.star_reader.specs.Private.Zeros.{is_zero, pieces_between_zeros}
 
 -- one more piece
 pub one_joined : (line : List ℕ) (all : List (List ℕ)) (i : ℕ) (piece whole : List ℕ)
@@ -31,12 +31,12 @@ unfolding behind_zeros
 joined_first b piece all = refl
 
 -- a line is its pieces behind zeros, but for the first zero
-pub pieces_joined : (line : List ℕ) → behind_zeros (pieces_of line) ≡ 0 ∷ line
+pub pieces_joined : (line : List ℕ) → behind_zeros (pieces_between_zeros line) ≡ 0 ∷ line
 unfolding behind_zeros pieces
 pieces_joined [] = refl
 pieces_joined (b ∷ line) = elim (cases_Bool (is_zero b)) [
   | inl nil ↦ rw (nil, eqb-true b 0 nil, pieces_joined line) refl
-  | inr other ↦ rw other (go (pieces_of line) (pieces_joined line))
+  | inr other ↦ rw other (go (pieces_between_zeros line) (pieces_joined line))
 ]
   where
     go : (ps : List (List ℕ)) → behind_zeros ps ≡ 0 ∷ line
@@ -45,7 +45,7 @@ pieces_joined (b ∷ line) = elim (cases_Bool (is_zero b)) [
     go (p ∷ ps) e = joined_first b p ps ∙ ap (λ (rest : List ℕ). 0 ∷ b ∷ drop 1 rest) e
 
 -- a line of one piece is that piece
-pub one_piece : (line piece : List ℕ) (all : List (List ℕ)) → all ≡ pieces_of line
+pub one_piece : (line piece : List ℕ) (all : List (List ℕ)) → all ≡ pieces_between_zeros line
     → length all ≡ 1 → slice_get all 0 ≡ Some piece → piece ≡ line
 unfolding behind_zeros
 one_piece line piece [] are one at = cc

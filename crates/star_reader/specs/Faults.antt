@@ -7,7 +7,8 @@ use Rattle.star_schema.specs.declared.column.Kind.{Kind}
 use Rattle.star_common.specs.First.{first_answer}
 use Rattle.star_schema.specs.Records.{fields_of, records_of}
 use Rattle.star_schema.specs.Schema.{kinds_of}
-use Rattle.star_schema.specs.Tables.{cells_of, is_of_kind, is_printable, is_short}
+use Rattle.star_common.specs.Printable.{is_printable}
+use Rattle.star_schema.specs.Tables.{cells_of, is_of_kind, is_short}
 use Rattle.star_reader.specs.declared.fault.ReadFault.{ReadFault}
 use Rattle.star_reader.specs.declared.fault.ReadFault.TheVariants as fault
 

@@ -1,7 +1,6 @@
 // One cell of a table.
 
 ghost use Rattle.std.specs.Prelude.{◌≡◌, ◌<◌, ◌^◌, Some, None, IfSome, if◌then◌else◌};
-ghost use Rattle.std.specs.List.{list_all};
 ghost use Rattle.star_common.specs.Numerals.{numeral_of};
 ghost use Rattle.star_schema.specs.Tables as spec;
 
@@ -15,13 +14,6 @@ fn unsigned(cell: &[u8]) -> &[u8]
         [b'-', digits @ ..] => digits,
         _ => cell,
     }
-}
-
-/// Whether each byte of a cell is printable ASCII.
-pub(crate) fn is_printable(cell: &[u8]) -> bool
-    ensures { result ≡ list_all spec.is_printable cell.now }
-{
-    cell.iter().all(|&b| b >= b' ' && b <= b'~')
 }
 
 // The number that 1 to 18 digits write.

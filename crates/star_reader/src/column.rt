@@ -7,9 +7,10 @@ ghost use Rattle.star_reader.specs.Columns.{raw_kind, values};
 ghost use Rattle.star_reader.specs.Faults.{cell_fault};
 ghost use Rattle.star_reader.specs.Private.Fronts.{IsFront};
 
-use crate::cell::{is_printable, parse_number};
+use crate::cell::parse_number;
 use crate::fault::ReadFault;
 use crate::front::{number_front, text_front};
+use star_common::are_printable;
 use star_flat::{FlatNumbers, RepeatedTexts};
 use star_schema::Kind;
 use std::alloc::{AllocError, Global};
@@ -30,7 +31,7 @@ fn check_text(at_row: u32, field: usize, cell: &[u8]) -> Result<(), ReadFault>
     if cell.len() > 255 {
         return Err(ReadFault::CellTooLong { at_row, field });
     }
-    if !is_printable(cell) {
+    if !are_printable(cell) {
         return Err(ReadFault::BadByte { at_row, field });
     }
     Ok(())

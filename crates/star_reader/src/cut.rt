@@ -1,11 +1,11 @@
 // Where a piece of a text has its lines.
 
-ghost use Rattle.std.specs.Prelude.{◌≡◌, ◌<◌, ◌≤◌, ◌-◌, ◌↔◌, IsTrue, MatchOption, true, drop, get_or, length, take};
+ghost use Rattle.std.specs.Prelude.{◌≡◌, ◌<◌, ◌≤◌, ◌-◌, MatchOption, true, drop, get_or, length, take};
 ghost use Rattle.std.specs.List.{list_all};
 ghost use Rattle.star_schema.specs.Records.{ends_line};
-ghost use Rattle.star_reader.specs.Private.Cut.{IsCut, is_inner};
+ghost use Rattle.star_reader.specs.Private.Cut.{AreLinesOf, is_inner};
 
-/// The lines of a piece: they lie from its first line end to behind its last.
+/// The lines of a piece: they lie from its first line end to after its last.
 #[derive(Clone, Copy)]
 pub(crate) struct Cut {
     first: usize,
@@ -15,7 +15,7 @@ pub(crate) struct Cut {
 impl Cut {
     /// What stands before the lines: the end of the line that is open.
     pub(crate) fn head(self, piece: &[u8]) -> &[u8]
-        requires { IsCut piece.now self.first self.behind }
+        requires { AreLinesOf piece.now self.first self.behind }
         ensures { result.now ≡ take self.first piece.now }
     {
         &piece[..self.first]
@@ -23,15 +23,15 @@ impl Cut {
 
     /// The lines, from a line end up to one, and with it.
     pub(crate) fn lines(self, piece: &[u8]) -> &[u8]
-        requires { IsCut piece.now self.first self.behind }
+        requires { AreLinesOf piece.now self.first self.behind }
         ensures { result.now ≡ take (self.behind - self.first) (drop self.first piece.now) }
     {
         &piece[self.first..self.behind]
     }
 
-    /// What stands behind the lines, and is open.
+    /// What stands after the lines, and is open.
     pub(crate) fn tail(self, piece: &[u8]) -> &[u8]
-        requires { IsCut piece.now self.first self.behind }
+        requires { AreLinesOf piece.now self.first self.behind }
         ensures { result.now ≡ drop self.behind piece.now }
     {
         &piece[self.behind..]
@@ -59,7 +59,7 @@ fn first_end(piece: &[u8]) -> Option<usize>
     None
 }
 
-// The place behind the last line end, and 0 where there is none.
+// The place after the last line end, and 0 where there is none.
 fn behind_last_end(piece: &[u8]) -> usize
     ensures within { result ≤ length piece.now }
     ensures tail { list_all is_inner (drop result piece.now) ≡ true }
@@ -78,7 +78,7 @@ fn behind_last_end(piece: &[u8]) -> usize
 /// The lines of a piece, if a line ends in it.
 pub(crate) fn lines_of(piece: &[u8]) -> Option<Cut>
     ensures { MatchOption result (list_all is_inner piece.now ≡ true)
-        (λ cut. IsCut piece.now cut.first cut.behind) }
+        (λ cut. AreLinesOf piece.now cut.first cut.behind) }
 {
     let first = first_end(piece)?;
     let behind = behind_last_end(piece);

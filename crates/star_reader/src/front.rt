@@ -4,6 +4,7 @@ ghost use Rattle.std.specs.Prelude.{◌≡◌, ◌⊎◌, ◌+◌, ◌<◌, ◌�
 ghost use Rattle.std.specs.List.{list_all};
 ghost use Rattle.std.specs.Str.Parse.{digits_value};
 ghost use Rattle.star_common.specs.Numerals.{is_numeral};
+ghost use Rattle.star_common.specs.Printable.{is_printable};
 ghost use Rattle.star_schema.specs.Tables as spec;
 ghost use Rattle.star_reader.specs.Private.Fronts.{AreDigits, IsFront};
 
@@ -21,7 +22,7 @@ pub(crate) struct Number {
     pub(crate) count: usize,
 }
 
-// The digits at the front of a text, of which at most 19 count. So many always fit.
+// The digits at the front of a text, at most the first 19 of them, which always fit.
 fn digits_front(text: &[u8]) -> Digits
     ensures { AreDigits text.now result.count result.value }
 {
@@ -75,7 +76,7 @@ fn digit_of(byte: u8) -> u64
     u64::from(byte).wrapping_sub(48)
 }
 
-// The first field of a text without a sign, if it is 1 to 8 digits, has a bar behind it, and the
+// The first field of a text without a sign, if it is 1 to 8 digits, has a bar after it, and the
 // text has nine bytes. There may be a number where it tells none.
 #[inline(always)]
 fn short_front(text: &[u8]) -> Option<Digits>
@@ -148,9 +149,9 @@ pub(crate) fn text_front(text: &[u8]) -> Option<usize>
     ensures { MatchOption result
         ((count : ℕ) → IsFront text.now count
         → (spec.is_short (take count text.now)
-        && list_all spec.is_printable (take count text.now)) ≡ false)
+        && list_all is_printable (take count text.now)) ≡ false)
         (λ count. IsFront text.now count × (spec.is_short (take count text.now) ≡ true)
-        × (list_all spec.is_printable (take count text.now) ≡ true)) }
+        × (list_all is_printable (take count text.now) ≡ true)) }
 {
     let most = text.len().min(256);
     for count in 0..most {

@@ -8,7 +8,7 @@ ghost use Rattle.star_reader.specs.Faults.{records_fault, text_fault};
 ghost use Rattle.star_reader.specs.Pieces.{fault_from, joined_pieces, records_from};
 
 /// However a text is cut into pieces, in mid-record too, its records are those that end in each
-/// piece behind what the pieces before left open, and at last the record that is left open; and the
+/// piece after what the pieces before left open, and at last the record that is left open; and the
 /// first fault of them is the first fault of the text's records.
 pub fn any_cut_gives_the_records_of_the_text()
     ensures records { (carried : List ℕ) (pieces : List (List ℕ))
@@ -18,7 +18,7 @@ pub fn any_cut_gives_the_records_of_the_text()
         ≡ records_fault table most from (records_of (carried ++ joined_pieces pieces)) }
 {}
 
-/// A text in parts has no fault exactly where it is a table, of at most so many rows.
+/// A text in parts has no fault exactly where it is a table of at most `most` rows.
 pub fn texts_without_a_fault_are_tables()
     ensures { (table : TableId) (most : ℕ) (parts : List (List ℕ))
         → (text_fault table most parts ≡ None) ↔ IsTable table most parts }

@@ -7,7 +7,7 @@ ghost use Rattle.star_schema.specs.Records.{fields_of};
 ghost use Rattle.star_reader.specs.Columns.{raw_kind};
 ghost use Rattle.star_reader.specs.Faults.{record_fault};
 ghost use Rattle.star_reader.specs.Private.Fronts.{behind_zeros};
-ghost use Rattle.star_reader.specs.Private.Zeros.{pieces_of};
+ghost use Rattle.star_reader.specs.Private.Zeros.{pieces_between_zeros};
 ghost use Rattle.star_reader.specs.Private.Steps.{AddsRecord};
 
 use crate::column::RawColumn;
@@ -107,7 +107,7 @@ pub(crate) fn add_line(
     }
 }
 
-// The pieces of a line, each behind a zero.
+// The pieces of a line, each after a zero.
 #[cold]
 fn joined(alloc: Global, pieces: &ByteRecord) -> Result<Vec<u8>, AllocError>
     ensures { IfOk result (λ line. line.items ≡ behind_zeros (fields_read pieces.now)) }
@@ -125,7 +125,7 @@ fn joined(alloc: Global, pieces: &ByteRecord) -> Result<Vec<u8>, AllocError>
     Ok(line)
 }
 
-// The bytes behind the first one.
+// The bytes after the first one.
 fn behind_first(bytes: &[u8]) -> &[u8]
     ensures { result.now ≡ drop 1 bytes.now }
 {
@@ -145,7 +145,7 @@ pub(crate) fn add_record(
     pieces: &ByteRecord,
 ) -> Result<(), ReadFault>
     requires { length columns.old ≤ 17 }
-    ensures { (line : List ℕ) → fields_read pieces.now ≡ pieces_of line → MatchResult result
+    ensures { (line : List ℕ) → fields_read pieces.now ≡ pieces_between_zeros line → MatchResult result
         (λ _. AddsRecord at_row (fields_of line) columns.old columns.new)
         (λ fault. UnlessMemory ReadFault.OutOfMemory fault
         (record_fault (map raw_kind columns.old) at_row (fields_of line) ≡ Some fault)) }

@@ -3,21 +3,21 @@
 ghost use Rattle.std.specs.Prelude.{◌≡◌, ◌⊎◌, ◌<◌, ◌≤◌, ◌++◌, ◌∷◌, ℕ, List, [], OnOk, false, length};
 ghost use Rattle.star_schema.specs.Records.{is_bar};
 ghost use Rattle.star_schema.specs.declared.column.Kind.{Kind};
-ghost use Rattle.star_reader.specs.Private.Open.{HasKept, StandsFor};
+ghost use Rattle.star_reader.specs.Private.Open.{HasKeptByte, StandsFor};
 
 use std::alloc::{AllocError, Global};
 
-/// From how many bytes on a line is looked at before it is kept, and a field that has so many is
-/// too long.
+/// From this many bytes on a line is looked at before it is kept, and a field of this length is too
+/// long.
 const LONG: usize = 256;
 
-/// The line that is open, of which no more is kept than tells its record or its first fault: of a
+/// The line that is open. No more of it is kept than tells its record or its first fault: of a
 /// field that is too long its first bytes, and of a line with too many fields no more than shows
 /// that. So a line of any length takes a few kilobytes.
 #[derive(Drop)]
 pub(crate) struct OpenLine {
     kept: Vec<u8>,
-    // At most so many bars are in it, and at most so many bytes behind the last.
+    // The most bars that may be in it, and the most bytes that may stand after the last.
     bars: usize,
     run: usize,
 }
@@ -51,7 +51,7 @@ impl OpenLine {
     }
 
     // Whether the record or its first fault may hang on one more byte of the line, in a table with
-    // so many columns.
+    // `width` columns.
     fn matters(&self, byte: u8, width: usize) -> bool
         ensures { result ≡ false → (256 ≤ length self.now.kept.items)
             × ((width < self.now.bars) ⊎ ((is_bar byte ≡ false) × (256 ≤ self.now.run))) }
@@ -61,7 +61,7 @@ impl OpenLine {
 
     // Keeps one more byte.
     fn keep(&mut self, byte: u8) -> Result<(), AllocError>
-        ensures { OnOk result (HasKept byte self.old self.new) }
+        ensures { OnOk result (HasKeptByte byte self.old self.new) }
     {
         self.kept.push(byte)?;
         if byte == b'|' {
@@ -85,7 +85,7 @@ impl OpenLine {
         Ok(())
     }
 
-    /// Takes more bytes of the line, of a table with so many columns.
+    /// Takes more bytes of the line, of a table with `width` columns.
     pub(crate) fn extend(&mut self, more: &[u8], width: usize) -> Result<(), AllocError>
         ensures { (kinds : List Kind) (bytes : List ℕ) → length kinds ≡ width
             → StandsFor kinds self.old bytes

@@ -1,6 +1,6 @@
 // How far a table has been read whose text comes in pieces.
 
-ghost use Rattle.std.specs.Prelude.{◌≡◌, ◌<◌, ◌≤◌, ◌+◌, ◌++◌, ◌∷◌, ◌&&◌, ℕ, List, [], None, Some, IfErr, OnOk, MatchResult, filter, length, map, nat_eq, true};
+ghost use Rattle.std.specs.Prelude.{◌≡◌, ◌<◌, ◌≤◌, ◌+◌, ◌++◌, ◌∷◌, ◌&&◌, ℕ, List, [], None, Some, OnOk, MatchResult, filter, length, map, nat_eq, true};
 ghost use Rattle.std.specs.List.{list_all, starts_with};
 ghost use Rattle.star_common.specs.Memory.{UnlessMemory};
 ghost use Rattle.star_schema.specs.Records.{is_filled};
@@ -9,7 +9,7 @@ ghost use Rattle.star_schema.specs.declared.table.TableId.{TableId};
 ghost use Rattle.star_reader.specs.Columns.{AreColumnsOf, first_rows, values};
 ghost use Rattle.star_reader.specs.Faults.{byte_order_mark, records_fault};
 ghost use Rattle.star_reader.specs.Partway.{IsFaultOf, IsPartway, left_fault};
-ghost use Rattle.star_reader.specs.Private.Cut.{IsBegun, IsEnded, is_inner};
+ghost use Rattle.star_reader.specs.Private.Cut.{EndsInLineEnd, IsBegun, is_inner};
 ghost use Rattle.star_reader.specs.Private.Ended.{HasEnded};
 ghost use Rattle.star_reader.specs.Private.Open.{StandsFor};
 ghost use Rattle.star_reader.specs.Private.Steps.{HasRows};
@@ -33,7 +33,7 @@ pub(crate) struct Progress {
     is_start: bool,
 }
 
-// Adds the row of a line to the columns of a table with so many rows, if the line has a byte, and
+// Adds the row of a line to the columns of a table with `rows` rows, if the line has a byte, and
 // says how many rows there are then. After a fault the columns may differ in length.
 fn add_open(
     alloc: Global,
@@ -117,7 +117,7 @@ impl Progress {
         Ok(())
     }
 
-    // Carries bytes with no line end among them, of a table with so many columns.
+    // Carries bytes with no line end among them, of a table with `width` columns.
     fn carry(&mut self, bytes: &[u8], width: usize) -> Result<(), AllocError>
         requires { list_all is_inner bytes.now ≡ true }
         ensures { (table : TableId) (most : ℕ) (parts : List (List ℕ)) (text : List ℕ)
@@ -129,7 +129,7 @@ impl Progress {
         Ok(())
     }
 
-    // Reads what begins and ends with a line end: the end of the open line, and lines behind it.
+    // Reads what begins and ends with a line end: the end of the open line, and lines after it.
     fn read_ends(
         &mut self,
         alloc: Global,
@@ -140,7 +140,7 @@ impl Progress {
         requires few { length columns.old ≤ 17 }
         ensures { (table : TableId) (parts : List (List ℕ)) (text : List ℕ)
             → IsPartway table most parts text self.old columns.old
-            → IsBegun lines.now → IsEnded lines.now → MatchResult result
+            → IsBegun lines.now → EndsInLineEnd lines.now → MatchResult result
             (λ _. IsPartway table most parts (text ++ lines.now) self.new columns.new)
             (λ fault. UnlessMemory ReadFault.OutOfMemory fault
             (IsFaultOf table most parts (text ++ lines.now) fault)) }
@@ -151,8 +151,8 @@ impl Progress {
         Ok(())
     }
 
-    /// Reads one more piece of a part of a table of at most so many rows. After a fault the columns
-    /// may differ in length.
+    /// Reads one more piece of a part of a table that may have at most `most` rows. After a fault
+    /// the columns may differ in length.
     pub(crate) fn read(
         &mut self,
         alloc: Global,

@@ -1,6 +1,6 @@
 // A table as it was read.
 
-ghost use Rattle.std.specs.Prelude.{◌≡◌, ◌<◌, ◌≤◌, ◌+◌, ◌∷◌, ℕ, List, [], None, Some, IfOk, IfErr, MatchResult, length, map, slice_get};
+ghost use Rattle.std.specs.Prelude.{◌≡◌, ◌<◌, ◌∷◌, ℕ, [], Some, IfOk, IfErr, length, map, slice_get};
 ghost use Rattle.std.specs.Option.{option_map};
 ghost use Rattle.star_common.specs.Memory.{UnlessMemory};
 ghost use Rattle.star_schema.specs.Bounds.{numbers_at};
@@ -43,7 +43,7 @@ impl Model for RawTable {
 }
 
 impl RawTable {
-    /// The table with these columns, which have so many rows.
+    /// Makes a table of these columns, which have `rows` rows.
     pub(crate) fn of(table: TableId, rows: u32, columns: Vec<RawColumn>) -> RawTable
         requires { AreColumnsOf table rows columns.items }
         ensures table { result.table ≡ table }

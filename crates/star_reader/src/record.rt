@@ -7,7 +7,7 @@ ghost use Rattle.csv.specs.Records.{fields_of as fields_read};
 ghost use Rattle.star_schema.specs.Tables as spec;
 ghost use Rattle.star_reader.specs.Columns.{raw_kind, values};
 ghost use Rattle.star_reader.specs.Faults.{record_fault};
-ghost use Rattle.star_reader.specs.Private.Extended.{extended};
+ghost use Rattle.star_reader.specs.Private.Extended.{extended_columns};
 
 use crate::column::RawColumn;
 use crate::fault::ReadFault;
@@ -50,7 +50,7 @@ pub(crate) fn push_record(
     ensures pushed { let kinds = map raw_kind columns.old in MatchResult result
         (λ _. (record_fault kinds at_row (fields_read line.now) ≡ None)
         × (map values columns.new
-        ≡ extended (map values columns.old)
+        ≡ extended_columns (map values columns.old)
         (spec.values_of kinds (spec.cells_of (length kinds) (fields_read line.now))))
         × (length (spec.values_of kinds (spec.cells_of (length kinds) (fields_read line.now)))
         ≡ length columns.old))

@@ -17,7 +17,7 @@ use crate::lines::{read_next, records_reader};
 use csv::{ByteRecord, Reader};
 use std::alloc::Global;
 
-// Adds the values of all records that are left to the columns of a table with so many rows, and says
+// Adds the values of all records that are left to the columns of a table with `rows` rows, and says
 // how many rows there are then. After a fault the columns may differ in length.
 fn read_records(
     alloc: Global,
@@ -49,7 +49,7 @@ fn read_records(
 
 // The lines begin with a line end since `csv` takes a byte order mark off the front of what it
 // reads, and one in mid-text has to stay.
-/// Adds the rows of lines, which begin with a line end, to the columns of a table with so many rows,
+/// Adds the rows of lines, which begin with a line end, to the columns of a table with `rows` rows,
 /// and says how many there are then. After a fault the columns may differ in length. The reader is
 /// let go here, at one place.
 pub(crate) fn read_lines(

@@ -52,13 +52,13 @@ pub struct TableReader {
 
 impl Model for TableReader {
     ghost use Rattle.star_reader.specs.Partway.{Reading};
-    ghost use Rattle.star_reader.specs.Private.Sound.{reading_of, IsSound};
+    ghost use Rattle.star_reader.specs.Private.Sound.{reading_of, IsSoundReader};
 
     ghost Value = { Reading };
 
     ghost view = { reading_of };
 
-    ghost invariant = { IsSound };
+    ghost invariant = { IsSoundReader };
 }
 
 impl TableReader {

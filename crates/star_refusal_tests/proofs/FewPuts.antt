@@ -1,19 +1,17 @@
--- Few puts of numbers of 64 bits, and one more of them.
-use Rattle.std.proofs.Common.{◌≡◌, ◌<◌, ◌+◌, ℕ, ℤ, pos, true, List, [], ◌∷◌, refl, arith, FitsSigned, w64}
+-- The numbers of a put, and how many puts a store has.
+use Rattle.std.proofs.Common.{◌≡◌, ◌∙◌, ℕ, ℤ, pos, negsuc, true, List, [], ◌∷◌, Option, Some, None, ap, length, refl, sym, FitsSigned, w64}
+use Rattle.std.specs.Prelude.{slice_index_or}
 use Rattle.std.specs.List.{All}
+use Rattle.std.proofs.lemmas.List.{length-map}
 use Rattle.std.proofs.lemmas.List.Elements.{All-cons, All-nil}
 use Rattle.star_interval.specs.Range.{is_i64}
 use Rattle.star_interval.proofs.Ranges.{is_i64_fits}
-use Rattle.star_program.specs.Puts.{Update}
-use Rattle.star_group.specs.Stores.{Group, HasRoom}
-use Rattle.star_group.proofs.SmallNumbers.{few_room}
-use Rattle.star_refusal_tests.specs.Few.{AreFew}
+use Rattle.star_program.specs.Puts.{Update, total_over}
+use Rattle.star_group.specs.Stores.{Group}
+use Rattle.star_group_tests.specs.Few.{IsOfTests}
 
 abbrev Narrow : ℤ → Type 0
 Narrow z = is_i64 z ≡ true
-
-abbrev IsNarrow : Update → Type 0
-IsNarrow put = All Narrow put.values
 
 -- the numbers of a put: one number, and a 0 for the count
 pub four_narrow : (z : ℤ) → FitsSigned w64 z → All (λ z. is_i64 z ≡ true) (z ∷ pos 0 ∷ z ∷ z ∷ [])
@@ -25,12 +23,15 @@ four_narrow z fits =
     let three : All Narrow (pos 0 ∷ z ∷ z ∷ []) = All-cons Narrow (pos 0) (z ∷ z ∷ []) refl two in
     All-cons Narrow z (pos 0 ∷ z ∷ z ∷ []) here three
 
-pub one_more : (count : ℕ) (puts : List Update) (put : Update) → AreFew count puts → All (λ z. is_i64 z ≡ true) put.values → AreFew (count + 1) (put ∷ puts)
-one_more count puts put few narrow = record {
-  many = omega (arith, few.many);
-  small = All-cons IsNarrow put puts narrow few.small;
-}
+-- ---- a count
 
-pub has_room : (d : Group) (count : ℕ) (puts : List Update) (put : Update) → count < 6 → AreFew count puts → All (λ z. is_i64 z ≡ true) put.values → HasRoom d (put ∷ puts)
-has_room d count puts put less few narrow =
-    few_room d (put ∷ puts) (All-cons IsNarrow put puts narrow few.small) (omega (arith, less, few.many))
+abbrev counted : Option ℤ → ℕ
+counted (Some (pos n)) = n
+counted (Some (negsuc n)) = 0
+counted None = 0
+
+pub count_is : (d : Group) (puts : List Update) (made : ℕ) → IsOfTests d
+    → Some (pos made) ≡ total_over d.aggregates 1 puts → length puts ≡ made
+count_is d puts made is total =
+    sym (ap counted (total ∙ ap (λ gs. total_over gs 1 puts) is.aggregates)
+    ∙ length-map puts (λ put. slice_index_or put.values 1 (pos 0)))

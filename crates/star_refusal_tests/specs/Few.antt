@@ -1,19 +1,8 @@
 -- Stores of few puts.
-use Rattle.std.specs.Prelude.{◌≡◌, ℕ, true, List, All, length}
-use Rattle.star_interval.specs.Range.{is_i64}
+use Rattle.std.specs.Prelude.{ℕ, List}
 use Rattle.star_program.specs.Puts.{Update}
-use Rattle.star_group.specs.Stores.{Group}
+use Rattle.star_group_tests.specs.Few.{HasFew}
 
--- a group of two keys and four aggregates
-pub record IsOfTests (d : Group) : Type 0 where
-  pub keys : d.count ≡ 2
-  pub aggregates : length d.aggregates ≡ 4
-
--- so many puts, of numbers of 64 bits
-pub record AreFew (count : ℕ) (puts : List Update) : Type 0 where
-  pub many : length puts ≡ count
-  pub small : All (λ put. All (λ z. is_i64 z ≡ true) put.values) puts
-
--- what has the content of some puts has that of so many such puts
-abbrev pub HasFew : (List Update → Type 0) → ℕ → Type 0
-HasFew has count = (puts : List Update) × has puts × AreFew count puts
+-- what has the content of some puts of numbers of 64 bits
+abbrev pub HasSome : (List Update → Type 0) → Type 0
+HasSome has = (count : ℕ) × HasFew has count

@@ -4,7 +4,7 @@ use std::alloc::AllocError;
 use std::io;
 use std::test::Fail;
 
-/// Tells on standard output that a call was refused memory and that the test goes on behind it. A
+/// Tells on standard output that a call was refused memory and that the test goes on after it. A
 /// sweep looks for the line: it comes where a request was refused, and never else.
 pub(crate) fn tell_refused(rt: &impl Print) -> io::Result<()> {
     println!(rt; "memory was refused")

@@ -4,11 +4,12 @@
 use crate::asked::{ask, expect, tell_refused};
 use crate::lookups::BOUNDS;
 use crate::queries::REVENUES;
+use star_common::Out;
 use star_engine::{
     BenchmarkQuery, Engine, EngineFault, FileFault, Input, answer_program, answer_query, bench,
     check, explain_query, quote_text, read_expected, read_whole, sample, trial_program,
 };
-use star_schema::{ColumnId, Limits, MOST_VISITS, Out, TABLES, TableId, table_of};
+use star_schema::{ColumnId, Limits, MOST_VISITS, TABLES, TableId, table_of};
 use star_test_support::programs::{ABOVE_AVERAGE, ABSENT_KEY, DISCOUNTED_REVENUE, counting};
 use star_test_support::streams::Short;
 use std::alloc::{AllocError, Global};
@@ -171,7 +172,7 @@ fn push_bounds(
     Ok(())
 }
 
-// The lines of a table of so many rows.
+// Adds the lines of a table of `rows` rows.
 fn push_table(text: &mut String, table: TableId, rows: u32) -> Result<(), Fail> {
     writeln!(text, "table {table} rows {rows}")?;
     for (column, low, high, _) in BOUNDS {

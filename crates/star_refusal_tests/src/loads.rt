@@ -232,7 +232,7 @@ fn push_text(rt: &impl Print, flat: &mut RepeatedTexts, text: &[u8]) -> Result<(
     }
 }
 
-// The list of the brands, of which one comes twice.
+// The list of the brands; one of them comes twice.
 fn flat_brands(rt: &impl Print, alloc: Global) -> Result<RepeatedTexts, Fail> {
     let mut flat = RepeatedTexts::new(alloc);
     for text in BRANDS {

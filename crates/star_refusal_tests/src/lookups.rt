@@ -44,7 +44,7 @@ pub(crate) const BOUNDS: [Bounded; 30] = [
     (ColumnId::LoCommitdate, 19940105, 19971215, 16),
 ];
 
-// Whether a column of numbers has these bounds, in words of so many bits.
+// Whether a column of numbers has these bounds, in words of this width.
 fn has_bounds(catalogue: &Catalogue, expected: Bounded) -> bool {
     let (column, low, high, bits) = expected;
     match kind_of(column) {
@@ -88,7 +88,7 @@ const ENTRIES: [(ColumnId, u32); 28] = [
     (ColumnId::LoShipmode, 5),
 ];
 
-// Whether a column of texts has so many different ones, whose codes stand in words of 8 bits.
+// Whether a column of texts has `entries` different ones, with their codes in words of 8 bits.
 fn has_entries(catalogue: &Catalogue, column: ColumnId, entries: u32) -> bool {
     match kind_of(column) {
         Kind::Number => false,

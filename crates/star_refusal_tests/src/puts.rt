@@ -1,10 +1,13 @@
-// Six puts, the rows and totals after each of them, and the puts one after another.
+// Six puts, the rows and totals after each of them, and the puts one after another and at once.
 
-ghost use Rattle.std.specs.Prelude.{◌<◌, ◌+◌, IfOk, OnErr, OnOk};
-ghost use Rattle.star_refusal_tests.specs.Few.{HasFew, IsOfTests};
+ghost use Rattle.std.specs.Prelude.{◌≡◌, ◌≤◌, ◌<◌, ◌+◌, ℕ, IfOk, OnErr, OnOk, length, pos, slice_index_or, true};
+ghost use Rattle.star_interval.specs.Range.{is_i64};
+ghost use Rattle.star_group.specs.Stores.{group_declared};
+ghost use Rattle.star_group_tests.specs.Few.{HasFew, IsOfNumbers, IsOfRows, IsOfTests};
+ghost use Rattle.star_refusal_tests.specs.Few.{HasSome};
 
 use crate::asked::{expect, tell_refused};
-use star_group::{GroupRows, GroupStore, KeyValue};
+use star_group::{GroupRows, GroupStore, KeyValue, PutBatch};
 use star_interval::Interval;
 use star_program::{Aggregates, GroupDecl, GroupKey, GroupKeys};
 use star_schema::{Aggregate, Shape};
@@ -131,7 +134,7 @@ fn rows_of(shape: Shape) -> usize {
     }
 }
 
-// What a row is after so many puts, if it is there.
+// What a row is after `made` puts, if it is there.
 fn after(history: History, made: usize) -> Option<Row> {
     let mut found = None;
     for (from, row) in history {
@@ -162,7 +165,7 @@ fn has_row(rows: &GroupRows, keys: &[Option<KeyValue>], row: Row) -> bool {
     false
 }
 
-/// The rows are those of a group of a shape after the first so many puts.
+/// Checks that the rows are those of a group of a shape after the first `made` puts.
 pub(crate) fn check_rows(rows: &GroupRows, shape: Shape, made: usize) -> Result<(), Fail> {
     let mut count = 0usize;
     for (keys, history) in ROWS.iter().take(rows_of(shape)) {
@@ -174,7 +177,7 @@ pub(crate) fn check_rows(rows: &GroupRows, shape: Shape, made: usize) -> Result<
     expect(rows.len() == count, "another number of rows")
 }
 
-/// The totals are those after the first so many puts.
+/// Checks that the totals are those after the first `made` puts.
 pub(crate) fn check_totals<S: GroupStore>(store: &S, made: usize) -> Result<(), Fail>
     requires { IsOfTests (S.group store.now) }
 {
@@ -190,10 +193,9 @@ pub(crate) fn check_totals<S: GroupStore>(store: &S, made: usize) -> Result<(), 
     )
 }
 
-/// A store of no puts, for two keys and an aggregate of each kind.
-pub(crate) fn empty_store<S: GroupStore>(alloc: Global, shape: Shape) -> Result<S, AllocError>
-    ensures group { IfOk result (λ store. IsOfTests (S.group store)) }
-    ensures empty { IfOk result (λ store. HasFew (S.has store) 0) }
+/// A group of two keys, with an aggregate of each kind.
+pub(crate) fn declared(alloc: Global, shape: Shape) -> Result<GroupDecl, AllocError>
+    ensures { IfOk result IsOfNumbers }
 {
     let aggregates = vec![in alloc;
         Aggregate::Sum,
@@ -201,15 +203,32 @@ pub(crate) fn empty_store<S: GroupStore>(alloc: Global, shape: Shape) -> Result<
         Aggregate::Min,
         Aggregate::Max,
     ]?;
-    let declared = GroupDecl {
+    Ok(GroupDecl {
         shape,
         keys: GroupKeys::from_vec(vec![in alloc; GroupKey::Number, GroupKey::Number]?),
         aggregates: Aggregates::from_vec(aggregates),
-    };
-    S::with_ranges(alloc, &declared, &EXPECTED)
+    })
 }
 
-// One more put behind a few.
+/// A store of no puts into such a group.
+pub(crate) fn store_of<S: GroupStore>(alloc: Global, declared: &GroupDecl) -> Result<S, AllocError>
+    requires { IsOfNumbers declared.now }
+    ensures group { IfOk result (λ store. S.group store ≡ group_declared declared.now) }
+    ensures empty { IfOk result (λ store. HasFew (S.has store) 0) }
+{
+    S::with_ranges(alloc, declared, &EXPECTED)
+}
+
+/// The same, with its group.
+pub(crate) fn empty_store<S: GroupStore>(alloc: Global, shape: Shape) -> Result<S, AllocError>
+    ensures group { IfOk result (λ store. IsOfTests (S.group store)) }
+    ensures empty { IfOk result (λ store. HasFew (S.has store) 0) }
+{
+    let declared = declared(alloc, shape)?;
+    store_of(alloc, &declared)
+}
+
+// One more put after a few.
 fn put_one<S: GroupStore>(
     store: &mut S,
     made: usize,
@@ -227,7 +246,7 @@ fn put_one<S: GroupStore>(
     Ok(())
 }
 
-// The put of a number, from 0, behind those before it.
+// The put of a number, from 0, after those before it.
 fn put_next<S: GroupStore>(store: &mut S, made: usize) -> Result<(), AllocError>
     requires made { made < 6 }
     requires group { IsOfTests (S.group store.old) }
@@ -289,5 +308,148 @@ pub(crate) fn put_all<S: GroupStore>(rt: &impl Print, store: &mut S) -> Result<(
     for made in 0..MOST {
         put_again(rt, store, made)?;
     }
+    Ok(())
+}
+
+// ---- at once
+
+// The word of a key.
+fn word_of(key: KeyValue) -> i64 {
+    match key {
+        KeyValue::Number(number) => number,
+        KeyValue::Code(code) => i64::from(code),
+    }
+}
+
+// The words of the keys and numbers of the puts from one on, a lane each.
+fn fill(lanes: &mut [i64], made: usize)
+    requires made { made ≤ 6 }
+    requires len { length lanes.old ≡ 3072 }
+    ensures { length lanes.new ≡ 3072 }
+{
+    for row in 0..MOST - made {
+        let (keys, number) = PUTS[made + row];
+        lanes[row] = word_of(keys[0]);
+        lanes[1024 + row] = word_of(keys[1]);
+        lanes[2048 + row] = number;
+    }
+}
+
+// That a word has 64 bits.
+fn narrow_at(words: &[i64], at: usize)
+    requires { at < length words.now }
+    ensures { is_i64 (slice_index_or words.now at (pos 0)) ≡ true }
+{
+    let _word = words[at];
+}
+
+// That each of some words has 64 bits.
+fn are_narrow(words: &[i64])
+    ensures { (at : ℕ) → is_i64 (slice_index_or words.now at (pos 0)) ≡ true }
+{
+    for at in 0..words.len() {
+        narrow_at(words, at);
+    }
+}
+
+// The puts of a batch after a few.
+fn put_rows<S: GroupStore>(
+    store: &mut S,
+    made: usize,
+    batch: &PutBatch<'_>,
+) -> Result<(), AllocError>
+    requires made { made ≤ 6 }
+    requires batch { IsOfRows batch.now }
+    requires group { S.group store.old ≡ group_declared batch.now.declared.now }
+    requires few { HasFew (S.has store.old) made }
+    ensures ok { OnOk result (HasFew (S.has store.new) (made + batch.now.rows)) }
+    ensures refused { OnErr result (HasSome (S.has store.new)) }
+    ensures group { S.group store.new ≡ S.group store.old }
+{
+    are_narrow(batch.lanes);
+    store.put_batch(batch)?;
+    Ok(())
+}
+
+// The puts from the one of a number on, from 0, at once.
+fn put_rest<S: GroupStore>(
+    store: &mut S,
+    declared: &GroupDecl,
+    made: usize,
+) -> Result<(), AllocError>
+    requires made { made ≤ 6 }
+    requires declared { IsOfNumbers declared.now }
+    requires group { S.group store.old ≡ group_declared declared.now }
+    requires few { HasFew (S.has store.old) made }
+    ensures ok { OnOk result (HasFew (S.has store.new) 6) }
+    ensures refused { OnErr result (HasSome (S.has store.new)) }
+    ensures group { S.group store.new ≡ S.group store.old }
+{
+    let mut lanes = [0; 3072];
+    fill(&mut lanes, made);
+    let batch = PutBatch {
+        lanes: &lanes,
+        rows: MOST - made,
+        declared,
+        keys: &[0, 1],
+        values: &[2, 2, 2],
+    };
+    put_rows(store, made, &batch)
+}
+
+// How many puts a store has, which are no more than all.
+fn count_of<S: GroupStore>(store: &S) -> Result<usize, Fail>
+    requires group { IsOfTests (S.group store.now) }
+    requires some { HasSome (S.has store.now) }
+    ensures few { IfOk result (λ made. made ≤ 6) }
+    ensures made { IfOk result (HasFew (S.has store.now)) }
+{
+    let count = store.total(1);
+    for made in 0..=MOST {
+        if count == Some(made as i128) {
+            return Ok(made);
+        }
+    }
+    Err(Fail::from("other totals"))
+}
+
+/// All puts at once: answers how many were made, all or those before the first that is refused
+/// memory, which is told.
+pub(crate) fn put_at_once<S: GroupStore>(
+    rt: &impl Print,
+    store: &mut S,
+    declared: &GroupDecl,
+) -> Result<usize, Fail>
+    requires declared { IsOfNumbers declared.now }
+    requires group { S.group store.old ≡ group_declared declared.now }
+    requires empty { HasFew (S.has store.old) 0 }
+    ensures few { IfOk result (λ made. made ≤ 6) }
+    ensures made { IfOk result (HasFew (S.has store.new)) }
+    ensures group { S.group store.new ≡ S.group store.old }
+{
+    match put_rest(store, declared, 0) {
+        Ok(()) => Ok(MOST),
+        Err(AllocError) => {
+            tell_refused(rt)?;
+            count_of(store)
+        }
+    }
+}
+
+/// All puts at once, and those that are left at once where memory is refused: the totals are then
+/// those of the first ones.
+pub(crate) fn put_all_at_once<S: GroupStore>(
+    rt: &impl Print,
+    store: &mut S,
+    declared: &GroupDecl,
+) -> Result<(), Fail>
+    requires declared { IsOfNumbers declared.now }
+    requires group { S.group store.old ≡ group_declared declared.now }
+    requires empty { HasFew (S.has store.old) 0 }
+    ensures { S.group store.new ≡ S.group store.old }
+{
+    let made = put_at_once(rt, store, declared)?;
+    check_totals(store, made)?;
+    put_rest(store, declared, made)?;
     Ok(())
 }

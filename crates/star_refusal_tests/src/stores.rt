@@ -2,11 +2,16 @@
 
 ghost use Rattle.std.specs.Prelude.{IfOk};
 ghost use Rattle.star_group.specs.Eager.{Has, group_view};
-ghost use Rattle.star_refusal_tests.specs.Few.{HasFew, IsOfTests};
+ghost use Rattle.star_group_tests.specs.Few.{HasFew, IsOfTests};
 
 use crate::asked::tell_refused;
-use crate::puts::{MOST, check_rows, check_totals, empty_store, put_all, put_until_refused};
-use star_group::{DeferredStore, EagerStore, GroupRows, GroupStore, KeyValue, PlacedStore, TryPut};
+use crate::puts::{
+    MOST, check_rows, check_totals, declared, empty_store, put_all, put_all_at_once, put_at_once,
+    put_until_refused, store_of,
+};
+use star_group::{
+    DeferredStore, EagerStore, GroupRows, GroupStore, KeyValue, PlacedStore, PutBatch, TryPut,
+};
 use star_program::GroupDecl;
 use star_schema::Shape;
 use std::alloc::{AllocError, Global};
@@ -23,6 +28,8 @@ impl GroupStore for Trying {
 
     ghost has = { λ trying. Has trying.store };
 
+    ghost has_place = { λ trying keys place. ⊥ };
+
     fn new(alloc: Global, declared: &GroupDecl) -> Result<Trying, AllocError> {
         let store = EagerStore::new(alloc, declared)?;
         Ok(Trying { store })
@@ -33,6 +40,10 @@ impl GroupStore for Trying {
             Ok(()) => Ok(()),
             Err(_fault) => Err(AllocError),
         }
+    }
+
+    fn put_batch_at(&mut self, _batch: &PutBatch<'_>, _places: &[u32]) {
+        unreachable!()
     }
 
     fn total(&self, aggregate: usize) -> Option<i128> {
@@ -147,6 +158,62 @@ fn deferred_store_put_is_repeated(rt: HostRuntime) -> Result<(), Fail> {
 #[test]
 fn placed_store_put_is_repeated(rt: HostRuntime) -> Result<(), Fail> {
     has_rows_of_all::<PlacedStore>(&rt, rt.alloc())
+}
+
+// In each shape a store has, where a batch of all puts is refused memory, the rows and totals of the
+// first of them.
+fn has_first_rows<S: GroupStore>(rt: &impl Print, alloc: Global) -> Result<(), Fail> {
+    for shape in SHAPES {
+        let declared = declared(alloc, shape)?;
+        let mut store = store_of::<S>(alloc, &declared)?;
+        let made = put_at_once(rt, &mut store, &declared)?;
+        check_totals(&store, made)?;
+        check_rows(&store.into_rows()?, shape, made)?;
+    }
+    Ok(())
+}
+
+#[test]
+fn eager_store_put_batch_leaves_the_first_rows(rt: HostRuntime) -> Result<(), Fail> {
+    has_first_rows::<EagerStore>(&rt, rt.alloc())
+}
+
+#[test]
+fn deferred_store_put_batch_leaves_the_first_rows(rt: HostRuntime) -> Result<(), Fail> {
+    has_first_rows::<DeferredStore>(&rt, rt.alloc())
+}
+
+#[test]
+fn placed_store_put_batch_leaves_the_first_rows(rt: HostRuntime) -> Result<(), Fail> {
+    has_first_rows::<PlacedStore>(&rt, rt.alloc())
+}
+
+// In each shape a store has the rows and totals of all puts of a batch, those repeated at once that a
+// refused batch didn't come to.
+fn has_rows_of_batch<S: GroupStore>(rt: &impl Print, alloc: Global) -> Result<(), Fail> {
+    for shape in SHAPES {
+        let declared = declared(alloc, shape)?;
+        let mut store = store_of::<S>(alloc, &declared)?;
+        put_all_at_once(rt, &mut store, &declared)?;
+        check_totals(&store, MOST)?;
+        check_rows(&store.into_rows()?, shape, MOST)?;
+    }
+    Ok(())
+}
+
+#[test]
+fn eager_store_put_batch_goes_on(rt: HostRuntime) -> Result<(), Fail> {
+    has_rows_of_batch::<EagerStore>(&rt, rt.alloc())
+}
+
+#[test]
+fn deferred_store_put_batch_goes_on(rt: HostRuntime) -> Result<(), Fail> {
+    has_rows_of_batch::<DeferredStore>(&rt, rt.alloc())
+}
+
+#[test]
+fn placed_store_put_batch_goes_on(rt: HostRuntime) -> Result<(), Fail> {
+    has_rows_of_batch::<PlacedStore>(&rt, rt.alloc())
 }
 
 // The rows of all puts.

@@ -64,7 +64,8 @@ fn told(
     }
 }
 
-// What a check answers of the program of a text under so many visits is told by this line.
+// Checks that this line tells what a check answers of the program of a text under a limit of
+// visits.
 fn check_verdict(
     rt: &impl Print,
     alloc: Global,

@@ -4,7 +4,7 @@ use Rattle.std.specs.Char.{digit_value}
 use Rattle.star_schema.specs.Records.{ends_line, is_bar}
 use Rattle.star_program.specs.declared.outcome.Cell.{Cell}
 use Rattle.star_program.specs.declared.outcome.Cell.TheVariants as cell
-use Rattle.star_report.specs.Columns.{ColumnKind, NumberKey, TextKey, Total, IsCellOf, is_field}
+use Rattle.star_report.specs.Columns.{ColumnKind, NumberKey, TextKey, Total, IsCellOfKind, is_field}
 use Rattle.star_report.specs.Report.{cell_text}
 use Rattle.star_report.proofs.Bytes.{Lacks}
 use Rattle.star_report.proofs.Numbers.{number_lacks, number_no_all, number_no_null, number_same}
@@ -27,12 +27,14 @@ field_lacks : (b : ℕ) → Parts b → (text : List ℕ) → IsTrue (is_field t
 field_lacks b parts [] h = tt
 field_lacks b parts (x ∷ xs) h =
     let each = both (not (is_bar x || ends_line x)) (is_field xs) h in
-    let P : ℕ → Type 0 = λ n. IsTrue (not (is_bar n || ends_line n)) in
-    (λ e. not_both (is_bar b || ends_line b) parts (subst P e each.0), field_lacks b parts xs each.1)
+    let P : ℕ → Type 0 = λ n. IsTrue (not (is_bar n || ends_line n)) in (
+      λ e. not_both (is_bar b || ends_line b) parts (subst P e each.0),
+      field_lacks b parts xs each.1,
+    )
 
 -- so does a cell: its words are fields, and such a byte is no digit
 cell_lacks : (b : ℕ) → Parts b → (digit_value b < 10 → ⊥) → (kind : ColumnKind) (c : Cell)
-    → IsCellOf kind c → Lacks b (cell_text c)
+    → IsCellOfKind kind c → Lacks b (cell_text c)
 unfolding cell_text
 cell_lacks b parts digit NumberKey (cell.Number n) h =
     number_lacks b n h digit (field_lacks b parts (codes "-") refl).0
@@ -45,13 +47,13 @@ cell_lacks b parts digit Total (cell.Number n) h =
 cell_lacks b parts digit Total cell.Null h = field_lacks b parts (codes "NULL") refl
 cell_lacks b parts digit _ _ h = absurd h
 
-pub cell_lacks_bar : (kind : ColumnKind) (c : Cell) → IsCellOf kind c → Lacks 124 (cell_text c)
+pub cell_lacks_bar : (kind : ColumnKind) (c : Cell) → IsCellOfKind kind c → Lacks 124 (cell_text c)
 cell_lacks_bar = cell_lacks 124 refl (λ h. absurd (omega arith))
 
-pub cell_lacks_end : (kind : ColumnKind) (c : Cell) → IsCellOf kind c → Lacks 10 (cell_text c)
+pub cell_lacks_end : (kind : ColumnKind) (c : Cell) → IsCellOfKind kind c → Lacks 10 (cell_text c)
 cell_lacks_end = cell_lacks 10 refl (λ h. absurd (omega arith))
 
-pub cell_same : (kind : ColumnKind) (c d : Cell) → IsCellOf kind c → IsCellOf kind d
+pub cell_same : (kind : ColumnKind) (c d : Cell) → IsCellOfKind kind c → IsCellOfKind kind d
     → cell_text c ≡ cell_text d → c ≡ d
 unfolding cell_text
 cell_same NumberKey (cell.Number y) (cell.Number z) h k e = ap cell.Number (number_same y z h k e)

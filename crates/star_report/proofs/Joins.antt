@@ -2,7 +2,7 @@
 use Rattle.std.proofs.Common.{◌≡◌, ◌≤◌, ◌++◌, ◌-◌, ℕ, List, [], ◌∷◌, ap, arith, drop, get_or, length, map, sym, take}
 use Rattle.std.specs.List.{flat_map, join_with_byte}
 use Rattle.std.proofs.lemmas.List.{append-nil}
-use Rattle.star_report.proofs.Sends.{rest_of}
+use Rattle.star_common.proofs.Sends.{rest_of}
 
 -- the first, and each other one after the byte
 join_with_byte-cons : {X : Type 0} (b : ℕ) (printed : X → List ℕ) (first : X) (others : List X)

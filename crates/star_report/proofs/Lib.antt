@@ -1,5 +1,4 @@
 pub mod Parts
-pub mod Sends
 pub mod Joins
 pub mod Bytes
 pub mod Numbers

@@ -4,7 +4,7 @@ use Rattle.std.specs.List.{AllZip, flat_map, join_with_byte}
 use Rattle.std.proofs.lemmas.List.{append_cancel_left}
 use Rattle.std.proofs.lemmas.List.Elements.{All-head, All-tail}
 use Rattle.star_program.specs.declared.outcome.Cell.{Cell}
-use Rattle.star_report.specs.Columns.{AreRowsOf, ColumnKind, IsCellOf}
+use Rattle.star_report.specs.Columns.{AreRowsOf, ColumnKind, IsCellOfKind}
 use Rattle.star_report.specs.Report.{cell_text, line_text, report_text, row_text}
 use Rattle.star_report.proofs.Bytes.{Lacks, Lacks-append, split_first}
 use Rattle.star_report.proofs.Cells.{cell_lacks_bar, cell_lacks_end, cell_same}
@@ -13,7 +13,7 @@ abbrev fields_text : List Cell → List ℕ
 fields_text row = join_with_byte 124 (map cell_text row)
 
 abbrev IsRow : List ColumnKind → List Cell → Type 0
-IsRow kinds row = AllZip IsCellOf kinds row
+IsRow kinds row = AllZip IsCellOfKind kinds row
 
 fields_lack_end : (kinds : List ColumnKind) (row : List Cell) → IsRow kinds row
     → Lacks 10 (fields_text row)

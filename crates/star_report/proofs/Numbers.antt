@@ -18,29 +18,38 @@ digits_lack b (d ∷ ds) other h = (
 decimal_lacks : (b n : ℕ) → n < 10 ^ 64 → (digit_value b < 10 → ⊥) → Lacks b (decimal n)
 decimal_lacks b n few other = digits_lack b (decimal n) other (decimal_is_IsNumeral_wide n few).0.1
 
-pub number_lacks : (b : ℕ) (z : ℤ) → HasDigits z → (digit_value b < 10 → ⊥) → (45 ≡ b → ⊥) → Lacks b (signed_decimal z)
+pub number_lacks : (b : ℕ) (z : ℤ) → HasDigits z → (digit_value b < 10 → ⊥) → (45 ≡ b → ⊥)
+    → Lacks b (signed_decimal z)
 number_lacks b (pos n) few other minus = decimal_lacks b n few other
 number_lacks b (negsuc n) few other minus = (minus, decimal_lacks b (suc n) few other)
 
 decimal_same : (m n : ℕ) → m < 10 ^ 64 → n < 10 ^ 64 → decimal m ≡ decimal n → m ≡ n
-decimal_same m n h k e = sym (decimal_is_IsNumeral_wide m h).1 ∙ ap (digits_value 10) e ∙ (decimal_is_IsNumeral_wide n k).1
+decimal_same m n h k e =
+    sym (decimal_is_IsNumeral_wide m h).1 ∙ ap (digits_value 10) e
+    ∙ (decimal_is_IsNumeral_wide n k).1
 
 -- digits don't begin with a minus
 no_minus : (n : ℕ) (ds : List ℕ) → n < 10 ^ 64 → decimal n ≡ 45 ∷ ds → ⊥
-no_minus n ds h e = let P : List ℕ → Type 0 = Lacks 45 in (subst P e (decimal_lacks 45 n h (λ d. omega arith))).0 refl
+no_minus n ds h e = let P : List ℕ → Type 0 = Lacks 45 in
+    (subst P e (decimal_lacks 45 n h (λ d. omega arith))).0 refl
 
-pub number_same : (y z : ℤ) → HasDigits y → HasDigits z → signed_decimal y ≡ signed_decimal z → y ≡ z
+pub number_same : (y z : ℤ) → HasDigits y → HasDigits z → signed_decimal y ≡ signed_decimal z
+    → y ≡ z
 number_same (pos m) (pos n) h k e = ap pos (decimal_same m n h k e)
 number_same (pos m) (negsuc n) h k e = absurd (no_minus m (decimal (suc n)) h e)
 number_same (negsuc m) (pos n) h k e = absurd (no_minus n (decimal (suc m)) k (sym e))
-number_same (negsuc m) (negsuc n) h k e = let same = decimal_same (suc m) (suc n) h k (ap (drop 1) e) in ap negsuc (omega (arith, same))
+number_same (negsuc m) (negsuc n) h k e = let same =
+    decimal_same (suc m) (suc n) h k (ap (drop 1) e) in ap negsuc (omega (arith, same))
 
 -- a number prints otherwise than a word that begins with such a byte
-number_apart : (b : ℕ) (word : List ℕ) (z : ℤ) → HasDigits z → (digit_value b < 10 → ⊥) → (45 ≡ b → ⊥) → signed_decimal z ≡ b ∷ word → ⊥
-number_apart b word z few other minus e = let P : List ℕ → Type 0 = Lacks b in (subst P e (number_lacks b z few other minus)).0 refl
+number_apart : (b : ℕ) (word : List ℕ) (z : ℤ) → HasDigits z → (digit_value b < 10 → ⊥)
+    → (45 ≡ b → ⊥) → signed_decimal z ≡ b ∷ word → ⊥
+number_apart b word z few other minus e = let P : List ℕ → Type 0 = Lacks b in
+    (subst P e (number_lacks b z few other minus)).0 refl
 
 pub number_no_all : (z : ℤ) → HasDigits z → signed_decimal z ≡ codes "ALL" → ⊥
 number_no_all z few e = number_apart 65 (76 ∷ 76 ∷ []) z few (λ h. omega arith) (λ h. omega arith) e
 
 pub number_no_null : (z : ℤ) → HasDigits z → signed_decimal z ≡ codes "NULL" → ⊥
-number_no_null z few e = number_apart 78 (85 ∷ 76 ∷ 76 ∷ []) z few (λ h. omega arith) (λ h. omega arith) e
+number_no_null z few e =
+    number_apart 78 (85 ∷ 76 ∷ 76 ∷ []) z few (λ h. omega arith) (λ h. omega arith) e

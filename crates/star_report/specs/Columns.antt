@@ -21,18 +21,18 @@ abbrev pub HasDigits : ℤ → Type 0
 HasDigits n = unsigned_abs n < 10 ^ 64
 
 -- keys are numbers, or texts, or ALL; aggregates are numbers or NULL
-abbrev pub IsCellOf : ColumnKind → Cell → Type 0
-IsCellOf NumberKey (Number n) = HasDigits n
-IsCellOf NumberKey All = Unit {0}
-IsCellOf TextKey (Text text) = IsTrue (is_field text)
-IsCellOf TextKey All = Unit {0}
-IsCellOf Total (Number n) = HasDigits n
-IsCellOf Total Null = Unit {0}
-IsCellOf _ _ = ⊥
+abbrev pub IsCellOfKind : ColumnKind → Cell → Type 0
+IsCellOfKind NumberKey (Number n) = HasDigits n
+IsCellOfKind NumberKey All = Unit {0}
+IsCellOfKind TextKey (Text text) = IsTrue (is_field text)
+IsCellOfKind TextKey All = Unit {0}
+IsCellOfKind Total (Number n) = HasDigits n
+IsCellOfKind Total Null = Unit {0}
+IsCellOfKind _ _ = ⊥
 
 -- rows with a cell for each column, of the column's kind
 abbrev pub AreRowsOf : List ColumnKind → List (List Cell) → Type 0
-AreRowsOf kinds rows = Each (AllZip IsCellOf kinds) rows
+AreRowsOf kinds rows = Each (AllZip IsCellOfKind kinds) rows
 
 -- a value whose text stands in one field
 abbrev pub IsFieldValue : table.Value → Type 0

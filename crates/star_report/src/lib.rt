@@ -1,10 +1,8 @@
-//! The printed rows of a run, and the writing of a whole text.
+//! The printed rows of a run.
 #![tactic(auto)]
 
-mod deliver;
 mod law;
 mod report;
 
-pub use deliver::{WriteFault, write_whole};
 pub use law::{one_run_has_one_outcome, one_text_has_one_meaning, texts_of_tables_are_fields};
 pub use report::report_text;

@@ -11,7 +11,7 @@ use std::alloc::{AllocError, Global};
 // At most every sixteenth turn of a run has a place of its own.
 const TURNS_A_PLACE: u128 = 16;
 
-// The codes of so many texts.
+// The range of the codes of `entries` texts, if there is one.
 fn codes(entries: u32) -> Option<Interval> {
     let high = i64::from(entries.checked_sub(1)?);
     Some(Interval { low: 0, high })
@@ -54,7 +54,7 @@ fn is_read(steps: &[Step], group: usize) -> bool {
     read
 }
 
-// The ranges of the keys of a group, up to the first of which none is known.
+// The ranges of the keys of a group, up to the first key whose range is not known.
 fn known_ranges(
     alloc: Global,
     verified: &Verified<'_>,
@@ -71,7 +71,7 @@ fn known_ranges(
     Ok(ranges)
 }
 
-// Whether there are few lists of keys in these ranges beside so many turns.
+// Whether there are few lists of keys in these ranges beside `turns` turns.
 fn are_few(ranges: &[Interval], turns: u128) -> bool {
     match places(ranges) {
         Some(places) => u128::from(places) <= turns / TURNS_A_PLACE,

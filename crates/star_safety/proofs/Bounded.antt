@@ -1,4 +1,5 @@
--- No run makes more turns than are quoted, and one that may make so many is the run without a bound.
+-- No run makes more turns than are quoted, and one that may make so many is the run without a
+-- bound.
 use Rattle.std.proofs.Common.{◌≡◌, ℕ, zero, suc, ◌+◌, ◌*◌, ◌≤◌, ◌<◌, Bool, true, false, Option, Some, None, refl, sym, ap, subst, ◌∙◌, arith, zero-add, le_trans}
 use Rattle.std.specs.Prelude.{nat_lt, if◌then◌else◌}
 use Rattle.std.proofs.lemmas.Bool.{lt-ltb}

@@ -49,19 +49,23 @@ module _ (w : World) (parts : Parts) (all : Shares) where
   met_onwards first m h itself = h
   met_onwards first m h (behind x op rest at before after s t earlier goes) =
       let was = met_onwards first (moment x (Then op rest) at before s) h earlier in
-      subst (λ e. Onward e (Throughout w parts all (after_op w parts x op) rest (at + 1))) goes was.1
-  met_onwards first m h (in_turn x table r body rest at registers s t row earlier declared within turned) =
+      subst (λ e. Onward e (Throughout w parts all (after_op w parts x op) rest (at + 1))) goes
+      was.1
+  met_onwards first m h (in_turn x table r body rest at registers s t row earlier declared within
+      turned) =
       let was = met_onwards first (moment x (Each table r body rest) at registers s) h earlier in
       let turn : ℕ → State → End = λ j.
       meaning w parts (λ visits. true) body (at + 1) true (with_entry registers r (Row table j)) in
       let Holding : ℕ → State → Type 0 = λ j.
-      Throughout w parts all (in_scan w x table r) body (at + 1) (with_entry registers r (Row table j)) in
+      Throughout w parts all (in_scan w x table r) body (at + 1)
+      (with_entry registers r (Row table j)) in
       let here : 0 + row ≡ row = omega arith in
       subst (λ j. Holding j (visited t)) here
       (in_one_turn row (w.size table) 0 turn Holding s t within was.2 turned)
   met_onwards first m h (behind_scan x table r body rest at registers s t earlier declared turned) =
       let was = met_onwards first (moment x (Each table r body rest) at registers s) h earlier in
-      subst (λ e. EndsWith e (Throughout w parts all (after_scan x (at_end w parts (in_scan w x table r) body)) rest
+      subst (λ e. EndsWith e (Throughout w parts all
+      (after_scan x (at_end w parts (in_scan w x table r) body)) rest
       (at + 1 + code_size body) registers)) turned was.3
 
   pub holds_from : (first : Moment) → Onwards first → HoldsFrom w parts all first
@@ -79,13 +83,16 @@ module _ (w : World) (parts : Parts) (all : Shares) where
   ends_parts (Trapped at trap) go h = absurd h
   ends_parts Limited go h = absurd h
 
-  ends_declared : (at : ℕ) (b : Bool) (go : Unit {0} → End) → Ends (scans at b go) → (b ≡ true) × Ends (go tt)
+  ends_declared : (at : ℕ) (b : Bool) (go : Unit {0} → End) → Ends (scans at b go)
+      → (b ≡ true) × Ends (go tt)
   ends_declared at true go h = (refl, h)
   ends_declared at false go h = absurd h
 
-  onward_from : (e : Effect) (at : ℕ) (go : Registers → State → End) (Next : Registers → State → Type 0)
+  onward_from : (e : Effect) (at : ℕ) (go : Registers → State → End)
+      (Next : Registers → State → Type 0)
       → Ends (follow at e go)
-      → ((registers : Registers) (s : State) → e ≡ GoesOn registers s → Ends (go registers s) → Next registers s)
+      → ((registers : Registers) (s : State) → e ≡ GoesOn registers s → Ends (go registers s)
+      → Next registers s)
       → Onward e Next
   onward_from (GoesOn registers s) at go Next h next = next registers s refl h
   onward_from (EndsTurn s) at go Next h next = tt
@@ -125,7 +132,8 @@ module _ (w : World) (parts : Parts) (all : Shares) where
       → Ends (turns (λ visits. true) count row turn s) → InEachTurn count row turn Holding s
   in_turns rows turn Holding first one zero row e s is ends = tt
   in_turns rows turn Holding first one (suc count) row e s is ends =
-      let parts = ends_parts (turn row (visited s)) (turns (λ visits. true) count (row + 1) turn) ends in
+      let parts = ends_parts (turn row (visited s)) (turns (λ visits. true) count (row + 1) turn)
+      ends in
       let here : 0 + row ≡ row = omega arith in
       let more : turns (λ visits. true) (suc row) 0 turn first ≡ Ended parts.0 =
       turns_more row 0 turn first s parts.0 is
@@ -152,7 +160,8 @@ module _ (w : World) (parts : Parts) (all : Shares) where
     )
     throughout_from (Each table r body rest) x at registers s met ends =
         let turn : ℕ → State → End = λ row.
-        meaning w parts (λ visits. true) body (at + 1) true (with_entry registers r (Row table row)) in
+        meaning w parts (λ visits. true) body (at + 1) true
+        (with_entry registers r (Row table row)) in
         let go : State → End =
         meaning w parts (λ visits. true) rest (at + 1 + code_size body) x.inside registers in
         let scan = ends_declared at (nat_lt r parts.registers) _ ends in
@@ -165,11 +174,13 @@ module _ (w : World) (parts : Parts) (all : Shares) where
               (with_entry registers r (Row table row)) (visited t)
               (in_turn x table r body rest at registers s t row met declared within turned) over)
               (w.size table) 0 (omega arith) s refl (subst Ends (sym later.1) tt),
-          subst (λ e. EndsWith e (Throughout w parts all (after_scan x (at_end w parts (in_scan w x table r) body)) rest
+          subst (λ e. EndsWith e (Throughout w parts all
+              (after_scan x (at_end w parts (in_scan w x table r) body)) rest
               (at + 1 + code_size body) registers)) (sym later.1)
               (throughout_from rest (after_scan x (at_end w parts (in_scan w x table r) body))
               (at + 1 + code_size body) registers later.0
-              (behind_scan x table r body rest at registers s later.0 met declared later.1) later.2),
+              (behind_scan x table r body rest at registers s later.0 met declared later.1)
+              later.2),
         )
 
 -- ---- a whole run
@@ -181,4 +192,5 @@ pub holds_throughout : (w : World) (parts : Parts) → AtEveryMoment w parts
     → EndsWith (meaning_of w (λ visits. true) parts) (λ s. Unit {0}) → HoldsThroughout w parts
 holds_throughout w parts holds ends =
     throughout_from w parts (all_shares w parts) (first_moment parts) holds parts.body
-    (first_moment parts).context 1 (first_moment parts).registers (first_moment parts).store itself ends
+    (first_moment parts).context 1 (first_moment parts).registers (first_moment parts).store itself
+    ends

@@ -85,7 +85,8 @@ module _ {A : Type 0} where
       subst (λ n. IsMasked n (k ∷ ks)) found.2 (refl, among_mask ks found.0 found.1))
       (λ c. let found = from_contains_map (λ n. None ∷ n) (masks ks) m c in
       subst (λ n. IsMasked n (k ∷ ks)) found.2 (among_mask ks found.0 found.1))
-      (Contains-append_cases (map (λ n. Some k ∷ n) (masks ks)) (map (λ n. None ∷ n) (masks ks)) m h)
+      (Contains-append_cases (map (λ n. Some k ∷ n) (masks ks)) (map (λ n. None ∷ n) (masks ks)) m
+      h)
 
 -- ---- a grouping's groups
 
@@ -143,7 +144,8 @@ module _ {K : Type 0} where
   cut_again : {A : Type 0} (qs : List (Option K)) (xs : List A) (ks : List K)
       → length qs ≡ length xs → IsMasked qs ks → cut_like (like qs xs) ks ≡ qs
   cut_again [] [] [] e h = refl
-  cut_again (None ∷ qs) (x ∷ xs) (k ∷ ks) e h = ap (λ r. None ∷ r) (cut_again qs xs ks (omega (arith, e)) h)
+  cut_again (None ∷ qs) (x ∷ xs) (k ∷ ks) e h =
+      ap (λ r. None ∷ r) (cut_again qs xs ks (omega (arith, e)) h)
   cut_again (Some q ∷ qs) (x ∷ xs) (k ∷ ks) e h =
       λ i. Some (sym h.0 i) ∷ cut_again qs xs ks (omega (arith, e)) h.1 i
   cut_again [] xs (k ∷ ks) e h = absurd h
@@ -193,7 +195,8 @@ module _ {K : Type 0} where
       → length qs ≡ length xs → AreAmong qs vss → Contains (choices (like qs xs) vss) qs
   chosen [] [] [] e h = contains_here [] []
   chosen (None ∷ qs) (x ∷ xs) (vs ∷ vss) e h =
-      contains_mapped (λ q. None ∷ q) (choices (like qs xs) vss) qs (chosen qs xs vss (omega (arith, e)) h)
+      contains_mapped (λ q. None ∷ q) (choices (like qs xs) vss) qs
+      (chosen qs xs vss (omega (arith, e)) h)
   chosen (Some k ∷ qs) (x ∷ xs) (vs ∷ vss) e h =
       contains_flat (λ v. map (λ q. Some v ∷ q) (choices (like qs xs) vss)) vs k (Some k ∷ qs) h.0
       (contains_mapped (λ q. Some k ∷ q) (choices (like qs xs) vss) qs
@@ -210,7 +213,8 @@ module _ {K : Type 0} where
   all_hidden (None ∷ qs) e = ap (λ r. None ∷ r) (all_hidden qs e)
   all_hidden (Some k ∷ qs) e = absurd (true≢false (sym e))
 
-  module _ (rows : List (List K)) (vss : List (List K)) (updates : ℕ) (few : length rows ≤ updates) where
+  module _ (rows : List (List K)) (vss : List (List K)) (updates : ℕ)
+      (few : length rows ≤ updates) where
     abbrev counts : List ℕ
     counts = sizes vss
 
@@ -250,23 +254,30 @@ module _ {K : Type 0} where
         hidden = like_none qs counts same
 
         shown : (least : Bool) → list_all is_none qs ≡ false
-            → Contains (if least then map (cut_like (like qs counts)) rows else choices (like qs counts) vss) qs
+            → Contains (if least then map (cut_like (like qs counts)) rows
+            else choices (like qs counts) vss) qs
         shown least none = ⊎_elim
-            {C = Contains (if least then map (cut_like (like qs counts)) rows else choices (like qs counts) vss) qs}
+            {C = Contains (if least then map (cut_like (like qs counts)) rows
+            else choices (like qs counts) vss) qs}
             (λ h. of_row least h.0 h.1 h.2 h.3)
-            (λ h. absurd (true≢false (sym (ap (list_all is_none) h ∙ hidden_none K (length vss)) ∙ none)))
+            (λ h. absurd (true≢false
+            (sym (ap (list_all is_none) h ∙ hidden_none K (length vss)) ∙ none)))
             one
           where
-            of_row : (least : Bool) (ks : List K) → Contains rows ks → IsMasked qs ks → AreAmong qs vss
-                → Contains (if least then map (cut_like (like qs counts)) rows else choices (like qs counts) vss) qs
+            of_row : (least : Bool) (ks : List K) → Contains rows ks → IsMasked qs ks
+                → AreAmong qs vss
+                → Contains (if least then map (cut_like (like qs counts)) rows
+                else choices (like qs counts) vss) qs
             of_row true ks c m among =
-                subst (Contains (map (cut_like (like qs counts)) rows)) (cut_again qs counts ks same m)
+                subst (Contains (map (cut_like (like qs counts)) rows))
+                (cut_again qs counts ks same m)
                 (contains_mapped (cut_like (like qs counts)) rows ks c)
             of_row false ks c m among = chosen qs counts vss same among
 
         by : (none : Bool) → list_all is_none (like qs counts) ≡ none
             → Contains (if none then replicate (length vss) None ∷ []
-            else (if nat_le updates (lists_of (like qs counts)) then map (cut_like (like qs counts)) rows
+            else (if nat_le updates (lists_of (like qs counts))
+            then map (cut_like (like qs counts)) rows
             else choices (like qs counts) vss)) qs
         by true h =
             subst (Contains (replicate (length vss) None ∷ []))
@@ -274,7 +285,8 @@ module _ {K : Type 0} where
             (contains_here (replicate (length vss) None) [])
         by false h = shown (nat_le updates (lists_of (like qs counts))) (sym hidden ∙ h)
 
-    length-covers : (mss : List (List (Option ℕ))) → ((m : List (Option ℕ)) → Contains mss m → IsMasked m counts)
+    length-covers : (mss : List (List (Option ℕ)))
+        → ((m : List (Option ℕ)) → Contains mss m → IsMasked m counts)
         → length (flat_map cover mss) ≤ sum_by (rows_of_grouping updates) mss
     length-covers [] each = omega arith
     length-covers (ms ∷ mss) each =
@@ -309,7 +321,8 @@ module _ {K : Type 0} where
 
 -- ---- groups of keys, no two of them the same
 
-pub few_groups : (s : Shape) (rows vss : List (List KeyValue)) (updates : ℕ) (few : length rows ≤ updates)
+pub few_groups : (s : Shape) (rows vss : List (List KeyValue)) (updates : ℕ)
+    (few : length rows ≤ updates)
     → (groups : List (List (Option KeyValue))) → IsDistinct key_eq groups
     → ((qs : List (Option KeyValue)) → Contains groups qs → (length qs ≡ length vss)
     × (is_grouping s qs ≡ true) × IsOne rows vss updates few qs)

@@ -15,7 +15,7 @@ use Rattle.star_program.specs.World.{World}
 use Rattle.star_safety.specs.Contexts.{Context, at_first, after_op, in_scan, after_scan, at_end}
 use Rattle.star_safety.specs.Refusals.{op_reason, scan_reason}
 use Rattle.star_safety.specs.Private.Forward.{code_puts_to, open_with, none_open, first_reason}
-use Rattle.star_safety.specs.Standing.{Enclosing, CodeItem, Act, Scan, End, Standing, standing, instructions_of, op_puts_to, puts_to, is_open, at_place, reason_among, reason_of, has_scan, in_one_of}
+use Rattle.star_safety.specs.Standing.{Enclosing, CodeItem, Act, Scan, BodyEnd, Standing, standing, instructions_of, op_puts_to, puts_to, is_open, at_place, reason_among, reason_of, has_scan, in_one_of}
 use Rattle.star_safety.specs.Told.{item_scope, scope_of}
 use Rattle.star_safety.proofs.Scopes.{AreBelow, any_with, any_has, EachOf, each_both, each_so, same_any, stand_in}
 use Rattle.star_safety.proofs.Told.{Tells, tells_then, tells_in, tells_after, tells_through, nothing_told}
@@ -85,7 +85,7 @@ below_round n i h = of_item i.item refl
   where
     of_item : (item : CodeItem) → i.item ≡ item → AreBelow n i.round
     of_item (Act op) e = subst (λ t. AreBelow n (item_scope i.number i.round t)) e h
-    of_item End e = subst (λ t. AreBelow n (item_scope i.number i.round t)) e h
+    of_item BodyEnd e = subst (λ t. AreBelow n (item_scope i.number i.round t)) e h
     of_item (Scan table r) e =
         (subst (λ t. AreBelow n (item_scope i.number i.round t)) e h).1
 

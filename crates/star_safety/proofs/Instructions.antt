@@ -191,31 +191,44 @@ module _ (w : World) (catalogue : IsLoaded w) (parts : Parts) (x : Context) (y :
   good_sets t k v p = (agrees_entry w x.known regs t k v agrees p, still, refl)
 
   good_number : (b : Bool) (t : ℕ) (k : Known) (z : ℤ) → b ≡ true → FitsValue w k (Number z)
-      → IsGood w (with_entry x.known t k) (plus_all y no_tallies) s.visits (unless_trap (unless b Overflow) (sets regs s t (Number z)))
+      → IsGood w (with_entry x.known t k) (plus_all y no_tallies) s.visits
+      (unless_trap (unless b Overflow) (sets regs s t (Number z)))
   good_number true t k z e p = good_sets t k (Number z) p
   good_number false t k z e p = absurd (cc)
 
   -- arithmetic
-  good_result : (operation : ℤ → ℤ → ℤ) → KeepsValues operation (corner_range operation) → (t a b : ℕ)
-      → both_fault parts.registers (kinds_known x.known) is_number_kind a b ≡ None → overflow_of w (known_arithmetic operation (x.known a) (x.known b)) ≡ None
-      → IsGood w (with_entry x.known t (known_arithmetic operation (x.known a) (x.known b))) (plus_all y no_tallies) s.visits (sets_answer regs s t (Number (operation (number_read (regs a)) (number_read (regs b)))))
+  good_result : (operation : ℤ → ℤ → ℤ) → KeepsValues operation (corner_range operation)
+      → (t a b : ℕ)
+      → both_fault parts.registers (kinds_known x.known) is_number_kind a b ≡ None
+      → overflow_of w (known_arithmetic operation (x.known a) (x.known b)) ≡ None
+      → IsGood w (with_entry x.known t (known_arithmetic operation (x.known a) (x.known b)))
+      (plus_all y no_tallies) s.visits
+      (sets_answer regs s t (Number (operation (number_read (regs a)) (number_read (regs b)))))
   good_result operation keeps t a b p e =
-      let q = or_none (operand_fault parts.registers (kinds_known x.known) is_number_kind a) (operand_fault parts.registers (kinds_known x.known) is_number_kind b) p in
-      let held = keeps (range_at (x.known a)) (range_at (x.known b)) (number_read (regs a)) (number_read (regs b)) (number_at w parts.registers a x.known regs q.0 agrees).0 (number_at w parts.registers b x.known regs q.1 agrees).0 in
+      let q = or_none (operand_fault parts.registers (kinds_known x.known) is_number_kind a)
+      (operand_fault parts.registers (kinds_known x.known) is_number_kind b) p in
+      let held = keeps (range_at (x.known a)) (range_at (x.known b)) (number_read (regs a))
+      (number_read (regs b)) (number_at w parts.registers a x.known regs q.0 agrees).0
+      (number_at w parts.registers b x.known regs q.1 agrees).0 in
       let z = operation (number_read (regs a)) (number_read (regs b)) in
       let r = corner_range operation (range_at (x.known a)) (range_at (x.known b)) in
       good_number (is_i64 z) t (known_arithmetic operation (x.known a) (x.known b)) z
       (fits_held r z (not_refuses_none (fits_i64 r) _ e) held) (held, tt)
 
-  good_answer : (o : Operator) (t a b : ℕ) → binary_fault parts.registers (kinds_known x.known) o a b ≡ None → overflow_of w (answer_known o (x.known a) (x.known b)) ≡ None
-      → IsGood w (with_entry x.known t (answer_known o (x.known a) (x.known b))) (plus_all y no_tallies) s.visits (sets_answer regs s t (answer_of o (regs a) (regs b)))
+  good_answer : (o : Operator) (t a b : ℕ)
+      → binary_fault parts.registers (kinds_known x.known) o a b ≡ None
+      → overflow_of w (answer_known o (x.known a) (x.known b)) ≡ None
+      → IsGood w (with_entry x.known t (answer_known o (x.known a) (x.known b)))
+      (plus_all y no_tallies) s.visits (sets_answer regs s t (answer_of o (regs a) (regs b)))
   good_answer Add t a b e r = good_result ◌+ℤ◌ sums_held t a b e r
   good_answer Sub t a b e r = good_result ◌-ℤ◌ differences_held t a b e r
   good_answer Mul t a b e r = good_result ◌*ℤ◌ products_held t a b e r
   good_answer Less t a b e r = good_sets t KnownFlag (Flag _) tt
   good_answer _ t a b e r = good_sets t KnownFlag (Flag _) tt
 
-  good_loaded : (b : Bool) (t : ℕ) (c : ColumnId) (n : ℕ) → is_text c ≡ b → n < w.size (table_of c) → IsGood w (with_entry x.known t (loaded_known w c b)) (plus_all y no_tallies) s.visits (sets regs s t (loaded w c n b))
+  good_loaded : (b : Bool) (t : ℕ) (c : ColumnId) (n : ℕ) → is_text c ≡ b → n < w.size (table_of c)
+      → IsGood w (with_entry x.known t (loaded_known w c b)) (plus_all y no_tallies) s.visits
+      (sets regs s t (loaded w c n b))
   good_loaded true t c n e h =
       good_sets t (loaded_known w c true) (Text c (w.code c n)) (refl, catalogue.coded c n e h)
   good_loaded false t c n e h =
@@ -314,24 +327,36 @@ module _ (w : World) (catalogue : IsLoaded w) (parts : Parts) (x : Context) (y :
       → ((g a : ℕ) → pending g ≡ false → AtMost (y g a) (tally_of (x.so_far g a)))
       → ((g a : ℕ) → AtMost (plus (y g a) (op_gain parts x op g a)) (m g a))
       → ((g : ℕ) → tallies_fit (group_at parts g).aggregates 0 (m g) ≡ true)
-      → IsGood w (after_op w parts x op).known (plus_all y (op_gain parts x op)) s.visits (does w parts regs s op)
-  does_good pending (Assign t (Const z)) m e from r closed room fit = good_sets t (known_number (only z)) (Number z) (holds_itself z, tt)
-  does_good pending (Assign t (Edge g c b)) m e from r closed room fit = good_sets t (KnownPlace c) (Place c (edge_of w g c b)) (refl, catalogue.counted g c b)
+      → IsGood w (after_op w parts x op).known (plus_all y (op_gain parts x op)) s.visits
+      (does w parts regs s op)
+  does_good pending (Assign t (Const z)) m e from r closed room fit =
+      good_sets t (known_number (only z)) (Number z) (holds_itself z, tt)
+  does_good pending (Assign t (Edge g c b)) m e from r closed room fit =
+      good_sets t (KnownPlace c) (Place c (edge_of w g c b)) (refl, catalogue.counted g c b)
   does_good pending (Assign t (Load c q)) m e from r closed room fit =
       good_loaded (is_text c) t c (row_read (regs q)) refl
-      (row_fits w (table_of c) (x.known q) (regs q) (unless_none _ _ (or_none (operand_fault parts.registers (kinds_known x.known) is_row_kind q) _ e).1) (agrees q))
+      (row_fits w (table_of c) (x.known q) (regs q)
+      (unless_none _ _ (or_none
+      (operand_fault parts.registers (kinds_known x.known) is_row_kind q) _ e).1) (agrees q))
   does_good pending (Assign t (Find table k)) m e from r closed room fit =
       good_found t table (w.find table (number_read (regs k)))
-      (is_found table (origin_at (x.known k)) (number_read (regs k)) (not_refuses_none _ _ from) (number_at w parts.registers k x.known regs e agrees).1)
+      (is_found table (origin_at (x.known k)) (number_read (regs k)) (not_refuses_none _ _ from)
+      (number_at w parts.registers k x.known regs e agrees).1)
   does_good pending (Assign t (Binary o a b)) m e from r closed room fit = good_answer o t a b e r
-  does_good pending (Assign t (Within q a b)) m e from r closed room fit = good_sets t KnownFlag (Flag _) tt
-  does_good pending (Assign t (Not a)) m e from r closed room fit = good_sets t KnownFlag (Flag _) tt
+  does_good pending (Assign t (Within q a b)) m e from r closed room fit =
+      good_sets t KnownFlag (Flag _) tt
+  does_good pending (Assign t (Not a)) m e from r closed room fit =
+      good_sets t KnownFlag (Flag _) tt
   does_good pending (Assign t (Read g i d)) m e from r closed room fit =
-      good_read t g i (x.so_far g i) (group_at parts g) d (closed g i (refuses_none (pending g) _ from)) (not_refuses_none _ _ r)
+      good_read t g i (x.so_far g i) (group_at parts g) d
+      (closed g i (refuses_none (pending g) _ from)) (not_refuses_none _ _ r)
   does_good pending (Keep k) m e from r closed room fit = good_keeps (flag_read (regs k))
   does_good pending (Put g ks vs) m e from r closed room fit =
-      good_put g ks vs (m g) (or_none (keys_fault parts.registers (kinds_known x.known) (group_at parts g).keys ks) _ e).1
-      (λ a. subst (λ b. AtMost (plus (y g a) (if b then put_tally (group_at parts g) x.known vs a else no_tally)) (m g a)) (eq-eqb g g refl) (room g a)) (fit g)
+      good_put g ks vs (m g) (or_none
+      (keys_fault parts.registers (kinds_known x.known) (group_at parts g).keys ks) _ e).1
+      (λ a. subst (λ b. AtMost
+      (plus (y g a) (if b then put_tally (group_at parts g) x.known vs a else no_tally))
+      (m g a)) (eq-eqb g g refl) (room g a)) (fit g)
 
 -- one instruction of an admissible program
 pub act_good : (w : World) → IsLoaded w
@@ -353,6 +378,8 @@ act_good w catalogue parts x y regs s agrees tallied pending op m e closed room 
     let b = or_none (target_fault parts.registers (target_of op)) _ a.1 in
     let c = or_none again (operands_fault parts (kinds_known x.known) op) b.1 in
     good_unless w (after_op w parts x op).known (plus_all y (op_gain parts x op)) s.visits
-    (fault_of parts x.inside None (kinds_in regs) op) (result_trap w parts regs s op) (effect_of w parts regs s op)
+    (fault_of parts x.inside None (kinds_in regs) op) (result_trap w parts regs s op)
+    (effect_of w parts regs s op)
     (same_fault w parts x.inside again x.known regs op agrees q)
-    (does_good w catalogue parts x y regs s agrees tallied pending op m c.1 known.0 known.1 closed room fit)
+    (does_good w catalogue parts x y regs s agrees tallied pending op m c.1 known.0 known.1 closed
+    room fit)

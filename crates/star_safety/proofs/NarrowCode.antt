@@ -20,7 +20,8 @@ pub first_fits : (parts : Parts) → Fits parts at_first
 first_fits parts =
     record { known = λ r. zero_narrow; each = λ g a. tt }
 
-pub op_fits : (w : World) (parts : Parts) (pending : ℕ → Bool) (x : Context) (op : Op) → Fits parts x
+pub op_fits : (w : World) (parts : Parts) (pending : ℕ → Bool) (x : Context) (op : Op)
+    → Fits parts x
     → op_reason w parts pending x op ≡ None → Fits parts (after_op w parts x op)
 op_fits w parts pending x op fits e =
     after_narrow w parts x op fits
@@ -39,7 +40,8 @@ pub past_fits : (parts : Parts) (x end : Context) → Fits parts x → Fits part
 past_fits parts x end fits ended =
     record { known = fits.known; each = ended.each }
 
-pub end_fits : (w : World) (parts : Parts) (c : Code) (pending : ℕ → Bool) (at : ℕ) (x : Context) → Fits parts x
+pub end_fits : (w : World) (parts : Parts) (c : Code) (pending : ℕ → Bool) (at : ℕ) (x : Context)
+    → Fits parts x
     → first_reason w parts pending x at c ≡ None → Fits parts (at_end w parts x c)
 end_fits w parts Stop pending at x fits e = fits
 end_fits w parts (Then op rest) pending at x fits e =
@@ -51,6 +53,7 @@ end_fits w parts (Each table r body rest) pending at x fits e =
     let p = or_none (at_place at (scan_reason parts x r)) _ e in
     let within = open_with pending (Each table r body rest) in
     let q = or_none (first_reason w parts within inner (at + 1) body) _ p.1 in
-    end_fits w parts rest pending (at + 1 + code_size body) (after_scan x (at_end w parts inner body))
+    end_fits w parts rest pending (at + 1 + code_size body)
+    (after_scan x (at_end w parts inner body))
     (past_fits parts x (at_end w parts inner body) fits
     (end_fits w parts body within (at + 1) inner (in_fits w parts x table r fits) q.0)) q.1

@@ -225,8 +225,10 @@ read_wide Count ss n all many h =
     narrow_wide (hull counts (only n))
     (hull_small (2 ^ 63) counts (only n) (omega arith, omega (arith, many))
     (only_small (2 ^ 63) n h))
-read_wide Min ss n all many h = narrow_wide (hull_with (hull_of ss) (only n)) (extreme_narrow ss n all h)
-read_wide Max ss n all many h = narrow_wide (hull_with (hull_of ss) (only n)) (extreme_narrow ss n all h)
+read_wide Min ss n all many h =
+    narrow_wide (hull_with (hull_of ss) (only n)) (extreme_narrow ss n all h)
+read_wide Max ss n all many h =
+    narrow_wide (hull_with (hull_of ss) (only n)) (extreme_narrow ss n all h)
 
 -- how often an instruction is met, and how many numbers were put before
 pub record Counts (x : Context) : Type 0 where

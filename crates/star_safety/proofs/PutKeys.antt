@@ -140,7 +140,8 @@ in_hull (t ∷ ss) s z c h = (
     of_others None found = absurd (let e = found.1 in cc e)
     of_others (Some q) found =
         holds_hull_left q t.range z
-        (subst (λ s. Holds s z) (sym (let e = found.1 in let same : q ≡ found.0 = cc e in same)) found.2)
+        (subst (λ s. Holds s z) (sym (let e = found.1 in let same : q ≡ found.0 = cc e in same))
+        found.2)
 
 -- ---- an update
 
@@ -155,11 +156,14 @@ abbrev pub IsTextAlone : Option Known → Type 0
 IsTextAlone (Some (KnownText c)) = is_text c ≡ true
 IsTextAlone _ = Unit {0}
 
-key_listed : (w : World) (ss : List Share) (met : ℕ) (declared : GroupKey) (k : Option Known) (v : Option Value)
-    → Contains ss (known_share met k) → kind_fault (fits_key declared) (option_map register_kind v) ≡ None
+key_listed : (w : World) (ss : List Share) (met : ℕ) (declared : GroupKey) (k : Option Known)
+    (v : Option Value)
+    → Contains ss (known_share met k)
+    → kind_fault (fits_key declared) (option_map register_kind v) ≡ None
     → IsTextAlone k → FitsAt w k v → Contains (listed w ss declared) (key_read v)
 key_listed w ss met declared None None c e text h = absurd (cc)
-key_listed w ss met declared.Number (Some (KnownNumber r reach origin)) (Some (Number z)) c e text h =
+key_listed w ss met declared.Number (Some (KnownNumber r reach origin)) (Some (Number z)) c e text
+    h =
     let found = in_hull ss (known_share met (Some (KnownNumber r reach origin))) z c h.0 in
     held_listed (hull_of ss) found.0 z found.1 found.2
 key_listed w ss met (declared.Text c) (Some (KnownText d)) (Some (Text b n)) s e text h =
@@ -172,11 +176,13 @@ key_listed w ss met (declared.Text c) (Some (KnownText d)) (Some (Text b n)) s e
     text_same true p q = column_same c b p
     text_same false p q = absurd (cc)
 
-    in_texts : (b' : Bool) → b' ≡ true → Contains (map key.Code (range_with_len 0 (w.entries c))) (key.Code n)
+    in_texts : (b' : Bool) → b' ≡ true
+        → Contains (map key.Code (range_with_len 0 (w.entries c))) (key.Code n)
         → Contains (if b' then map key.Code (range_with_len 0 (w.entries c)) else []) (key.Code n)
     in_texts true p there = there
     in_texts false p there = absurd (cc)
-key_listed w ss met (declared.Text b) (Some (KnownNumber r reach origin)) (Some (Number z)) c e text h = absurd (cc)
+key_listed w ss met (declared.Text b) (Some (KnownNumber r reach origin)) (Some (Number z)) c e text
+    h = absurd (cc)
 key_listed w ss met declared.Number (Some (KnownText d)) (Some (Text b n)) c e text h = absurd (cc)
 key_listed w ss met _ (Some (KnownPlace d)) (Some (Place b n)) c e text h = absurd (cc)
 key_listed w ss met _ (Some (KnownRow t)) (Some (Row b n)) c e text h = absurd (cc)
@@ -186,7 +192,8 @@ key_listed w ss met _ _ _ c e text h = absurd h
 module _ (w : World) (parts : Parts) where
   keys_listed : (x : Context) (g : ℕ) (regs : Registers) (all : List ℕ)
       → Agrees w x.known regs → ((r : ℕ) → IsTextAlone (x.known r))
-      → ((place : ℕ) → Contains (all_key_shares w parts g place) (known_share x.met (x.known (slice_index_or all place 0))))
+      → ((place : ℕ) → Contains (all_key_shares w parts g place)
+      (known_share x.met (x.known (slice_index_or all place 0))))
       → (declared : List GroupKey) (rs : List ℕ) (place : ℕ) → length rs ≡ length declared
       → ((j : ℕ) → j < length rs → slice_index_or all (place + j) 0 ≡ slice_index_or rs j 0)
       → keys_fault parts.registers (kinds_in regs) declared rs ≡ None
@@ -198,15 +205,19 @@ module _ (w : World) (parts : Parts) where
       let first : slice_index_or all place 0 ≡ r =
       ap (λ n. slice_index_or all n 0) (omega arith) ∙ same 0 (omega arith) in (
         key_listed w (all_key_shares w parts g place) x.met d (x.known r) (regs r)
-            (subst (λ q. Contains (all_key_shares w parts g place) (known_share x.met (x.known q))) first (shares place))
+            (subst (λ q. Contains (all_key_shares w parts g place) (known_share x.met (x.known q)))
+            first (shares place))
             (or_none (unless (nat_lt r parts.registers) BadRegister) _ here.0).1
             (texts r) (agrees r),
         keys_listed x g regs all agrees texts shares ds rs (suc place) (omega (arith, e))
-            (λ j h. ap (λ n. slice_index_or all n 0) (omega arith) ∙ same (suc j) (omega (arith, h)))
+            (λ j h. ap (λ n. slice_index_or all n 0) (omega arith)
+            ∙ same (suc j) (omega (arith, h)))
             here.1,
       )
-  keys_listed x g regs all agrees texts shares [] (r ∷ rs) place e same fine = absurd (omega (arith, e))
-  keys_listed x g regs all agrees texts shares (d ∷ ds) [] place e same fine = absurd (omega (arith, e))
+  keys_listed x g regs all agrees texts shares [] (r ∷ rs) place e same fine =
+      absurd (omega (arith, e))
+  keys_listed x g regs all agrees texts shares (d ∷ ds) [] place e same fine =
+      absurd (omega (arith, e))
 
 -- ---- a run
 
@@ -235,7 +246,8 @@ module _ (w : World) (parts : Parts) (g : ℕ) (vss : List (List KeyValue)) wher
   Leaves (EndsTurn s) = AreListed s
   Leaves (Traps trap) = Unit {0}
 
-  leaves_unless : (o : Option TrapKind) (e : Effect) → (o ≡ None → Leaves e) → Leaves (unless_trap o e)
+  leaves_unless : (o : Option TrapKind) (e : Effect) → (o ≡ None → Leaves e)
+      → Leaves (unless_trap o e)
   leaves_unless None e h = h refl
   leaves_unless (Some trap) e h = tt
 
@@ -250,7 +262,8 @@ module _ (w : World) (parts : Parts) (g : ℕ) (vss : List (List KeyValue)) wher
   listed_more true u us one h = (one refl, h)
   listed_more false u us one h = h
 
-  leaves : (x : Context) (regs : Registers) (s : State) (op : Op) → Agrees w x.known regs → AreListed s
+  leaves : (x : Context) (regs : Registers) (s : State) (op : Op) → Agrees w x.known regs
+      → AreListed s
       → ListsKeys x op → Leaves (act w parts x.inside regs s op)
   leaves x regs s op agrees h lists =
       leaves_unless (trap_of w parts x.inside regs s op) (effect_of w parts regs s op)
@@ -272,16 +285,20 @@ module _ (w : World) (parts : Parts) (g : ℕ) (vss : List (List KeyValue)) wher
       by (Assign t (Not f)) lists fine = h
       by (Assign t (Read k a n)) lists fine = h
 
-  kept_follow : (at : ℕ) (e : Effect) (next : Registers → State → End) (Next : Registers → State → Type 0)
+  kept_follow : (at : ℕ) (e : Effect) (next : Registers → State → End)
+      (Next : Registers → State → Type 0)
       → Onward e Next → Leaves e
-      → ((regs : Registers) (s : State) → Next regs s → AreListed s → EndsWith (next regs s) AreListed)
+      → ((regs : Registers) (s : State) → Next regs s → AreListed s
+      → EndsWith (next regs s) AreListed)
       → EndsWith (follow at e next) AreListed
   kept_follow at (GoesOn regs s) next Next h k go = go regs s h k
   kept_follow at (EndsTurn s) next Next h k go = k
   kept_follow at (Traps trap) next Next h k go = absurd h
 
-  ends_after : (e : End) (next : State → End) (A : State → Type 0) → EndsWith e A → EndsWith e AreListed
-      → ((s : State) → A s → AreListed s → EndsWith (next s) AreListed) → EndsWith (after e next) AreListed
+  ends_after : (e : End) (next : State → End) (A : State → Type 0) → EndsWith e A
+      → EndsWith e AreListed
+      → ((s : State) → A s → AreListed s → EndsWith (next s) AreListed)
+      → EndsWith (after e next) AreListed
   ends_after (Ended s) next A h k go = go s h k
   ends_after (Trapped at trap) next A h k go = absurd h
   ends_after Limited next A h k go = absurd h
@@ -306,7 +323,8 @@ module _ (w : World) (parts : Parts) (g : ℕ) (vss : List (List KeyValue)) wher
       → EndsWith (meaning w parts (λ visits. true) c at x.inside regs s) AreListed
   kept all Stop at x regs s h lists k = k
   kept all (Then op rest) at x regs s h lists k =
-      kept_follow at (act w parts x.inside regs s op) (meaning w parts (λ visits. true) rest (at + 1) x.inside)
+      kept_follow at (act w parts x.inside regs s op)
+      (meaning w parts (λ visits. true) rest (at + 1) x.inside)
       (Throughout w parts all (after_op w parts x op) rest (at + 1)) h.1
       (leaves x regs s op (moment_of w parts all x (Then op rest) at regs s h).registers k lists.0)
       (λ regs' s' h' k'. kept all rest (at + 1) (after_op w parts x op) regs' s' h' lists.1 k')
@@ -317,11 +335,13 @@ module _ (w : World) (parts : Parts) (g : ℕ) (vss : List (List KeyValue)) wher
       ends_scans at (nat_lt r parts.registers) _ (lt-ltb r parts.registers h.1)
       (ends_after (turns (λ visits. true) (w.size t) 0 turn s)
       (meaning w parts (λ visits. true) rest (at + 1 + code_size body) x.inside regs)
-      (Throughout w parts all (after_scan x (at_end w parts inner body)) rest (at + 1 + code_size body) regs)
+      (Throughout w parts all (after_scan x (at_end w parts inner body)) rest
+      (at + 1 + code_size body) regs)
       h.3
       (kept_turns (w.size t) 0 turn _ s h.2 k
       (λ j s' h' k'. kept all body (at + 1) inner (with_entry regs r (Row t j)) s' h' lists.0 k'))
-      (λ s' h' k'. kept all rest (at + 1 + code_size body) (after_scan x (at_end w parts inner body)) regs s' h' lists.1 k'))
+      (λ s' h' k'. kept all rest (at + 1 + code_size body)
+      (after_scan x (at_end w parts inner body)) regs s' h' lists.1 k'))
 
 -- ---- the puts of a program
 
@@ -333,7 +353,8 @@ text_entry known t k q texts here = by (nat_eq q t)
     by true = here
     by false = texts q
 
-text_then : (w : World) (parts : Parts) (x : Context) (op : Op) → ((r : ℕ) → IsTextAlone (x.known r))
+text_then : (w : World) (parts : Parts) (x : Context) (op : Op)
+    → ((r : ℕ) → IsTextAlone (x.known r))
     → (r : ℕ) → IsTextAlone ((after_op w parts x op).known r)
 text_then w parts x (Keep f) texts r = texts r
 text_then w parts x (Put g ks vs) texts r = texts r
@@ -398,12 +419,15 @@ module _ (w : World) (parts : Parts) (g : ℕ) where
       let kinds = (or_none (keys_fault parts.registers (kinds_in regs) (group_at parts h).keys ks)
       (numbers_fault parts.registers (kinds_in regs) vs) operands.1).0 in
       let group : g ≡ h = eqb-true g h same in
-      subst (λ n. KeysAmong (map (λ r. key_read (regs r)) ks) (each_listed w parts g 0 (group_at parts n).keys)) (sym group)
+      subst (λ n. KeysAmong (map (λ r. key_read (regs r)) ks)
+      (each_listed w parts g 0 (group_at parts n).keys)) (sym group)
       (keys_listed w parts x g regs ks agrees texts
       (λ at. given at (key_share x ks at) (put_shares x h ks vs same at))
-      (group_at parts h).keys ks 0 (counted place.0) (λ j lt. ap (λ n. slice_index_or ks n 0) (zero-add j)) kinds)
+      (group_at parts h).keys ks 0 (counted place.0)
+      (λ j lt. ap (λ n. slice_index_or ks n 0) (zero-add j)) kinds)
     where
-      counted : place_fault parts x.inside (Put h ks vs) ≡ None → length ks ≡ length (group_at parts h).keys
+      counted : place_fault parts x.inside (Put h ks vs) ≡ None
+          → length ks ≡ length (group_at parts h).keys
       counted e =
           let parted = and_parts (nat_lt h (length parts.groups)) _ (unless_none _ BadGroup e) in
           let both = and_parts (nat_eq (length ks) (length (group_at parts h).keys)) _ parted.1 in
@@ -427,7 +451,8 @@ module _ (w : World) (parts : Parts) (g : ℕ) where
   all_listed (Each t r body rest) x texts given =
       let inner = in_scan w x t r in
       let next = after_scan x (at_end w parts inner body) in (
-        all_listed body inner (λ q. text_entry x.known r (KnownRow t) q texts tt) (λ place s h. given place s (keys_stay w parts next rest g place s h)),
+        all_listed body inner (λ q. text_entry x.known r (KnownRow t) q texts tt)
+            (λ place s h. given place s (keys_stay w parts next rest g place s h)),
         all_listed rest next texts given,
       )
 

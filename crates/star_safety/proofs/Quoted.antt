@@ -23,9 +23,11 @@ module _ (size : TableId → ℕ) (small : (t : TableId) → size t < 2 ^ 32) wh
   turns_within (Then op rest) times deep =
       let later = turns_within rest times deep in omega (arith, later)
   turns_within (Each table r body rest) times deep =
-      let below = body_nested (2 ^ 32) (2 ^ 96) times (size table) table r body rest (small table) deep in
+      let below = body_nested (2 ^ 32) (2 ^ 96) times (size table) table r body rest (small table)
+      deep in
       let inside = turns_within body (times * size table) below in
-      let turns = met_within (2 ^ 32) (2 ^ 96) (times * size table) (scan_depth body) (omega arith) below in
+      let turns = met_within (2 ^ 32) (2 ^ 96) (times * size table) (scan_depth body) (omega arith)
+      below in
       let later = turns_within rest times
       (rest_nested (2 ^ 32) (2 ^ 96) times table r body rest (omega arith) deep) in
       omega (arith, inside, turns, later)
@@ -47,7 +49,8 @@ quoted w most parts visits = of_cost _
     of_report (Some place) e = absurd (cc)
 
     of_reason : (reason : Option (ℕ × Reason)) (shown : Option ℕ)
-        → option_or (option_map Refused reason) (option_map BadShow shown) ≡ Some (TooCostly visits) → ⊥
+        → option_or (option_map Refused reason) (option_map BadShow shown) ≡ Some (TooCostly visits)
+        → ⊥
     of_reason None shown e = of_report shown e
     of_reason (Some reason) shown e = absurd (cc)
 

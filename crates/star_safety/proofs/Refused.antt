@@ -21,7 +21,8 @@ pub is_admissible : (w : World) (most : ℕ) (parts : Parts) → first_refusal w
 is_admissible w most parts e =
     let p = or_none (cost_refusal (quote w.size parts) (nat_le (quote w.size parts) most)) _
     e in
-    let q = or_none (option_map Refused (first_answer (reason_of w parts) (instructions_of w parts))) _ p.1 in (
+    let q = or_none (option_map Refused
+    (first_answer (reason_of w parts) (instructions_of w parts))) _ p.1 in (
       record {
         instructions = all_without_answer (reason_of w parts) (instructions_of w parts)
             (unmapped_none Refused _ q.0);

@@ -65,7 +65,8 @@ key_itself (Some a) = value_itself a
 
 keys_itself : IsNever (slice_cmp (key_cmp value_cmp))
 keys_itself [] = refl
-keys_itself (k ∷ ks) = ap (λ o. ordering_then o (slice_cmp (key_cmp value_cmp) ks ks)) (key_itself k) ∙ keys_itself ks
+keys_itself (k ∷ ks) = ap (λ o. ordering_then o (slice_cmp (key_cmp value_cmp) ks ks))
+    (key_itself k) ∙ keys_itself ks
 
 total_itself : IsNever total_cmp
 total_itself None = refl
@@ -84,7 +85,8 @@ sort_itself sort row = by sort.column sort.direction
 row_itself : (sorts : List SortKey) → IsNever (row_cmp value_cmp sorts)
 row_itself [] row = keys_itself row.keys
 row_itself (sort ∷ sorts) row =
-    ap (λ o. ordering_then o (row_cmp value_cmp sorts row row)) (sort_itself sort row) ∙ row_itself sorts row
+    ap (λ o. ordering_then o (row_cmp value_cmp sorts row row)) (sort_itself sort row)
+    ∙ row_itself sorts row
 
 -- ---- no two groups of a report have the same keys
 
@@ -129,11 +131,13 @@ module _ (w : World) (parts : Parts) (us : List Update) (rows : List (GroupRow V
               (inside found.0 (contains_later g groups found.0 found.1))
               ((key_decides g.keys ks).0 e ∙ sym found.2) in
               let before : row_cmp value_cmp parts.sorts (row g) (row found.0) ≡ Less =
-              at_each (λ z. row_cmp value_cmp parts.sorts (row g) z ≡ Less) (map row groups) (row found.0)
+              at_each (λ z. row_cmp value_cmp parts.sorts (row g) z ≡ Less) (map row groups)
+              (row found.0)
               sorted.0 (contains_mapped row groups found.0 found.1) in
               let itself : row_cmp value_cmp parts.sorts (row g) (row g) ≡ Less =
               subst (λ h. row_cmp value_cmp parts.sorts (row g) (row h) ≡ Less) (sym same) before in
-              absurd (true≢false (sym (ap is_lt itself) ∙ ap is_lt (row_itself parts.sorts (row g))))
+              absurd (true≢false (sym (ap is_lt itself)
+              ∙ ap is_lt (row_itself parts.sorts (row g))))
 
 -- ---- the keys of a group of listed updates
 
@@ -150,7 +154,8 @@ masked_among [] [] (vs ∷ vss) m h = absurd h
 masked_among (None ∷ qs) (k ∷ ks) [] m h = absurd h
 masked_among (Some q ∷ qs) (k ∷ ks) [] m h = absurd h
 
-length-masked : (qs : List (Option KeyValue)) (ks : List KeyValue) → IsMasked qs ks → length qs ≡ length ks
+length-masked : (qs : List (Option KeyValue)) (ks : List KeyValue) → IsMasked qs ks
+    → length qs ≡ length ks
 length-masked [] [] m = refl
 length-masked (None ∷ qs) (k ∷ ks) m = ap suc (length-masked qs ks m)
 length-masked (Some q ∷ qs) (k ∷ ks) m = ap suc (length-masked qs ks m.1)
@@ -158,7 +163,8 @@ length-masked [] (k ∷ ks) m = absurd m
 length-masked (None ∷ qs) [] m = absurd m
 length-masked (Some q ∷ qs) [] m = absurd m
 
-length-among : (ks : List KeyValue) (vss : List (List KeyValue)) → KeysAmong ks vss → length ks ≡ length vss
+length-among : (ks : List KeyValue) (vss : List (List KeyValue)) → KeysAmong ks vss
+    → length ks ≡ length vss
 length-among [] [] h = refl
 length-among (k ∷ ks) (vs ∷ vss) h = ap suc (length-among ks vss h.1)
 length-among [] (vs ∷ vss) h = absurd h
@@ -167,7 +173,8 @@ length-among (k ∷ ks) [] h = absurd h
 length-each_listed : (w : World) (parts : Parts) (g place : ℕ) (keys : List GroupKey)
     → length (each_listed w parts g place keys) ≡ length keys
 length-each_listed w parts g place [] = refl
-length-each_listed w parts g place (key ∷ keys) = ap suc (length-each_listed w parts g (suc place) keys)
+length-each_listed w parts g place (key ∷ keys) =
+    ap suc (length-each_listed w parts g (suc place) keys)
 
 -- ---- the rows of a report
 
@@ -218,7 +225,8 @@ module _ (w : World) (parts : Parts) where
       (distinct w parts us rows are are.groups (λ g c. c)
       (subst (IsStrictlySortedBy (row_cmp value_cmp parts.sorts)) are.decoded are.in_order))
       (λ qs c. let found = from_contains_map (λ g. g.keys) are.groups qs c in
-      subst (λ ks. (length ks ≡ length values) × (is_grouping d.shape ks ≡ true) × IsOne keys values most few' ks)
+      subst (λ ks. (length ks ≡ length values) × (is_grouping d.shape ks ≡ true)
+      × IsOne keys values most few' ks)
       found.2 (one_of_them us few' listed found.0.keys (are.each_group.each found.0 found.1).0)) in
       let whole : rows_of_groupings d.shape most (sizes values) ≡ most_report_rows w parts =
       ap (rows_of_groupings d.shape most) (sizes_are w parts parts.report 0 d.keys) in
@@ -239,7 +247,8 @@ module _ (w : World) (parts : Parts) where
   both_ends (Trapped at trap) A B h k = h
   both_ends Limited A B h k = h
 
-  ends_more : (e : End) (A B : State → Type 0) → ((s : State) → A s → B s) → EndsWith e A → EndsWith e B
+  ends_more : (e : End) (A B : State → Type 0) → ((s : State) → A s → B s) → EndsWith e A
+      → EndsWith e B
   ends_more (Ended s) A B f h = f s h
   ends_more (Trapped at trap) A B f h = h
   ends_more Limited A B f h = h
@@ -249,14 +258,17 @@ module _ (w : World) (parts : Parts) where
   ends_unshown None go Done e h = h
   ends_unshown (Some place) go Done e h = absurd (cc)
 
-  listed_end : IsAccepted w parts → EndsWith (run_of w parts) (AreListed w parts parts.report values)
+  listed_end : IsAccepted w parts
+      → EndsWith (run_of w parts) (AreListed w parts parts.report values)
   listed_end accepted =
       ends_unshown (shown_fault parts) _ _ accepted.admissible.report
-      (kept w parts parts.report values (all_shares w parts) parts.body 1 at_first no_registers empty_state
+      (kept w parts parts.report values (all_shares w parts) parts.body 1 at_first no_registers
+      empty_state
       (accepted_throughout w parts accepted)
       (all_listed w parts parts.report parts.body at_first (λ r. tt) (λ place s h. h)) tt)
 
-  few_end : IsAccepted w parts → EndsWith (run_of w parts) (λ s. length (s.updates_of parts.report) ≤ most)
+  few_end : IsAccepted w parts
+      → EndsWith (run_of w parts) (λ s. length (s.updates_of parts.report) ≤ most)
   few_end accepted =
       ends w parts (λ visits. true) accepted (λ k h. refl) _
       (λ s tallied visits. omega (

@@ -9,7 +9,7 @@ use Rattle.star_program.specs.declared.program.Parts.{Parts}
 use Rattle.star_program.specs.Code.{Code, Stop, Then, Each, code_size}
 use Rattle.star_program.specs.World.{World}
 use Rattle.star_safety.specs.Contexts.{Context, after_op, in_scan, after_scan, at_end}
-use Rattle.star_safety.specs.Standing.{CodeItem, Scan, Act, End, Enclosing, Standing, standing, has_scan}
+use Rattle.star_safety.specs.Standing.{CodeItem, Scan, Act, BodyEnd, Enclosing, Standing, standing, has_scan}
 use Rattle.star_safety.specs.Told.{writes_to, item_scope, scope_of, is_in_scope, last_writer}
 
 -- ---- scans by their numbers
@@ -156,7 +156,7 @@ scoped_in w parts c round x at n h =
         → has_scan (item_scope at round i) n ≡ true
     by at round (Scan table r) h = or_right (nat_eq at n) (has_scan round n) h
     by at round (Act op) h = h
-    by at round End h = h
+    by at round BodyEnd h = h
 
 -- in scans whose numbers are below the next one after the code
 pub scoped_below : (w : World) (parts : Parts) (c : Code) (round : List Enclosing) (x : Context)
@@ -229,7 +229,8 @@ pub last_past : (scans : List Enclosing) (r : ℕ) (xs ys : List Standing)
 last_past scans r xs ys h =
     ap (last_or None)
     (filter-append (λ j. writes_to r j && is_in_scope scans j) xs ys
-    ∙ ap (λ js. filter (λ j. writes_to r j && is_in_scope scans j) xs ++ js) (no_writer scans r ys h)
+    ∙ ap (λ js. filter (λ j. writes_to r j && is_in_scope scans j) xs ++ js)
+    (no_writer scans r ys h)
     ∙ append-nil (filter (λ j. writes_to r j && is_in_scope scans j) xs))
 
 -- nor do scans of later numbers

@@ -91,9 +91,11 @@ corner_small operation n m k keeps a b p q =
     hull_small k (hull (only (operation a.low b.low)) (only (operation a.low b.high)))
     (hull (only (operation a.high b.low)) (only (operation a.high b.high)))
     (hull_small k (only (operation a.low b.low)) (only (operation a.low b.high))
-    (only_small k (operation a.low b.low) (keeps a.low b.low p.0 q.0)) (only_small k (operation a.low b.high) (keeps a.low b.high p.0 q.1)))
+    (only_small k (operation a.low b.low) (keeps a.low b.low p.0 q.0))
+    (only_small k (operation a.low b.high) (keeps a.low b.high p.0 q.1)))
     (hull_small k (only (operation a.high b.low)) (only (operation a.high b.high))
-    (only_small k (operation a.high b.low) (keeps a.high b.low p.1 q.0)) (only_small k (operation a.high b.high) (keeps a.high b.high p.1 q.1)))
+    (only_small k (operation a.high b.low) (keeps a.high b.low p.1 q.0))
+    (only_small k (operation a.high b.high) (keeps a.high b.high p.1 q.1)))
 
 pub widened_small : (n : ℕ) (r : Range) → Small n r → Small n (widened r)
 widened_small n r p = hull_small n r (only (pos 0)) p (only_small n (pos 0) (omega arith))

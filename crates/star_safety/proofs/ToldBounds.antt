@@ -108,9 +108,11 @@ op_told w parts pending x op r columns fits counts named bounds e =
     ⊎_elim (λ h. absurd (faulty_no_range _ r columns h))
     (λ h. ⊎_elim (λ k. absurd (source_no_range pending x op r columns k))
     (λ k. range_told w parts x op r columns fits counts named bounds k.1)
-    (either_first (source_reason pending x op) (range_reason w parts x op) (Overflow r.low r.high columns) h.1))
+    (either_first (source_reason pending x op) (range_reason w parts x op)
+    (Overflow r.low r.high columns) h.1))
     (either_first (kind_reason parts x op)
-    (option_or (source_reason pending x op) (range_reason w parts x op)) (Overflow r.low r.high columns) e)
+    (option_or (source_reason pending x op) (range_reason w parts x op))
+    (Overflow r.low r.high columns) e)
 
 -- ---- how many numbers are put
 
@@ -193,7 +195,8 @@ module _ (w : World) (parts : Parts)
       (λ g a. let b = many g a in
       let inside = end_count w parts body inner (omega (arith, room)) g a in
       omega (arith, b, inside)) n r columns k.1)
-      (either_first (first_reason w parts within inner (at + 1) body) _ (n, Overflow r.low r.high columns) h.1))
+      (either_first (first_reason w parts within inner (at + 1) body) _
+      (n, Overflow r.low r.high columns) h.1))
       (either_first (at_place at (scan_reason parts x q)) _ (n, Overflow r.low r.high columns) e)
 
 pub refused_instruction : (w : World) (most : ℕ) (parts : Parts) (refused : ℕ × Reason)

@@ -228,7 +228,8 @@ module _ (w : World) (parts : Parts)
 
   overflow_found : (k : Known) → AreNumbers (reach_at (Some k)) → Found (overflow_of w k)
   overflow_found (KnownNumber r reach origin) h =
-      refused_found (not (fits_i64 r)) (Overflow r.low r.high (reached w reach)) (reached_fit reach h)
+      refused_found (not (fits_i64 r)) (Overflow r.low r.high (reached w reach))
+      (reached_fit reach h)
   overflow_found (KnownText c) h = tt
   overflow_found (KnownPlace c) h = tt
   overflow_found (KnownRow t) h = tt
@@ -255,7 +256,8 @@ module _ (w : World) (parts : Parts)
       → IfSome (first_reason w parts pending x at c) (λ refused. Tells refused.1)
   first_found Stop pending at x h = tt
   first_found (Then op rest) pending at x h =
-      either_of (λ refused. Tells refused.1) (at_place at (op_reason w parts (open_with pending rest) x op))
+      either_of (λ refused. Tells refused.1)
+      (at_place at (op_reason w parts (open_with pending rest) x op))
       (first_reason w parts pending (after_op w parts x op) (at + 1) rest)
       (placed_found at _ (op_found (open_with pending rest) x op h))
       (first_found rest pending (at + 1) (after_op w parts x op) (after_reaches w parts x op h))
@@ -277,6 +279,7 @@ pub told_columns_fit : (w : World) (most : ℕ) (parts : Parts) (at : ℕ) (low 
     → first_refusal w most parts ≡ Some (Refused (at, Overflow low high columns)) → Fit columns
 told_columns_fit w most parts at low high columns are e =
     subst (λ o. IfSome o (λ refused. Tells refused.1))
-    (first_standing w parts ∙ (refused_instruction w most parts (at, Overflow low high columns) e).1)
+    (first_standing w parts ∙ (refused_instruction w most parts (at, Overflow low high columns)
+    e).1)
     (first_found w parts are.bounds parts.body none_open 1 at_first
     (record { known = λ q. none_numbers; puts = λ g a. none_numbers }))

@@ -129,24 +129,29 @@ row_undeclared h = let p = h.1 in omega (arith, p)
 
 -- a scan of the dates, of which each turn makes a number, and a number behind it
 abbrev each_date : Parts
-each_date = over [] (Each Date 0 (acts (const 1 (pos 7) ∷ []) Stop) (acts (const 2 (pos 9) ∷ []) Stop))
+each_date = over [] (Each Date 0 (acts (const 1 (pos 7) ∷ []) Stop)
+    (acts (const 2 (pos 9) ∷ []) Stop))
 
 abbrev visits : ℕ → State
 visits n = record empty_state { visits = n }
 
 -- the second turn begins with its own row alone, and is counted
-second_turn : IsMet sample each_date (moment (in_scan sample at_first Date 0) (acts (const 1 (pos 7) ∷ []) Stop) 2
+second_turn : IsMet sample each_date
+    (moment (in_scan sample at_first Date 0) (acts (const 1 (pos 7) ∷ []) Stop) 2
     (with_entry no_registers 0 (Row Date 1)) (visits 2))
 second_turn =
-    in_turn at_first Date 0 (acts (const 1 (pos 7) ∷ []) Stop) (acts (const 2 (pos 9) ∷ []) Stop) 1 no_registers
+    in_turn at_first Date 0 (acts (const 1 (pos 7) ∷ []) Stop) (acts (const 2 (pos 9) ∷ []) Stop) 1
+    no_registers
     empty_state (visits 1) 1 itself (omega arith) (omega arith) refl
 
 -- behind the scan the registers are those before it, and its turns are counted
 behind_its_scan : IsMet sample each_date (moment
-    (after_scan at_first (at_end sample each_date (in_scan sample at_first Date 0) (acts (const 1 (pos 7) ∷ []) Stop)))
+    (after_scan at_first (at_end sample each_date (in_scan sample at_first Date 0)
+    (acts (const 1 (pos 7) ∷ []) Stop)))
     (acts (const 2 (pos 9) ∷ []) Stop) 3 no_registers (visits 3))
 behind_its_scan =
-    behind_scan at_first Date 0 (acts (const 1 (pos 7) ∷ []) Stop) (acts (const 2 (pos 9) ∷ []) Stop) 1 no_registers
+    behind_scan at_first Date 0 (acts (const 1 (pos 7) ∷ []) Stop)
+    (acts (const 2 (pos 9) ∷ []) Stop) 1 no_registers
     empty_state (visits 3) itself (omega arith) refl
 
 -- behind an instruction that traps nothing is met
@@ -166,9 +171,11 @@ nothing_behind_a_trap m itself = refl
 nothing_behind_a_trap m (behind x op rest at before after s t earlier goes) =
     let was : moment x (Then op rest) at before s ≡ first_moment flagless =
     nothing_behind_a_trap (moment x (Then op rest) at before s) earlier in
-    let acts_so : act sample flagless x.inside before s op ≡ acted (first_moment flagless) = ap acted was in
+    let acts_so : act sample flagless x.inside before s op ≡ acted (first_moment flagless) =
+    ap acted was in
     let bad : ⊥ = cc in absurd bad
-nothing_behind_a_trap m (in_turn x table r body rest at registers s t row earlier declared lt turned) =
+nothing_behind_a_trap m (in_turn x table r body rest at registers s t row earlier declared lt
+    turned) =
     let was : moment x (Each table r body rest) at registers s ≡ first_moment flagless =
     nothing_behind_a_trap (moment x (Each table r body rest) at registers s) earlier in
     let code : Each table r body rest ≡ flagless.body = ap (λ k. k.left) was in
@@ -229,7 +236,8 @@ no_greater_count : SumsFit vast
 no_greater_count h = let p = h.counts 0 0 in omega (arith, p)
 
 -- no turn begins where none is quoted
-no_more_turns : (known : AllKnown) (regs : Registers) → IsMoment sample (two_puts (pos 1)) no_shares known regs
+no_more_turns : (known : AllKnown) (regs : Registers)
+    → IsMoment sample (two_puts (pos 1)) no_shares known regs
     (record empty_state { visits = 1 }) → ⊥
 no_more_turns known regs h = let p = h.visits in omega (arith, p)
 

@@ -9,8 +9,13 @@ use Rattle.star_program.specs.TrapTexts.{wrong_text}
 use Rattle.star_safety.specs.declared.reason.Reason.TheVariants.{Faulty, NotAForeignKey, OpenGroup, Overflow}
 use Rattle.star_safety.specs.ReasonTexts.{bounds_text, reason_text}
 
-reason_words : map reason_text (Faulty BadRegister ∷ Faulty WrittenTwice ∷ Faulty Unset ∷ Faulty WrongKind ∷ Faulty BadColumn ∷ NotAForeignKey ∷ Faulty BadGroup ∷ OpenGroup ∷ Faulty Misplaced ∷ Overflow (pos 0) (pos 0) [] ∷ [])
-    ≡ codes "60 BadRegister" ∷ codes "61 WrittenTwice" ∷ codes "62 Unset" ∷ codes "63 WrongKind" ∷ codes "64 BadColumn" ∷ codes "65 NotAForeignKey" ∷ codes "66 BadGroup" ∷ codes "67 OpenGroup" ∷ codes "68 Misplaced" ∷ codes "69 Overflow" ∷ []
+reason_words : map reason_text
+    (Faulty BadRegister ∷ Faulty WrittenTwice ∷ Faulty Unset ∷ Faulty WrongKind ∷ Faulty BadColumn
+    ∷ NotAForeignKey ∷ Faulty BadGroup ∷ OpenGroup ∷ Faulty Misplaced ∷ Overflow (pos 0) (pos 0) []
+    ∷ [])
+    ≡ codes "60 BadRegister" ∷ codes "61 WrittenTwice" ∷ codes "62 Unset" ∷ codes "63 WrongKind"
+    ∷ codes "64 BadColumn" ∷ codes "65 NotAForeignKey" ∷ codes "66 BadGroup"
+    ∷ codes "67 OpenGroup" ∷ codes "68 Misplaced" ∷ codes "69 Overflow" ∷ []
 unfolding reason_text wrong_text digits
 reason_words = refl
 

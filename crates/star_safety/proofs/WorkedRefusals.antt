@@ -44,13 +44,16 @@ widest_price = record sample { bounds = widest_bounds }
 abbrev first_lines : Code → Parts
 first_lines behind = program 10 (plain (aggregate.Sum ∷ []) ∷ []) 0
     (Each Lineorder 0
-    (assign 1 (operation.Load LoLinenumber 0) (assign 2 (operation.Const (pos 1)) (assign 3 (operation.Binary operator.Equal 1 2) (Then (op.Keep 3)
+    (assign 1 (operation.Load LoLinenumber 0)
+    (assign 2 (operation.Const (pos 1))
+    (assign 3 (operation.Binary operator.Equal 1 2) (Then (op.Keep 3)
     (assign 4 (operation.Load LoExtendedprice 0) (Then (op.Put 0 [] (4 ∷ [])) Stop)))))) behind)
 
 -- and of all lines
 abbrev all_lines : Code → Parts
 all_lines behind = program 10 (plain (aggregate.Sum ∷ []) ∷ []) 0
-    (Each Lineorder 0 (assign 1 (operation.Load LoExtendedprice 0) (Then (op.Put 0 [] (1 ∷ [])) Stop)) behind)
+    (Each Lineorder 0 (assign 1 (operation.Load LoExtendedprice 0)
+    (Then (op.Put 0 [] (1 ∷ [])) Stop)) behind)
 
 -- the sum is read
 abbrev reads_it : Code
@@ -58,7 +61,8 @@ reads_it = assign 5 (operation.Read 0 0 (pos 0)) Stop
 
 abbrev squared_price : Parts
 squared_price = program 10 (plain (aggregate.Sum ∷ []) ∷ []) 0
-    (Each Lineorder 0 (assign 1 (operation.Load LoExtendedprice 0) (assign 2 (operation.Binary operator.Mul 1 1) (Then (op.Put 0 [] (2 ∷ [])) Stop))) Stop)
+    (Each Lineorder 0 (assign 1 (operation.Load LoExtendedprice 0)
+    (assign 2 (operation.Binary operator.Mul 1 1) (Then (op.Put 0 [] (2 ∷ [])) Stop))) Stop)
 
 -- ---- refusals
 

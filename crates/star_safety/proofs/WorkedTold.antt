@@ -30,7 +30,8 @@ rows_known : map (standing_result sample nested) (filter (writes_to 2) all) ≡ 
 rows_known = refl
 
 -- the put gives each of its two aggregates one range, and nothing to another group
-given_together : length (shares_together nested all 0 1) ∷ length (shares_together nested all 1 0) ∷ [] ≡ 1 ∷ 0 ∷ []
+given_together : length (shares_together nested all 0 1) ∷ length (shares_together nested all 1 0)
+    ∷ [] ≡ 1 ∷ 0 ∷ []
 given_together = refl
 
 rows_round : map (λ i. rows_together sample i.round) all ≡ 1 ∷ 3 ∷ 3 ∷ 6 ∷ 6 ∷ 3 ∷ 1 ∷ []
@@ -49,5 +50,6 @@ writers : map (λ i. number_of (last_writer i.round 1 all)) all ≡ 0 ∷ 2 ∷ 
 writers = refl
 
 -- a COUNT is given 1
-count_given : put_known (plain (Count ∷ Sum ∷ [])) (λ r. Some (KnownRow Date)) (3 ∷ []) ≡ Some (known_number (only (pos 1))) ∷ Some (KnownRow Date) ∷ []
+count_given : put_known (plain (Count ∷ Sum ∷ [])) (λ r. Some (KnownRow Date)) (3 ∷ [])
+    ≡ Some (known_number (only (pos 1))) ∷ Some (KnownRow Date) ∷ []
 count_given = refl

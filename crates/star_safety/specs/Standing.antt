@@ -18,7 +18,7 @@ pub data CodeItem : Type 0 where
   -- an instruction of another kind
   Act : Op → CodeItem
   -- the end of a scan's body or of the program: no instruction, and without a number of its own
-  End : CodeItem
+  BodyEnd : CodeItem
 
 -- a scan round an instruction
 pub record Enclosing : Type 0 where
@@ -36,7 +36,7 @@ pub record Standing : Type 0 where
 -- the instructions of some code, each body with its end
 abbrev pub standing : World → Parts → List Enclosing → Context → ℕ → Code → List Standing
 standing w parts round x at Stop =
-    record { number = at; round = round; context = x; item = End } ∷ []
+    record { number = at; round = round; context = x; item = BodyEnd } ∷ []
 standing w parts round x at (Then op rest) =
     record { number = at; round = round; context = x; item = Act op }
     ∷ standing w parts round (after_op w parts x op) (at + 1) rest
@@ -81,7 +81,7 @@ is_open all i g =
 abbrev pub item_reason : World → Parts → (ℕ → Bool) → Context → CodeItem → Option Reason
 item_reason w parts pending x (Act op) = op_reason w parts pending x op
 item_reason w parts pending x (Scan table r) = scan_reason parts x r
-item_reason w parts pending x End = None
+item_reason w parts pending x BodyEnd = None
 
 abbrev pub at_place : {A : Type 0} → ℕ → Option A → Option (ℕ × A)
 at_place at None = None

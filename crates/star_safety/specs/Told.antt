@@ -8,12 +8,12 @@ use Rattle.star_program.specs.Faults.{target_of}
 use Rattle.star_safety.specs.Ranges.{Known, KnownRow, KnownFlag}
 use Rattle.star_safety.specs.Tallies.{Shares, no_shares}
 use Rattle.star_safety.specs.Contexts.{Context, op_shares, op_key_shares, result_known, is_target}
-use Rattle.star_safety.specs.Standing.{CodeItem, Scan, Act, End, Enclosing, Standing, instructions_of, has_scan}
+use Rattle.star_safety.specs.Standing.{CodeItem, Scan, Act, BodyEnd, Enclosing, Standing, instructions_of, has_scan}
 
 -- ---- each instruction
 
 abbrev item_is_instruction : CodeItem → Bool
-item_is_instruction End = false
+item_is_instruction BodyEnd = false
 item_is_instruction _ = true
 
 abbrev pub is_instruction : Standing → Bool
@@ -22,7 +22,7 @@ is_instruction i = item_is_instruction i.item
 abbrev item_target : CodeItem → Option ℕ
 item_target (Act op) = target_of op
 item_target (Scan table r) = Some r
-item_target End = None
+item_target BodyEnd = None
 
 -- it writes a register
 abbrev pub writes_to : ℕ → Standing → Bool
@@ -31,7 +31,7 @@ writes_to r i = is_target (item_target i.item) r
 abbrev item_result : World → Parts → Context → CodeItem → Known
 item_result w parts x (Act op) = result_known w parts x op
 item_result w parts x (Scan table r) = KnownRow table
-item_result w parts x End = KnownFlag
+item_result w parts x BodyEnd = KnownFlag
 
 -- what is then known of that register
 abbrev pub standing_result : World → Parts → Standing → Known

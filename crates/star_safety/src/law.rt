@@ -2,18 +2,20 @@
 
 ghost use Rattle.std.specs.List.{last_or, sum_by};
 ghost use Rattle.std.specs.Option.{option_map};
-ghost use Rattle.std.specs.Prelude.{◌≡◌, ◌↔◌, ◌≤◌, ◌<◌, ◌^◌, ◌∷◌, ℕ, ℤ, All, List, None, Some, length, true};
+ghost use Rattle.std.specs.Prelude.{◌≡◌, ◌↔◌, ◌≤◌, ◌<◌, ◌^◌, ◌∷◌, ℕ, ℤ, All, List, None, Option, Some, length, true};
 ghost use Rattle.star_common.specs.First.{first_answer};
 ghost use Rattle.star_schema.specs.declared.table.TableId.{TableId};
-ghost use Rattle.star_interval.specs.Range.{FitsI64, FitsI128};
+ghost use Rattle.star_schema.specs.declared.column.ColumnId.{ColumnId};
+ghost use Rattle.star_interval.specs.Range.{FitsI64, FitsI128, Range};
 ghost use Rattle.star_program.specs.declared.op.Op.TheVariants.{Put};
 ghost use Rattle.star_program.specs.declared.program.Parts.{Parts};
 ghost use Rattle.star_program.specs.Code.{Code, Then};
 ghost use Rattle.star_program.specs.Effects.{GoesOn, State, act, update_of};
-ghost use Rattle.star_program.specs.Faults.{group_at};
+ghost use Rattle.star_program.specs.Faults.{group_at, is_number_kind};
 ghost use Rattle.star_program.specs.Limits.{IsWithinLimits};
 ghost use Rattle.star_program.specs.Outcome.{IsOutcome};
 ghost use Rattle.star_program.specs.declared.outcome.Outcome.{Outcome};
+ghost use Rattle.star_program.specs.Reads.{IsTaken};
 ghost use Rattle.star_program.specs.Run.{EndsWith, bounded_run_of, meaning_of, run_of};
 ghost use Rattle.star_program.specs.Values.{Registers};
 ghost use Rattle.star_program.specs.World.{World};
@@ -30,6 +32,7 @@ ghost use Rattle.star_safety.specs.Private.Forward.{first_reason, none_open};
 ghost use Rattle.star_safety.specs.Private.Throughout.{HoldsThroughout};
 ghost use Rattle.star_safety.specs.declared.reason.Reached.{Reached};
 ghost use Rattle.star_safety.specs.declared.reason.Reason.TheVariants.{Overflow};
+ghost use Rattle.star_safety.specs.Ranges.{Known, KnownNumber, Reach, known_kind};
 ghost use Rattle.star_safety.specs.Standing.{instructions_of, reason_of};
 ghost use Rattle.star_safety.specs.Tallies.{Shares};
 ghost use Rattle.star_safety.specs.Told.{AreTold, turns_of};
@@ -54,9 +57,9 @@ pub fn admissible_programs_never_trap()
         → IsAccepted w parts → EndsWith (run_of w parts) (TotalsLie w parts) }
 {}
 
-/// Where a run goes on behind a put, and that holds of every moment that it meets, the updates of its
-/// group with this one are such as a store asks for: the sums of each key list add up within 128
-/// bits, and the counts within 64.
+/// Where a run goes on after a put, and that holds of every moment that it meets, the updates of
+/// its group with this one are such as a store asks for: the sums of each key list add up within
+/// 128 bits, and the counts within 64.
 pub fn each_put_has_room()
     ensures { (w : World) (parts : Parts) (all : Shares) (first : Moment) (x : Context)
         (group : ℕ) (keys values : List ℕ) (rest : Code) (at : ℕ) (before after : Registers)
@@ -76,7 +79,7 @@ pub fn a_bound_of_the_quote_never_stops_a_run()
 {}
 
 /// A quote is the sum, over the scans of a program, of the rows of each times those of the scans
-/// round it.
+/// around it.
 pub fn a_quote_is_the_sum_over_the_scans()
     ensures { (w : World) (parts : Parts)
         → quote w.size parts ≡ sum_by (turns_of w) (instructions_of w parts) }
@@ -129,14 +132,14 @@ pub fn admissible_programs_within_the_limit_are_not_refused()
         ↔ (IsAdmissible w parts × (quote w.size parts ≤ most)) }
 {}
 
-/// The context of each instruction is told by the scans round it and the instructions before it,
+/// The context of each instruction is told by the scans around it and the instructions before it,
 /// and so is what stands at the end of each body.
 ///
 /// Instructions are numbered in the order of the text. What is known of a register is what the last
 /// instruction before that writes it in scope makes, and where there is none nothing is known; what
-/// is written is in scope where all scans stand round that stand round its instruction, and a
+/// is written is in scope where all scans stand around that stand around its instruction, and a
 /// scan's row in the scan. What was put is told by the puts before, with how often each is met: the
-/// product of the row counts of the scans round it. The last of the contexts is that at the end of
+/// product of the row counts of the scans around it. The last of the contexts is that at the end of
 /// the program.
 pub fn instructions_are_judged_in_their_contexts()
     ensures told { (w : World) (parts : Parts) → AreTold w parts }
@@ -150,6 +153,15 @@ pub fn instructions_are_judged_in_their_contexts()
 pub fn moments_stand_in_their_contexts()
     ensures { (w : World) (parts : Parts) (m : Moment)
         → IsMet w parts m → StandsIn w parts m }
+{}
+
+/// What is known of a register of a number's kind is a range. So what `range_at` answers of anything
+/// else is read of no instruction with which nothing is wrong: where it takes ranges it reads numbers
+/// (`instructions_read_what_is_there` of `star_program`).
+pub fn numbers_have_ranges()
+    ensures { (known : Option Known) → IsTaken is_number_kind (option_map known_kind known)
+        → (range : Range) × (reach : Reach) × (origin : Option ColumnId)
+        × (known ≡ Some (KnownNumber range reach origin)) }
 {}
 
 /// One pass over the code of a program finds the first instruction that is refused.

@@ -29,7 +29,7 @@ pub enum Reason {
     Faulty(Fault),
     /// A find by a number that is not loaded from a foreign key to its table.
     NotAForeignKey,
-    /// A read of a group that a later instruction puts to, or one in a scan round the read.
+    /// A read of a group that a later instruction puts to, or one in a scan around the read.
     OpenGroup,
     /// Numbers that may leave 64 bits: a result of arithmetic, or what a read may give.
     Overflow {
@@ -51,7 +51,7 @@ impl fmt::Display for Reached {
     }
 }
 
-// Columns behind others.
+// Columns after others.
 fn write_others<W: fmt::Write>(others: &[Reached], f: &mut fmt::Formatter<W>) -> fmt::Result
     ensures { DisplaysOnOk W.write_str_gives f.old result (Some (others_text others.now)) f.new }
 {
@@ -107,7 +107,7 @@ impl fmt::Display for Reason {
 }
 
 impl Reason {
-    /// Writes what stands behind the number of the instruction: the least and the greatest that its
+    /// Writes what stands after the number of the instruction: the least and the greatest that its
     /// numbers may be, and the columns that they are computed from, where the reason tells them.
     pub fn write_bounds<W: fmt::Write>(&self, f: &mut fmt::Formatter<W>) -> fmt::Result
         ensures { DisplaysOnOk W.write_str_gives f.old result (Some (bounds_text self.now)) f.new }

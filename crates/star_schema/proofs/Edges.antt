@@ -10,7 +10,8 @@ use Rattle.star_schema.specs.Dictionary.{text_cmp}
 
 -- an edge of a text is told by which texts stand before it, by how they compare with it: each that
 -- is less, and none that is greater
-module _ (before : Ordering → Bool) (lesser : before Less ≡ true) (greater : before Greater ≡ false) where
+module _ (before : Ordering → Bool) (lesser : before Less ≡ true)
+    (greater : before Greater ≡ false) where
   -- an edge that lies after a text lies after each lesser one
   before_edge : (a b t : List ℕ) → text_cmp a b ≡ Less → before (text_cmp b t) ≡ true
       → before (text_cmp a t) ≡ true

@@ -26,7 +26,8 @@ greatest_above (z ∷ zs) =
 
 -- each is one of the numbers
 reached : (x : ℤ) (xs : List ℤ) (r : ℤ) → (r ≡ x) ⊎ Contains xs r → Contains (x ∷ xs) r
-reached x xs r = ⊎_elim {C = Contains (x ∷ xs) r} (λ e. rw e (contains_here x xs)) (contains_later x xs r)
+reached x xs r = ⊎_elim {C = Contains (x ∷ xs) r} (λ e. rw e (contains_here x xs))
+    (contains_later x xs r)
 
 pub least_there : (x : ℤ) (xs : List ℤ) → Contains (x ∷ xs) (least (x ∷ xs))
 unfolding least
@@ -48,6 +49,7 @@ least_is (x ∷ xs) z below one =
 pub greatest_is : (zs : List ℤ) (z : ℤ) → All (λ n. n ≤ℤ z) zs → Contains zs z → z ≡ greatest zs
 greatest_is [] z above one = absurd (omega (arith, one.1))
 greatest_is (x ∷ xs) z above one =
-    let upto = All-contains (λ n. n ≤ℤ greatest (x ∷ xs)) (x ∷ xs) z (greatest_above (x ∷ xs)) one in
+    let upto = All-contains (λ n. n ≤ℤ greatest (x ∷ xs)) (x ∷ xs) z (greatest_above (x ∷ xs))
+    one in
     let down = All-contains (λ n. n ≤ℤ z) (x ∷ xs) _ above (greatest_there x xs) in
     omega (arith, ints)

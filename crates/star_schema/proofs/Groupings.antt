@@ -7,7 +7,8 @@ use Rattle.star_schema.specs.declared.group.Shape.TheVariants.{Plain, Cube, Roll
 use Rattle.star_schema.specs.Groups.{IsMasked, is_grouping}
 
 -- of a rollup: where all keys are hidden, they are a grouping
-none_shown : {K : Type 0} (ms : List (Option K)) → list_all is_none ms ≡ true → is_grouping Rollup ms ≡ true
+none_shown : {K : Type 0} (ms : List (Option K)) → list_all is_none ms ≡ true
+    → is_grouping Rollup ms ≡ true
 none_shown [] h = refl
 none_shown (None ∷ ms) h = h
 none_shown (Some m ∷ ms) h = absurd (true≢false (sym h))
@@ -31,12 +32,14 @@ all_keys Rollup [] = refl
 all_keys Rollup (k ∷ ks) = all_keys Rollup ks
 
 -- and the only one of plain groups
-pub shown_masked : {K : Type 0} (m : List (Option K)) (ks : List K) → is_grouping Plain m ≡ true → IsMasked m ks → m ≡ map Some ks
+pub shown_masked : {K : Type 0} (m : List (Option K)) (ks : List K) → is_grouping Plain m ≡ true
+    → IsMasked m ks → m ≡ map Some ks
 shown_masked [] [] h masked = refl
 shown_masked [] (k ∷ ks) h masked = absurd masked
 shown_masked (None ∷ m) ks h masked = absurd (true≢false (sym h))
 shown_masked (Some x ∷ m) [] h masked = absurd masked
-shown_masked (Some x ∷ m) (k ∷ ks) h masked = λ i. Some (masked.0 i) ∷ shown_masked m ks h masked.1 i
+shown_masked (Some x ∷ m) (k ∷ ks) h masked =
+    λ i. Some (masked.0 i) ∷ shown_masked m ks h masked.1 i
 
 -- some element of those that pass a test
 pub among_passing : {A : Type 0} (p q : A → Bool) (xs : List A)
@@ -44,6 +47,8 @@ pub among_passing : {A : Type 0} (p q : A → Bool) (xs : List A)
 among_passing p q [] = refl
 among_passing p q (x ∷ xs) = by (q x) (among_passing p q xs)
   where
-    by : (b : Bool) → list_any p (filter q xs) ≡ list_any (λ y. q y && p y) xs → list_any p (cond b (x ∷ filter q xs) (filter q xs)) ≡ ((b && p x) || list_any (λ y. q y && p y) xs)
+    by : (b : Bool) → list_any p (filter q xs) ≡ list_any (λ y. q y && p y) xs
+        → list_any p (cond b (x ∷ filter q xs) (filter q xs))
+        ≡ ((b && p x) || list_any (λ y. q y && p y) xs)
     by true e = ap (λ r. p x || r) e
     by false e = e

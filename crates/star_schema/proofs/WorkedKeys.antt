@@ -33,19 +33,25 @@ first_hidden = None ∷ Some (pos 2) ∷ []
 abbrev both_hidden : List (Option ℤ)
 both_hidden = None ∷ None ∷ []
 
-all_keys_in_a_plain_group : (is_grouping Plain none_hidden ≡ true) × (is_grouping Plain second_hidden ≡ false) × (is_grouping Plain first_hidden ≡ false) × (is_grouping Plain both_hidden ≡ false)
+all_keys_in_a_plain_group :
+    (is_grouping Plain none_hidden ≡ true) × (is_grouping Plain second_hidden ≡ false)
+    × (is_grouping Plain first_hidden ≡ false) × (is_grouping Plain both_hidden ≡ false)
 all_keys_in_a_plain_group = (refl, refl, refl, refl)
 
-any_keys_in_a_cube : (is_grouping Cube none_hidden ≡ true) × (is_grouping Cube second_hidden ≡ true) × (is_grouping Cube first_hidden ≡ true) × (is_grouping Cube both_hidden ≡ true)
+any_keys_in_a_cube : (is_grouping Cube none_hidden ≡ true) × (is_grouping Cube second_hidden ≡ true)
+    × (is_grouping Cube first_hidden ≡ true) × (is_grouping Cube both_hidden ≡ true)
 any_keys_in_a_cube = (refl, refl, refl, refl)
 
-prefixes_in_a_rollup : (is_grouping Rollup none_hidden ≡ true) × (is_grouping Rollup second_hidden ≡ true) × (is_grouping Rollup first_hidden ≡ false) × (is_grouping Rollup both_hidden ≡ true)
+prefixes_in_a_rollup : (is_grouping Rollup none_hidden ≡ true)
+    × (is_grouping Rollup second_hidden ≡ true) × (is_grouping Rollup first_hidden ≡ false)
+    × (is_grouping Rollup both_hidden ≡ true)
 prefixes_in_a_rollup = (refl, refl, refl, refl)
 
 no_gap_in_a_rollup : is_grouping Rollup (Some (pos 1) ∷ None ∷ None ∷ Some (pos 2) ∷ []) ≡ false
 no_gap_in_a_rollup = refl
 
-no_key_is_a_grouping : (is_grouping {K = ℤ} Plain [] ≡ true) × (is_grouping {K = ℤ} Cube [] ≡ true) × (is_grouping {K = ℤ} Rollup [] ≡ true)
+no_key_is_a_grouping : (is_grouping {K = ℤ} Plain [] ≡ true) × (is_grouping {K = ℤ} Cube [] ≡ true)
+    × (is_grouping {K = ℤ} Rollup [] ≡ true)
 no_key_is_a_grouping = (refl, refl, refl)
 
 all_shown : IsMasked none_hidden (pos 1 ∷ pos 2 ∷ [])
@@ -64,15 +70,30 @@ abbrev rows : List (Entry ℤ)
 rows = record { keys = pos 1 ∷ pos 2 ∷ []; values = pos 7 ∷ pos 1 ∷ [] } ∷ []
 
 of_its_row : IsGroup Cube 2 rows (Some (pos 1) ∷ None ∷ [])
-of_its_row = (refl, inl (record { keys = pos 1 ∷ pos 2 ∷ []; values = pos 7 ∷ pos 1 ∷ [] }, (0, omega arith, refl), (refl, tt)))
+of_its_row = (
+  refl,
+  inl (
+    record { keys = pos 1 ∷ pos 2 ∷ []; values = pos 7 ∷ pos 1 ∷ [] },
+    (0, omega arith, refl),
+    (refl, tt),
+  ),
+)
 
 a_prefix_of_its_row : IsGroup Rollup 2 rows (Some (pos 1) ∷ None ∷ [])
-a_prefix_of_its_row = (refl, inl (record { keys = pos 1 ∷ pos 2 ∷ []; values = pos 7 ∷ pos 1 ∷ [] }, (0, omega arith, refl), (refl, tt)))
+a_prefix_of_its_row = (
+  refl,
+  inl (
+    record { keys = pos 1 ∷ pos 2 ∷ []; values = pos 7 ∷ pos 1 ∷ [] },
+    (0, omega arith, refl),
+    (refl, tt),
+  ),
+)
 
 not_a_suffix_of_its_row : IsGroup Rollup 2 rows (None ∷ Some (pos 2) ∷ []) → ⊥
 not_a_suffix_of_its_row h = let shown : false ≡ true = h.0 in cc shown
 
-of_no_row : IsGroup {K = ℤ} Cube 2 [] (None ∷ None ∷ []) × IsGroup {K = ℤ} Rollup 2 [] (None ∷ None ∷ [])
+of_no_row : IsGroup {K = ℤ} Cube 2 [] (None ∷ None ∷ [])
+    × IsGroup {K = ℤ} Rollup 2 [] (None ∷ None ∷ [])
 of_no_row = ((refl, inr refl), (refl, inr refl))
 
 of_no_row_and_no_key : IsGroup {K = ℤ} Plain 0 [] []
@@ -88,14 +109,21 @@ not_hidden_in_a_plain_group h = let shown : false ≡ true = h.0 in cc shown
 abbrev seven : List (Entry ℤ)
 seven = record { keys = pos 1 ∷ []; values = pos 7 ∷ [] } ∷ []
 
-its_totals : (totals : List (Option ℤ)) → AreGroups int_cmp Plain 1 (Sum ∷ []) seven (record { keys = Some (pos 1) ∷ []; totals = totals } ∷ []) → totals ≡ Some (pos 7) ∷ []
-its_totals totals h = (h.each (record { keys = Some (pos 1) ∷ []; totals = totals }) (0, omega arith, refl)).1
+its_totals : (totals : List (Option ℤ))
+    → AreGroups int_cmp Plain 1 (Sum ∷ []) seven
+    (record { keys = Some (pos 1) ∷ []; totals = totals } ∷ []) → totals ≡ Some (pos 7) ∷ []
+its_totals totals h = (h.each (record { keys = Some (pos 1) ∷ []; totals = totals })
+    (0, omega arith, refl)).1
 
-all_is_there : (groups : List (GroupRow ℤ)) → AreGroups int_cmp Cube 1 (Sum ∷ []) seven groups → (group : GroupRow ℤ) × Contains groups group × (group.keys ≡ None ∷ [])
+all_is_there : (groups : List (GroupRow ℤ)) → AreGroups int_cmp Cube 1 (Sum ∷ []) seven groups
+    → (group : GroupRow ℤ) × Contains groups group × (group.keys ≡ None ∷ [])
 all_is_there groups h = h.all (None ∷ []) (refl, inr refl)
 
-not_another_group : (totals : List (Option ℤ)) → AreGroups int_cmp Plain 1 (Sum ∷ []) seven (record { keys = None ∷ []; totals = totals } ∷ []) → IsGroup Plain 1 seven (None ∷ [])
-not_another_group totals h = (h.each (record { keys = None ∷ []; totals = totals }) (0, omega arith, refl)).0
+not_another_group : (totals : List (Option ℤ))
+    → AreGroups int_cmp Plain 1 (Sum ∷ []) seven (record { keys = None ∷ []; totals = totals } ∷ [])
+    → IsGroup Plain 1 seven (None ∷ [])
+not_another_group totals h =
+    (h.each (record { keys = None ∷ []; totals = totals }) (0, omega arith, refl)).0
 
 -- ---- the rows of a group
 
@@ -126,10 +154,12 @@ the_greatest : aggregate Max some ≡ Some (pos 3)
 the_greatest = refl
 
 abbrev three : List (Entry ℤ)
-three = record { keys = []; values = pos 1 ∷ pos 5 ∷ pos 9 ∷ [] } ∷ record { keys = []; values = pos 2 ∷ pos 4 ∷ [] } ∷ []
+three = record { keys = []; values = pos 1 ∷ pos 5 ∷ pos 9 ∷ [] }
+    ∷ record { keys = []; values = pos 2 ∷ pos 4 ∷ [] } ∷ []
 
 -- an aggregate for each place; a number that isn't there is 0
-each_of_its_place : totals_of (Sum ∷ Max ∷ Min ∷ []) three ≡ Some (pos 3) ∷ Some (pos 5) ∷ Some (pos 0) ∷ []
+each_of_its_place : totals_of (Sum ∷ Max ∷ Min ∷ []) three
+    ≡ Some (pos 3) ∷ Some (pos 5) ∷ Some (pos 0) ∷ []
 each_of_its_place = refl
 
 -- ---- how values and keys compare
@@ -166,33 +196,54 @@ by_the_key = refl
 abbrev some_rows : ℕ → List (List Value)
 some_rows count = replicate count []
 
-each_table_has_its_rows : let database : Database = record { date = some_rows 1; customer = some_rows 2; supplier = some_rows 3; part = some_rows 4; lineorder = some_rows 5 } in
-    (rows_in database Date ≡ some_rows 1) × (rows_in database Customer ≡ some_rows 2) × (rows_in database Supplier ≡ some_rows 3) × (rows_in database Part ≡ some_rows 4) × (rows_in database Lineorder ≡ some_rows 5)
+each_table_has_its_rows : let database : Database =
+    record {
+      date = some_rows 1;
+      customer = some_rows 2;
+      supplier = some_rows 3;
+      part =
+          some_rows 4;
+      lineorder = some_rows 5;
+    } in
+    (rows_in database Date ≡ some_rows 1) × (rows_in database Customer ≡ some_rows 2)
+    × (rows_in database Supplier ≡ some_rows 3) × (rows_in database Part ≡ some_rows 4)
+    × (rows_in database Lineorder ≡ some_rows 5)
 each_table_has_its_rows = (refl, refl, refl, refl, refl)
 
-each_table_has_its_size : (sizes : Sizes) → (size_of sizes Date ≡ sizes.date) × (size_of sizes Customer ≡ sizes.customer) × (size_of sizes Supplier ≡ sizes.supplier) × (size_of sizes Part ≡ sizes.part) × (size_of sizes Lineorder ≡ sizes.lineorder)
+each_table_has_its_size : (sizes : Sizes)
+    → (size_of sizes Date ≡ sizes.date) × (size_of sizes Customer ≡ sizes.customer)
+    × (size_of sizes Supplier ≡ sizes.supplier) × (size_of sizes Part ≡ sizes.part)
+    × (size_of sizes Lineorder ≡ sizes.lineorder)
 each_table_has_its_size sizes = (refl, refl, refl, refl, refl)
 
-widths : (width_of Date ≡ 17) × (width_of Customer ≡ 8) × (width_of Supplier ≡ 7) × (width_of Part ≡ 9) × (width_of Lineorder ≡ 17)
+widths : (width_of Date ≡ 17) × (width_of Customer ≡ 8) × (width_of Supplier ≡ 7)
+    × (width_of Part ≡ 9) × (width_of Lineorder ≡ 17)
 unfolding columns_of column_of
 widths = (refl, refl, refl, refl, refl)
 
-ends : (place_of DDatekey ≡ 0) × (place_of CCustkey ≡ 0) × (place_of CName ≡ 1) × (place_of LoTax ≡ 14)
+ends : (place_of DDatekey ≡ 0) × (place_of CCustkey ≡ 0) × (place_of CName ≡ 1)
+    × (place_of LoTax ≡ 14)
 unfolding place_of column_of
 ends = (refl, refl, refl, refl)
 
-keys : (key_of Date ≡ One DDatekey) × (key_of Customer ≡ One CCustkey) × (key_of Supplier ≡ One SSuppkey) × (key_of Part ≡ One PPartkey) × (key_of Lineorder ≡ Two LoOrderkey LoLinenumber)
+keys : (key_of Date ≡ One DDatekey) × (key_of Customer ≡ One CCustkey)
+    × (key_of Supplier ≡ One SSuppkey) × (key_of Part ≡ One PPartkey)
+    × (key_of Lineorder ≡ Two LoOrderkey LoLinenumber)
 keys = (refl, refl, refl, refl, refl)
 
-the_foreign_keys : foreign_keys ≡ LoCustkey ∷ LoPartkey ∷ LoSuppkey ∷ LoOrderdate ∷ LoCommitdate ∷ []
+the_foreign_keys : foreign_keys
+    ≡ LoCustkey ∷ LoPartkey ∷ LoSuppkey ∷ LoOrderdate ∷ LoCommitdate ∷ []
 unfolding foreign_keys column_of
 the_foreign_keys = refl
 
-referred_tables : (references LoCustkey ≡ Some Customer) × (references LoPartkey ≡ Some Part) × (references LoSuppkey ≡ Some Supplier) × (references LoOrderdate ≡ Some Date) × (references LoCommitdate ≡ Some Date)
+referred_tables : (references LoCustkey ≡ Some Customer) × (references LoPartkey ≡ Some Part)
+    × (references LoSuppkey ≡ Some Supplier) × (references LoOrderdate ≡ Some Date)
+    × (references LoCommitdate ≡ Some Date)
 unfolding column_of
 referred_tables = (refl, refl, refl, refl, refl)
 
 -- the numbers of lineorder's pair of keys, in order
-the_pair : key_numbers (key_of Lineorder) (Number (pos 7) ∷ Number (pos 2) ∷ Number (pos 5) ∷ []) ≡ pos 7 ∷ pos 2 ∷ []
+the_pair : key_numbers (key_of Lineorder) (Number (pos 7) ∷ Number (pos 2) ∷ Number (pos 5) ∷ [])
+    ≡ pos 7 ∷ pos 2 ∷ []
 unfolding place_of column_of
 the_pair = refl

@@ -1,4 +1,6 @@
-// The columns: the one place in code where the schema is written.
+// The columns. The schema is written here: the columns' names in code, their list, and what it says
+// of each; which of them a table has follows from the first column of each table. The definition
+// `column_of` says the same for contracts.
 
 ghost use Rattle.std.specs.Prelude.{◌≡◌, ◌↔◌, ◌-◌, ◌<◌, Some, IsTrue, slice_get};
 ghost use Rattle.star_schema.specs.declared.column.ColumnId.{ColumnId};

@@ -1,5 +1,4 @@
-//! The star schema: five tables, their columns and keys, the limits of a load and of a run, and
-//! where output goes.
+//! The star schema: five tables, their columns and keys, and the limits of a load and of a run.
 //!
 //! What a table file is, which rows it holds and what their bounds are stands in `specs/`: every
 //! crate above cites it.
@@ -20,5 +19,4 @@ pub use group::{Aggregate, Direction, GroupColumn, Shape, SortKey};
 pub use limits::{Limits, MOST_ROWS, MOST_VISITS};
 pub use name::{Named, name_of};
 pub use sizes::Sizes;
-pub use star_common::{Out, Sink, SinkFault};
 pub use table::{Key, TABLES, TableId, column_at, columns, is_table, key_of, table_named, width};

@@ -73,11 +73,11 @@ pub fn columns(table: TableId) -> &'static [ColumnId]
     ensures few { length result.now ≤ 17 }
 {
     match table {
-        TableId::Date => &COLUMNS[0..17],
-        TableId::Customer => &COLUMNS[17..25],
-        TableId::Supplier => &COLUMNS[25..32],
-        TableId::Part => &COLUMNS[32..41],
-        TableId::Lineorder => &COLUMNS[41..58],
+        TableId::Date => &COLUMNS[ColumnId::DDatekey as usize..ColumnId::CCustkey as usize],
+        TableId::Customer => &COLUMNS[ColumnId::CCustkey as usize..ColumnId::SSuppkey as usize],
+        TableId::Supplier => &COLUMNS[ColumnId::SSuppkey as usize..ColumnId::PPartkey as usize],
+        TableId::Part => &COLUMNS[ColumnId::PPartkey as usize..ColumnId::LoOrderkey as usize],
+        TableId::Lineorder => &COLUMNS[ColumnId::LoOrderkey as usize..],
     }
 }
 

@@ -1,7 +1,7 @@
 -- Blanks in front of a text.
 use Rattle.std.proofs.Common.{◌≡◌, ◌++◌, ◌&&◌, ℕ, List, [], ◌∷◌, Bool, true, false, refl}
 use Rattle.std.specs.Prelude.{if◌then◌else◌}
-use Rattle.star_statements.specs.Blanks.{is_blank_at_front, without_blanks}
+use Rattle.star_statements.specs.Blanks.{without_blanks}
 use Rattle.star_common.specs.WhiteSpace.{is_blank}
 use Rattle.star_statements.specs.Private.Drafts.{is_empty}
 

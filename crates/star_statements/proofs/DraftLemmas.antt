@@ -1,5 +1,5 @@
 -- A statement that is being read, from its first byte to its last.
-use Rattle.std.proofs.Common.{◌≡◌, ◌∙◌, ◌++◌, ◌+◌, ◌<◌, ◌≤◌, ◌==◌, ◌&&◌, ◌||◌, ℕ, List, [], ◌∷◌, Bool, true, false, Option, Some, None, append-nil, append_assoc, ap, arith, length, refl, subst, sym, take}
+use Rattle.std.proofs.Common.{◌≡◌, ◌∙◌, ◌++◌, ◌+◌, ◌<◌, ◌≤◌, ◌&&◌, ◌||◌, ℕ, List, [], ◌∷◌, Bool, true, false, Option, Some, None, append-nil, append_assoc, ap, arith, length, refl, subst, sym, take}
 use Rattle.std.specs.Prelude.{IfSome, if◌then◌else◌, nat_lt}
 use Rattle.std.specs.Io.KnownBytes.{Consumes, IsAtEnd}
 use Rattle.std.proofs.lemmas.Bool.{le-ltb, lt-ltb, ltb-false, ltb-true}
@@ -9,7 +9,7 @@ use Rattle.star_common.specs.WhiteSpace.{is_blank}
 use Rattle.star_statements.specs.Questions.{asked_by, asked_by_text}
 use Rattle.star_statements.specs.Sources.{IsStatementRead}
 use Rattle.star_statements.specs.Statements.{joined_to_first, statements_of}
-use Rattle.star_statements.specs.Private.Drafts.{IsDraft, closes, cut, ends_behind, is_empty, kept, with_byte}
+use Rattle.star_statements.specs.Private.Drafts.{IsDraft, closes_statement, cut_statements, ends_behind, is_empty, kept, with_byte}
 use Rattle.star_statements.proofs.BlankLemmas.{if_false, if_true, without_blanks-more}
 use Rattle.star_statements.proofs.QuestionLemmas.{asked-front}
 use Rattle.star_statements.proofs.StatementLemmas.{joined_assoc, statements_cut, statements_from_cut}
@@ -20,18 +20,21 @@ use Rattle.star_statements.proofs.StatementLemmas.{joined_assoc, statements_cut,
 take-more : (most many : ℕ) → many ≡ most + 1 → (text : List ℕ) (c : ℕ) → take many (text ++ c ∷ [])
     ≡ (if nat_lt most (length (take many text)) then take many text else take many text ++ c ∷ [])
 take-more most many more text c =
-    elim (nat_lt most (length text)) as (λ b. nat_lt most (length text) ≡ b → take many (text ++ c ∷ [])
+    elim (nat_lt most (length text))
+    as (λ b. nat_lt most (length text) ≡ b → take many (text ++ c ∷ [])
     ≡ (if nat_lt most (length (take many text)) then take many text else take many text ++ c ∷ [])) [
       | true ↦ λ long.
           let longer : most < length text = ltb-true most (length text) long in
           take-append-le many text (c ∷ []) (omega arith)
-          ∙ sym (if_true _ _ _ (lt-ltb most (length (take many text)) (omega (arith, length-take many text))))
+          ∙ sym (if_true _ _ _ (lt-ltb most (length (take many text))
+          (omega (arith, length-take many text))))
       | false ↦ λ short.
           let shorter : length text ≤ most = ltb-false most (length text) short in
           let whole : take many text ≡ text = take_all many text (omega arith) in
           take_all many (text ++ c ∷ []) (omega (arith, length-append text (c ∷ [])))
           ∙ ap (λ t. t ++ c ∷ []) (sym whole)
-          ∙ sym (if_false _ _ _ (le-ltb most (length (take many text)) (omega (arith, ap length whole))))
+          ∙ sym (if_false _ _ _ (le-ltb most (length (take many text))
+          (omega (arith, ap length whole))))
     ] refl
 
 not_empty : (text : List ℕ) → 0 < length text → is_empty text ≡ false
@@ -73,7 +76,8 @@ kept_next most many more statement c =
     ∙ one_byte most many more text c (is_empty text && is_blank c) refl
     ∙ ap (take many) (sym (without_blanks-more statement c))
 
-pub kept-more : (statement : List ℕ) (c : ℕ) → with_byte (kept statement) c ≡ kept (statement ++ c ∷ [])
+pub kept-more : (statement : List ℕ) (c : ℕ)
+    → with_byte (kept statement) c ≡ kept (statement ++ c ∷ [])
 unfolding kept
 kept-more statement c = kept_next 65536 65537 (omega arith) statement c
 
@@ -113,31 +117,33 @@ draft_begins known = record {
 }
 
 -- one byte more, which ends no statement
-pub draft_goes_on : (old mid new : Option (List ℕ)) (text : List ℕ) (ends : Bool) (begun : List ℕ) (c : ℕ)
-    → IsDraft old mid text ends begun → Consumes mid new (c ∷ []) → closes ends c ≡ false
+pub draft_goes_on : (old mid new : Option (List ℕ)) (text : List ℕ) (ends : Bool) (begun : List ℕ)
+    (c : ℕ)
+    → IsDraft old mid text ends begun → Consumes mid new (c ∷ []) → closes_statement ends c ≡ false
     → IsDraft old new (with_byte text c) (ends_behind ends c) (begun ++ c ∷ [])
-unfolding cut
+unfolding cut_statements
 draft_goes_on old mid new text ends begun c draft byte open_line = record {
   read = consumed_both old mid new begun (c ∷ []) draft.read byte;
   keeps = ap (λ t. with_byte t c) draft.keeps ∙ kept-more begun c;
   splits = λ rest.
       ap statements_of (append_assoc begun (c ∷ []) rest) ∙ draft.splits (c ∷ rest)
-      ∙ ap (joined_to_first begun) (if_false _ _ (closes ends c) open_line)
-      ∙ joined_assoc begun (c ∷ []) (cut (ends_behind ends c) rest);
+      ∙ ap (joined_to_first begun) (if_false _ _ (closes_statement ends c) open_line)
+      ∙ joined_assoc begun (c ∷ []) (cut_statements (ends_behind ends c) rest);
 }
 
 -- the line end that ends it
-pub draft_ends : (old mid new : Option (List ℕ)) (text : List ℕ) (ends : Bool) (begun : List ℕ) (c : ℕ)
-    → IsDraft old mid text ends begun → Consumes mid new (c ∷ []) → closes ends c ≡ true
+pub draft_ends : (old mid new : Option (List ℕ)) (text : List ℕ) (ends : Bool) (begun : List ℕ)
+    (c : ℕ)
+    → IsDraft old mid text ends begun → Consumes mid new (c ∷ []) → closes_statement ends c ≡ true
     → IsStatementRead old new (with_byte text c) true (begun ++ c ∷ [])
-unfolding cut joined_to_first
+unfolding cut_statements joined_to_first
 draft_ends old mid new text ends begun c draft byte closing = record {
   read = consumed_both old mid new begun (c ∷ []) draft.read byte;
   asked = ap asked_by_text (ap (λ t. with_byte t c) draft.keeps ∙ kept-more begun c)
       ∙ asked-kept (begun ++ c ∷ []);
   first = λ _ rest.
       ap statements_of (append_assoc begun (c ∷ []) rest) ∙ draft.splits (c ∷ rest)
-      ∙ ap (joined_to_first begun) (if_true _ _ (closes ends c) closing)
+      ∙ ap (joined_to_first begun) (if_true _ _ (closes_statement ends c) closing)
       ∙ ap (λ pieces. (begun ++ c ∷ []) ∷ pieces) (sym (statements_from_cut rest));
   some = λ _. omega (arith, length-append begun (c ∷ []));
   last = λ e. cc;
@@ -148,10 +154,11 @@ draft_ends old mid new text ends begun c draft byte closing = record {
 pub draft_is_last : (old mid new : Option (List ℕ)) (text : List ℕ) (ends : Bool) (begun : List ℕ)
     → IsDraft old mid text ends begun → Consumes mid new [] → IsAtEnd new
     → IsStatementRead old new text false begun
-unfolding cut joined_to_first
+unfolding cut_statements joined_to_first
 draft_is_last old mid new text ends begun draft nothing at_end =
     let whole = append-nil begun in record {
-      read = subst (λ l. Consumes old new l) whole (consumed_both old mid new begun [] draft.read nothing);
+      read = subst (λ l. Consumes old new l) whole
+          (consumed_both old mid new begun [] draft.read nothing);
       asked = ap asked_by_text draft.keeps ∙ asked-kept begun;
       first = λ e. cc;
       some = λ e. absurd (cc);

@@ -1,6 +1,6 @@
 -- What a text asks for.
-use Rattle.std.proofs.Common.{◌≡◌, ◌≢◌, ◌∙◌, ◌<◌, ◌≤◌, ◌&&◌, ◌+◌, ℕ, List, [], ◌∷◌, Bool, true, false, ap, arith, codes, drop, length, map, refl, subst, sym, take}
-use Rattle.std.specs.Prelude.{if◌then◌else◌, nat_lt}
+use Rattle.std.proofs.Common.{◌≡◌, ◌∙◌, ◌<◌, ◌≤◌, ◌&&◌, ℕ, List, [], ◌∷◌, Bool, true, false, ap, arith, codes, drop, length, map, refl, sym, take}
+use Rattle.std.specs.Prelude.{nat_lt}
 use Rattle.std.specs.Bool.{Decides}
 use Rattle.std.specs.Char.{to_ascii_lowercase}
 use Rattle.std.specs.Str.{bytes_eq, str_eq_ignore_ascii_case}
@@ -26,14 +26,17 @@ pub begins_as : (word text front rest : List ℕ) → front ≡ take (length wor
     → begins_with_word word text ≡ (str_eq_ignore_ascii_case front word && is_blank_at_front rest)
 unfolding begins_with_word
 begins_as word text front rest start left =
-    ap (λ f. str_eq_ignore_ascii_case f word && is_blank_at_front (drop (length word) text)) (sym start)
+    ap (λ f. str_eq_ignore_ascii_case f word && is_blank_at_front (drop (length word) text))
+    (sym start)
     ∙ ap (λ l. str_eq_ignore_ascii_case front word && is_blank_at_front l) (sym left)
 
-pub begins_short : (word text : List ℕ) → length text < length word → begins_with_word word text ≡ false
+pub begins_short : (word text : List ℕ) → length text < length word
+    → begins_with_word word text ≡ false
 unfolding begins_with_word
 begins_short word text short =
     let none : drop (length word) text ≡ [] = drop_all (length word) text (omega arith) in
-    ap (λ l. bytes_eq (map to_ascii_lowercase (take (length word) text)) (map to_ascii_lowercase word)
+    ap (λ l. bytes_eq (map to_ascii_lowercase (take (length word) text))
+    (map to_ascii_lowercase word)
     && is_blank_at_front l) none
     ∙ and-false _
 
@@ -58,7 +61,8 @@ module _ where
       if_false _ _ _ (le-ltb 65536 (length (c ∷ rest)) short) ∙ if_true _ _ _ begins
 
   pub quoted : (text : List ℕ) → 0 < length text → length text ≤ 65536
-      → begins_with_word (codes "explain") text ≡ false → begins_with_word (codes "quote") text ≡ true
+      → begins_with_word (codes "explain") text ≡ false
+      → begins_with_word (codes "quote") text ≡ true
       → asked_by_text text ≡ Quote (behind_word (codes "quote") text)
   unfolding asked_by_text
   quoted [] some short other begins = absurd (omega arith)
@@ -67,7 +71,8 @@ module _ where
       ∙ if_true _ _ _ begins
 
   pub queried : (text : List ℕ) → 0 < length text → length text ≤ 65536
-      → begins_with_word (codes "explain") text ≡ false → begins_with_word (codes "quote") text ≡ false
+      → begins_with_word (codes "explain") text ≡ false
+      → begins_with_word (codes "quote") text ≡ false
       → asked_by_text text ≡ Query text
   unfolding asked_by_text
   queried [] some short other another = absurd (omega arith)
@@ -76,13 +81,15 @@ module _ where
       ∙ if_false _ _ _ another
 
 -- so many bytes of a text tell as much as the whole, if they are more than a text may have
-asked-many : (many : ℕ) (text : List ℕ) → 65536 < many → asked_by_text (take many text) ≡ asked_by_text text
+asked-many : (many : ℕ) (text : List ℕ) → 65536 < many
+    → asked_by_text (take many text) ≡ asked_by_text text
 asked-many many text more =
     elim (nat_lt many (length text)) as (λ b. nat_lt many (length text) ≡ b
     → asked_by_text (take many text) ≡ asked_by_text text) [
       | true ↦ λ long.
           let longer : many < length text = ltb-true many (length text) long in
-          too_long (take many text) (omega (arith, length-take many text)) ∙ sym (too_long text (omega arith))
+          too_long (take many text) (omega (arith, length-take many text))
+          ∙ sym (too_long text (omega arith))
       | false ↦ λ short. ap asked_by_text (take_all many text (ltb-false many (length text) short))
     ] refl
 

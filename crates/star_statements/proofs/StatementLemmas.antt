@@ -7,8 +7,8 @@ use Rattle.std.proofs.lemmas.List.Folds.{list_all-append}
 use Rattle.std.proofs.Math.Bool.{and-false}
 use Rattle.star_statements.proofs.BlankLemmas.{if_false}
 use Rattle.star_common.specs.WhiteSpace.{is_blank}
-use Rattle.star_statements.specs.Statements.{ends_statement, grouped, joined_to_first, statement_lines, statements_of}
-use Rattle.star_statements.specs.Private.Drafts.{cut, ends_behind}
+use Rattle.star_statements.specs.Statements.{ends_statement, joined_to_first, statement_lines, statements_in, statements_of}
+use Rattle.star_statements.specs.Private.Drafts.{cut_statements, ends_behind}
 
 pub concat-joined : (piece : List ℕ) (others : List (List ℕ))
     → concat (joined_to_first piece others) ≡ piece ++ concat others
@@ -16,7 +16,8 @@ unfolding joined_to_first
 concat-joined piece [] = refl
 concat-joined piece (first ∷ others) = append_assoc piece first (concat others)
 
-concat-chosen : (b : Bool) (xs ys : List (List ℕ)) (text : List ℕ) → concat xs ≡ text → concat ys ≡ text
+concat-chosen : (b : Bool) (xs ys : List (List ℕ)) (text : List ℕ) → concat xs ≡ text
+    → concat ys ≡ text
     → concat (if b then xs else ys) ≡ text
 concat-chosen true xs ys text e f = e
 concat-chosen false xs ys text e f = f
@@ -25,18 +26,21 @@ concat-lines : (text : List ℕ) → concat (statement_lines text) ≡ text
 unfolding statement_lines
 concat-lines [] = refl
 concat-lines (c ∷ rest) =
-    concat-chosen (c == 10) ((c ∷ []) ∷ statement_lines rest) (joined_to_first (c ∷ []) (statement_lines rest)) (c ∷ rest)
+    concat-chosen (c == 10) ((c ∷ []) ∷ statement_lines rest)
+    (joined_to_first (c ∷ []) (statement_lines rest)) (c ∷ rest)
     (ap (λ l. c ∷ l) (concat-lines rest))
     (concat-joined (c ∷ []) (statement_lines rest) ∙ ap (λ l. c ∷ l) (concat-lines rest))
 
-concat-grouped : (lines : List (List ℕ)) → concat (grouped lines) ≡ concat lines
-unfolding grouped
+concat-grouped : (lines : List (List ℕ)) → concat (statements_in lines) ≡ concat lines
+unfolding statements_in
 concat-grouped [] = refl
 concat-grouped (line ∷ []) = refl
 concat-grouped (line ∷ (next ∷ lines)) =
-    concat-chosen (ends_statement line) (line ∷ grouped (next ∷ lines)) (joined_to_first line (grouped (next ∷ lines)))
+    concat-chosen (ends_statement line) (line ∷ statements_in (next ∷ lines))
+    (joined_to_first line (statements_in (next ∷ lines)))
     (line ++ (next ++ concat lines)) (ap (λ l. line ++ l) (concat-grouped (next ∷ lines)))
-    (concat-joined line (grouped (next ∷ lines)) ∙ ap (λ l. line ++ l) (concat-grouped (next ∷ lines)))
+    (concat-joined line (statements_in (next ∷ lines))
+    ∙ ap (λ l. line ++ l) (concat-grouped (next ∷ lines)))
 
 pub concat-statements : (text : List ℕ) → concat (statements_of text) ≡ text
 concat-statements text = concat-grouped (statement_lines text) ∙ concat-lines text
@@ -59,7 +63,8 @@ unfolding joined_to_first
 joined_some piece [] = (piece, ([], refl))
 joined_some piece (first ∷ others) = (piece ++ first, (others, refl))
 
-chosen_some : (b : Bool) (xs ys : List (List ℕ)) → HasOne xs → HasOne ys → HasOne (if b then xs else ys)
+chosen_some : (b : Bool) (xs ys : List (List ℕ)) → HasOne xs → HasOne ys
+    → HasOne (if b then xs else ys)
 chosen_some true xs ys some _ = some
 chosen_some false xs ys _ some = some
 
@@ -67,29 +72,33 @@ lines_some : (text : List ℕ) → HasOne (statement_lines text)
 unfolding statement_lines
 lines_some [] = ([], ([], refl))
 lines_some (c ∷ rest) =
-    chosen_some (c == 10) ((c ∷ []) ∷ statement_lines rest) (joined_to_first (c ∷ []) (statement_lines rest))
+    chosen_some (c == 10) ((c ∷ []) ∷ statement_lines rest)
+    (joined_to_first (c ∷ []) (statement_lines rest))
     (c ∷ [], (statement_lines rest, refl)) (joined_some (c ∷ []) (statement_lines rest))
 
-cut_some : (ends : Bool) (text : List ℕ) → HasOne (cut ends text)
-unfolding cut
+cut_some : (ends : Bool) (text : List ℕ) → HasOne (cut_statements ends text)
+unfolding cut_statements
 cut_some ends [] = ([], ([], refl))
 cut_some ends (c ∷ rest) =
-    chosen_some (ends && (c == 10)) ((c ∷ []) ∷ cut false rest)
-    (joined_to_first (c ∷ []) (cut (ends_behind ends c) rest)) (c ∷ [], (cut false rest, refl))
-    (joined_some (c ∷ []) (cut (ends_behind ends c) rest))
+    chosen_some (ends && (c == 10)) ((c ∷ []) ∷ cut_statements false rest)
+    (joined_to_first (c ∷ []) (cut_statements (ends_behind ends c) rest))
+    (c ∷ [], (cut_statements false rest, refl))
+    (joined_some (c ∷ []) (cut_statements (ends_behind ends c) rest))
 
 joined-nil : (pieces : List (List ℕ)) → HasOne pieces → joined_to_first [] pieces ≡ pieces
 unfolding joined_to_first
 joined-nil [] some = cc
 joined-nil (first ∷ others) some = refl
 
-grouped_line : (line : List ℕ) (lines : List (List ℕ)) → HasOne lines → grouped (line ∷ lines)
-    ≡ (if ends_statement line then line ∷ grouped lines else joined_to_first line (grouped lines))
-unfolding grouped
+grouped_line : (line : List ℕ) (lines : List (List ℕ)) → HasOne lines → statements_in (line ∷ lines)
+    ≡ (if ends_statement line then line ∷ statements_in lines
+    else joined_to_first line (statements_in lines))
+unfolding statements_in
 grouped_line line [] some = cc
 grouped_line line (next ∷ lines) some = refl
 
-both : (a p b s e : Bool) → ((a && (p && (b && true))) || (s || (e && b))) ≡ (s || (((a && p) || e) && b))
+both : (a p b s e : Bool)
+    → ((a && (p && (b && true))) || (s || (e && b))) ≡ (s || (((a && p) || e) && b))
 both false p b s e = refl
 both true false b s e = refl
 both true true false s true = refl
@@ -106,62 +115,72 @@ ends-more : (line : List ℕ) (c : ℕ)
 unfolding ends_statement
 ends-more [] c = ends-one (c == 59) (is_blank c)
 ends-more (x ∷ line) c =
-    ap (λ r. ((x == 59) && r) || ends_statement (line ++ c ∷ [])) (list_all-append is_blank line (c ∷ []))
-    ∙ ap (λ r. ((x == 59) && (list_all is_blank line && (is_blank c && true))) || r) (ends-more line c)
+    ap (λ r. ((x == 59) && r) || ends_statement (line ++ c ∷ []))
+    (list_all-append is_blank line (c ∷ []))
+    ∙ ap (λ r. ((x == 59) && (list_all is_blank line && (is_blank c && true))) || r)
+    (ends-more line c)
     ∙ both (x == 59) (list_all is_blank line) (is_blank c) (c == 59) (ends_statement line)
 
 -- what stands behind a line end
 behind_end : (line rest : List ℕ) (ends : Bool) → ends_statement line ≡ ends
-    → grouped (statement_lines rest) ≡ cut false rest
-    → grouped ((line ++ 10 ∷ []) ∷ statement_lines rest)
-    ≡ joined_to_first line (if ends && true then (10 ∷ []) ∷ cut false rest
-    else joined_to_first (10 ∷ []) (cut (ends_behind ends 10) rest))
+    → statements_in (statement_lines rest) ≡ cut_statements false rest
+    → statements_in ((line ++ 10 ∷ []) ∷ statement_lines rest)
+    ≡ joined_to_first line (if ends && true then (10 ∷ []) ∷ cut_statements false rest
+    else joined_to_first (10 ∷ []) (cut_statements (ends_behind ends 10) rest))
 unfolding joined_to_first
 behind_end line rest ends e same =
     grouped_line (line ++ 10 ∷ []) (statement_lines rest) (lines_some rest)
     ∙ ap (λ pieces. if ends_statement (line ++ 10 ∷ []) then (line ++ 10 ∷ []) ∷ pieces
     else joined_to_first (line ++ 10 ∷ []) pieces) same
-    ∙ ap (λ b. if b then (line ++ 10 ∷ []) ∷ cut false rest
-    else joined_to_first (line ++ 10 ∷ []) (cut false rest)) (ends-more line 10 ∙ ap (λ b. ends_behind b 10) e)
-    ∙ (elim ends as (λ b. (if ends_behind b 10 then (line ++ 10 ∷ []) ∷ cut false rest
-    else joined_to_first (line ++ 10 ∷ []) (cut false rest))
-    ≡ joined_to_first line (if b && true then (10 ∷ []) ∷ cut false rest
-    else joined_to_first (10 ∷ []) (cut (ends_behind b 10) rest)))
-    [ true ↦ refl | false ↦ sym (joined_assoc line (10 ∷ []) (cut false rest)) ])
+    ∙ ap (λ b. if b then (line ++ 10 ∷ []) ∷ cut_statements false rest
+    else joined_to_first (line ++ 10 ∷ []) (cut_statements false rest))
+    (ends-more line 10 ∙ ap (λ b. ends_behind b 10) e)
+    ∙ (elim ends as (λ b. (if ends_behind b 10 then (line ++ 10 ∷ []) ∷ cut_statements false rest
+    else joined_to_first (line ++ 10 ∷ []) (cut_statements false rest))
+    ≡ joined_to_first line (if b && true then (10 ∷ []) ∷ cut_statements false rest
+    else joined_to_first (10 ∷ []) (cut_statements (ends_behind b 10) rest)))
+    [ true ↦ refl | false ↦ sym (joined_assoc line (10 ∷ []) (cut_statements false rest)) ])
 
 -- what a line that has begun comes to with these bytes behind it
 abbrev IsCutAfter : List ℕ → List ℕ → Type 0
-IsCutAfter text line = grouped (joined_to_first line (statement_lines text)) ≡ joined_to_first line (cut (ends_statement line) text)
+IsCutAfter text line = statements_in (joined_to_first line (statement_lines text))
+    ≡ joined_to_first line (cut_statements (ends_statement line) text)
 
-one_more : (rest : List ℕ) → ((line : List ℕ) → IsCutAfter rest line) → (c : ℕ) (line : List ℕ) (b : Bool)
+one_more : (rest : List ℕ) → ((line : List ℕ) → IsCutAfter rest line)
+    → (c : ℕ) (line : List ℕ) (b : Bool)
     → (c == 10) ≡ b
-    → grouped (joined_to_first line (if b then (c ∷ []) ∷ statement_lines rest else joined_to_first (c ∷ []) (statement_lines rest)))
-    ≡ joined_to_first line (if ends_statement line && b then (c ∷ []) ∷ cut false rest
-    else joined_to_first (c ∷ []) (cut (ends_behind (ends_statement line) c) rest))
+    → statements_in (joined_to_first line
+    (if b then (c ∷ []) ∷ statement_lines rest
+    else joined_to_first (c ∷ []) (statement_lines rest)))
+    ≡ joined_to_first line (if ends_statement line && b then (c ∷ []) ∷ cut_statements false rest
+    else joined_to_first (c ∷ []) (cut_statements (ends_behind (ends_statement line) c) rest))
 unfolding joined_to_first ends_statement
 one_more rest behind c line true e =
-    let same : grouped (statement_lines rest) ≡ cut false rest =
-    ap grouped (sym (joined-nil (statement_lines rest) (lines_some rest))) ∙ behind []
-    ∙ joined-nil (cut false rest) (cut_some false rest) in
-    subst (λ x. grouped (joined_to_first line ((x ∷ []) ∷ statement_lines rest))
-    ≡ joined_to_first line (if ends_statement line && true then (x ∷ []) ∷ cut false rest
-    else joined_to_first (x ∷ []) (cut (ends_behind (ends_statement line) x) rest)))
+    let same : statements_in (statement_lines rest) ≡ cut_statements false rest =
+    ap statements_in (sym (joined-nil (statement_lines rest) (lines_some rest))) ∙ behind []
+    ∙ joined-nil (cut_statements false rest) (cut_some false rest) in
+    subst (λ x. statements_in (joined_to_first line ((x ∷ []) ∷ statement_lines rest))
+    ≡ joined_to_first line (if ends_statement line && true then (x ∷ []) ∷ cut_statements false rest
+    else joined_to_first (x ∷ []) (cut_statements (ends_behind (ends_statement line) x) rest)))
     (sym (eqb-true c 10 e)) (behind_end line rest (ends_statement line) refl same)
 one_more rest behind c line false e =
-    ap grouped (joined_assoc line (c ∷ []) (statement_lines rest)) ∙ behind (line ++ c ∷ [])
-    ∙ ap (λ b. joined_to_first (line ++ c ∷ []) (cut b rest)) (ends-more line c)
-    ∙ sym (joined_assoc line (c ∷ []) (cut (ends_behind (ends_statement line) c) rest))
-    ∙ ap (joined_to_first line) (sym (if_false _ _ (ends_statement line && false) (and-false (ends_statement line))))
+    ap statements_in (joined_assoc line (c ∷ []) (statement_lines rest)) ∙ behind (line ++ c ∷ [])
+    ∙ ap (λ b. joined_to_first (line ++ c ∷ []) (cut_statements b rest)) (ends-more line c)
+    ∙ sym (joined_assoc line (c ∷ []) (cut_statements (ends_behind (ends_statement line) c) rest))
+    ∙ ap (joined_to_first line)
+    (sym (if_false _ _ (ends_statement line && false) (and-false (ends_statement line))))
 
 lines_cut : (text line : List ℕ) → IsCutAfter text line
-unfolding statement_lines grouped joined_to_first cut
+unfolding statement_lines statements_in joined_to_first cut_statements
 lines_cut [] line = refl
 lines_cut (c ∷ rest) line = one_more rest (lines_cut rest) c line (c == 10) refl
 
-pub statements_cut : (text : List ℕ) → statements_of text ≡ joined_to_first [] (cut false text)
+pub statements_cut : (text : List ℕ)
+    → statements_of text ≡ joined_to_first [] (cut_statements false text)
 unfolding ends_statement
 statements_cut text =
-    ap grouped (sym (joined-nil (statement_lines text) (lines_some text))) ∙ lines_cut text []
+    ap statements_in (sym (joined-nil (statement_lines text) (lines_some text))) ∙ lines_cut text []
 
-pub statements_from_cut : (text : List ℕ) → statements_of text ≡ cut false text
-statements_from_cut text = statements_cut text ∙ joined-nil (cut false text) (cut_some false text)
+pub statements_from_cut : (text : List ℕ) → statements_of text ≡ cut_statements false text
+statements_from_cut text =
+    statements_cut text ∙ joined-nil (cut_statements false text) (cut_some false text)

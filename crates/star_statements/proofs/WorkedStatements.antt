@@ -1,34 +1,33 @@
 -- Texts with their statements, and statements with what they ask for.
-use Rattle.std.proofs.Common.{◌≡◌, ℕ, List, [], ◌∷◌, codes, refl}
+use Rattle.std.proofs.Common.{◌≡◌, [], ◌∷◌, codes, refl}
 use Rattle.star_statements.specs.Blanks.{without_blanks}
-use Rattle.star_common.specs.WhiteSpace.{is_blank}
 use Rattle.star_statements.specs.Questions.{asked_by, asked_by_text, begins_with_word}
-use Rattle.star_statements.specs.Statements.{ends_statement, grouped, joined_to_first, statement_lines, statements_of}
+use Rattle.star_statements.specs.Statements.{ends_statement, joined_to_first, statement_lines, statements_in, statements_of}
 use Rattle.star_statements.specs.declared.questions.Question.TheVariants.{Nothing, Query, Explain, Quote}
 
 -- a line that ends with a semicolon ends a statement; the last statement may lack it
 one_a_line : statements_of (codes "a;\nb;\nc") ≡ codes "a;\n" ∷ codes "b;\n" ∷ codes "c" ∷ []
-unfolding ends_statement grouped joined_to_first statement_lines
+unfolding ends_statement statements_in joined_to_first statement_lines
 one_a_line = refl
 
 -- a semicolon in a line ends none: neither one before other words, nor one before another line's
 within_lines : statements_of (codes "a; b\nc\n;\nd") ≡ codes "a; b\nc\n;\n" ∷ codes "d" ∷ []
-unfolding ends_statement grouped joined_to_first statement_lines
+unfolding ends_statement statements_in joined_to_first statement_lines
 within_lines = refl
 
 -- blanks and a carriage return may stand behind it; a carriage return alone ends no line
 with_blanks : statements_of (codes "a; \t\r\nb;\rc") ≡ codes "a; \t\r\n" ∷ codes "b;\rc" ∷ []
-unfolding ends_statement grouped joined_to_first statement_lines
+unfolding ends_statement statements_in joined_to_first statement_lines
 with_blanks = refl
 
 -- what stands behind the last line end is a statement too, also where it is nothing; an empty line
 -- belongs to what follows it
 of_nothing : statements_of (codes "a;\n\n") ≡ codes "a;\n" ∷ codes "\n" ∷ []
-unfolding ends_statement grouped joined_to_first statement_lines
+unfolding ends_statement statements_in joined_to_first statement_lines
 of_nothing = refl
 
 empty : statements_of [] ≡ [] ∷ []
-unfolding ends_statement grouped joined_to_first statement_lines
+unfolding ends_statement statements_in joined_to_first statement_lines
 empty = refl
 
 -- a query's text begins with its first byte that is no blank

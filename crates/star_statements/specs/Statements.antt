@@ -21,12 +21,12 @@ ends_statement [] = false
 ends_statement (c ∷ rest) = ((c == 59) && list_all is_blank rest) || ends_statement rest
 
 -- lines, those up to each that ends a statement made one
-unfoldable pub grouped : List (List ℕ) → List (List ℕ)
-grouped [] = []
-grouped (line ∷ []) = line ∷ []
-grouped (line ∷ (next ∷ lines)) =
-    if ends_statement line then line ∷ grouped (next ∷ lines)
-    else joined_to_first line (grouped (next ∷ lines))
+unfoldable pub statements_in : List (List ℕ) → List (List ℕ)
+statements_in [] = []
+statements_in (line ∷ []) = line ∷ []
+statements_in (line ∷ (next ∷ lines)) =
+    if ends_statement line then line ∷ statements_in (next ∷ lines)
+    else joined_to_first line (statements_in (next ∷ lines))
 
 abbrev pub statements_of : List ℕ → List (List ℕ)
-statements_of text = grouped (statement_lines text)
+statements_of text = statements_in (statement_lines text)

@@ -34,8 +34,8 @@ fn is_word_apart(front: &[u8], rest: &[u8], word: &[u8]) -> bool
     front.eq_ignore_ascii_case(word) && is_blank_at_front(rest)
 }
 
-// What stands behind a word and blanks, where a text begins with the word, in letters of either case,
-// and a blank.
+// What stands after a word and blanks, where a text begins with the word, in letters of either
+// case, and a blank.
 fn after_word<'a>(text: &'a [u8], word: &[u8]) -> Option<&'a [u8]>
     ensures found { IfSome result (λ query. (begins_with_word word.now text.now ≡ true)
         × (query.now ≡ behind_word word.now text.now)) }
@@ -51,9 +51,9 @@ fn after_word<'a>(text: &'a [u8], word: &[u8]) -> Option<&'a [u8]>
     }
 }
 
-/// What a text asks for that begins with no blank: for nothing where it is empty; for what `explain`
-/// or `quote` tell of the query behind that word; and else for the answer to a query. A text of more
-/// than 65,536 bytes is too long.
+/// What a text asks for that begins with no blank: for nothing where it is empty; for what
+/// `explain` or `quote` tell of the query after that word; and else for the answer to a query. A
+/// text of more than 65,536 bytes is too long.
 pub fn question_of(text: &[u8]) -> Question<&[u8]>
     ensures { question_view result ≡ asked_by_text text.now }
 {

@@ -32,7 +32,7 @@ fn ends_behind(ends: bool, byte: u8) -> bool
 
 // Whether a byte ends a statement, where there may be such a semicolon before it.
 fn closes(ends: bool, byte: u8) -> bool
-    ensures { result ≡ spec.closes ends byte }
+    ensures { result ≡ spec.closes_statement ends byte }
 {
     ends && byte == b'\n'
 }

@@ -34,7 +34,7 @@ pub struct Source<R> {
 }
 
 impl<R: Read> Source<R> {
-    /// A reader of which nothing was read yet.
+    /// Begins to read from a reader.
     pub fn new(reader: R) -> Source<R>
         ensures reader { reader_of result ≡ reader }
         ensures unfailed { has_failed result ≡ false }

@@ -93,7 +93,7 @@ pub const PRICES_READ: &str = concat!(
     "report 0\nshow s aggregate 0\n",
 );
 
-/// Sums under three keys and over all of them, of which two leave 64 bits: the least first.
+/// Sums under three keys and over all of them. Two leave 64 bits: the least first.
 pub const WIDE_SUMS_UP: &str = concat!(
     "star program 1\nregisters 5\ngroup 0 cube number : sum\n",
     "r0 = const 1\nr1 = const 2\nr2 = const 3\n",

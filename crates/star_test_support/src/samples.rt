@@ -15,8 +15,8 @@ pub fn loaded(alloc: Global, texts: &Texts<'_>) -> Result<Box<Catalogue>, Fail> 
     }
 }
 
-/// How many rows lineorder has, or why the tables were not loaded, where a table may have so many
-/// rows.
+/// How many rows lineorder has, or why the tables were not loaded, where a table may have at most
+/// `rows` rows.
 pub fn outcome_within(
     alloc: Global,
     texts: &Texts<'_>,

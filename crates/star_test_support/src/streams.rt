@@ -4,7 +4,7 @@ use std::alloc::{AllocError, Global};
 use std::io;
 use std::io::{Read, Write};
 
-/// A writer that takes at most so many bytes at once, and so many in all, and then fails.
+/// A writer that takes at most `at_once` bytes at once and `left` in all, and then fails.
 #[derive(Drop)]
 pub struct Short {
     pub taken: Vec<u8>,
@@ -13,7 +13,7 @@ pub struct Short {
 }
 
 impl Short {
-    /// A writer with room for so many bytes, and no more than that many, before it takes memory.
+    /// Makes a writer with room for `left` bytes before it takes memory.
     pub fn with_room(alloc: Global, left: usize, at_once: usize) -> Result<Short, AllocError> {
         Ok(Short {
             taken: Vec::with_capacity(alloc, left.min(1 << 20))?,
@@ -39,8 +39,8 @@ impl Write for Short {
     }
 }
 
-/// A reader of zeros: so many reads give at most so many bytes each, and then it fails or is at its
-/// end. It counts its reads.
+/// A reader of zeros: `good` reads give at most `at_once` bytes each, and then it fails or is at
+/// its end. It counts its reads.
 #[derive(Drop)]
 pub struct Zeros {
     pub good: u64,
@@ -64,8 +64,8 @@ impl Read for Zeros {
     }
 }
 
-/// A reader of a text that gives at most so many bytes at once, and fails where `until_failure` bytes
-/// were given. A text that ends before is read to its end.
+/// A reader of a text that gives at most `at_once` bytes at once, and fails where `until_failure`
+/// bytes were given. A text that ends before is read to its end.
 #[derive(Drop)]
 pub struct Choppy<'a> {
     pub left: &'a [u8],

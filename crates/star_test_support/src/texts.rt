@@ -2,7 +2,7 @@
 
 use std::alloc::{AllocError, Global};
 
-/// The front, so many times the middle, and the end.
+/// The front, the middle `count` times, and the end.
 pub fn repeated(
     alloc: Global,
     front: &str,

@@ -14,9 +14,9 @@ abbrev pub runs_of : (word : List ℕ) → Option ℕ
 runs_of word = if_allowed (numeral_of 19 word)
 
 -- no words ask for the usage, and a folder with a number of runs for times; any others for nothing
-abbrev pub IsAsked : List (List ℕ) → Asked → Type 0
-IsAsked words Usage = words ≡ []
-IsAsked words (Times folder runs) =
+abbrev pub IsAskedBy : List (List ℕ) → Asked → Type 0
+IsAskedBy words Usage = words ≡ []
+IsAskedBy words (Times folder runs) =
     (word : List ℕ) × (words ≡ folder.now ∷ word ∷ []) × (runs_of word ≡ Some runs)
-IsAsked words Nothing = ¬ (words ≡ [])
+IsAskedBy words Nothing = ¬ (words ≡ [])
     × ((folder word : List ℕ) → words ≡ folder ∷ word ∷ [] → runs_of word ≡ None)

@@ -14,7 +14,7 @@ use Rattle.star_schema.specs.Database.{Database}
 use Rattle.star_world.specs.WorldOf.{world_of}
 
 -- the program of the plan of a query of the benchmark
-pub record IsProgramOfQuery (query : BenchmarkQuery) (program : Parts) : Type 0 where
+pub record IsBenchmarkProgram (query : BenchmarkQuery) (program : Parts) : Type 0 where
   pub meant : Plan
   pub of_query : IsPlanOf (query_text query) meant
   pub made : program ≡ compiled meant

@@ -1,10 +1,8 @@
 -- What the program tells, where, and its exit status.
-use Rattle.std.specs.Prelude.{◌≡◌, ◌⊎◌, ◌++◌, ℕ, List, Result, Ok, Err, codes}
+use Rattle.std.specs.Prelude.{◌≡◌, ◌⊎◌, ◌++◌, ℕ, List, codes}
 use Rattle.star_cli.specs.FolderLoads.{IsFolderRefused}
 use Rattle.star_cli.specs.Lines.{IsFaultTold, IsTextTold}
-use Rattle.star_engine.specs.Answered.{Change, HasGained, HasGainedPart, IsUntouched}
-use Rattle.star_engine.specs.declared.fault.EngineFault.{EngineFault}
-use Rattle.star_engine.specs.declared.fault.EngineFault.TheVariants.{Write}
+use Rattle.star_engine.specs.Answered.{Change, HasGained, IsUntouched}
 use Rattle.star_engine.specs.declared.thirteen.TheConstants.{THIRTEEN}
 use Rattle.star_timing.specs.Lines.{AreLines}
 use Rattle.star_timing.specs.declared.asked.Asked.{Asked}
@@ -29,12 +27,6 @@ abbrev pub IsTimingFailureTold : {E : Type 0} → Change E → Failure → ℕ �
 IsTimingFailureTold err (Engine fault) status = IsFaultTold err fault status
 IsTimingFailureTold err Clock status =
     IsTextTold err (codes "error: the clock can't be read\n") × (status ≡ 6)
-
--- a whole text was written, or its first bytes
-abbrev pub IsWritten : {S : Type 0} → Change S → List ℕ → Result (Unit {0}) EngineFault → Type 0
-IsWritten out text (Ok answer) = HasGained out text
-IsWritten out text (Err (Write sent)) = HasGainedPart out text sent
-IsWritten out text (Err fault) = ⊥
 
 -- the lines of the thirteen queries are written, each of which ran so often
 abbrev pub AreWritten : {S : Type 0} → (runs : ℕ) → Change S → Type 0

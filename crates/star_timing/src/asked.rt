@@ -2,7 +2,7 @@
 
 ghost use Rattle.std.specs.Prelude.{◌≡◌, map, string_bytes};
 ghost use Rattle.star_timing.specs.Asked as spec;
-ghost use Rattle.star_timing.specs.Asked.{IsAsked};
+ghost use Rattle.star_timing.specs.Asked.{IsAskedBy};
 
 use star_common::numeral_value;
 
@@ -11,7 +11,7 @@ use star_common::numeral_value;
 pub(crate) enum Asked<'a> {
     /// Tell what its words are.
     Usage,
-    /// Time each query over the tables of a folder, so many runs of it.
+    /// Time `runs` runs of each query over the tables of a folder.
     Times { folder: &'a str, runs: u16 },
     /// Nothing: the words are none of these.
     Nothing,
@@ -29,7 +29,7 @@ fn runs_of(word: &str) -> Option<u16>
 
 /// What the words ask for, the program's own name left off.
 pub(crate) fn asked_of(words: &[String]) -> Asked<'_>
-    ensures { IsAsked (map string_bytes words.now) result }
+    ensures { IsAskedBy (map string_bytes words.now) result }
 {
     match words {
         [] => Asked::Usage,

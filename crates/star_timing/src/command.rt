@@ -1,10 +1,10 @@
 // What the program does for its words.
 
 ghost use Rattle.std.specs.Prelude.{◌≡◌, ◌<◌, OnOk, length, map, string_bytes};
-ghost use Rattle.star_engine.specs.Answered.{change};
-ghost use Rattle.star_timing.specs.Asked.{IsAsked};
+ghost use Rattle.star_engine.specs.Answered.{IsWritten, change};
+ghost use Rattle.star_timing.specs.Asked.{IsAskedBy};
 ghost use Rattle.star_timing.specs.Told as spec;
-ghost use Rattle.star_timing.specs.Told.{AreTimesTold, AreWritten, IsTimingTold, IsWritten};
+ghost use Rattle.star_timing.specs.Told.{AreTimesTold, AreWritten, IsTimingTold};
 ghost use Rattle.star_timing.specs.declared.asked.Asked.{Asked};
 
 use crate::asked::{Asked, asked_of};
@@ -12,9 +12,8 @@ use crate::failure::Failure;
 use crate::lines::lines_of;
 use star_catalogue::Catalogue;
 use star_cli::{load_folder, tell};
+use star_common::{Out, Sink, write_whole};
 use star_engine::EngineFault;
-use star_report::write_whole;
-use star_schema::{Out, Sink};
 use std::io::Write;
 use std::rt::{Clock, Env, Files};
 use std::{env, io};
@@ -104,7 +103,7 @@ pub(crate) fn command<R: Files + Clock + AllocGlobal, S: Sink, E: Sink>(
     out: &mut S,
     err: &mut E,
 ) -> u8
-    ensures { (asked : Asked) × IsAsked (map string_bytes words.now) asked
+    ensures { (asked : Asked) × IsAskedBy (map string_bytes words.now) asked
         × IsTimingTold asked (change S.contents S.is_failed out.old out.new)
         (change E.contents E.is_failed err.old err.new) result }
 {

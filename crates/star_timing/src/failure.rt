@@ -8,8 +8,8 @@ ghost use Rattle.star_timing.specs.Told.{IsTimingFailureTold};
 ghost use Rattle.star_timing.specs.declared.failure.Failure.TheVariants.{Engine};
 
 use star_cli::{tell, tell_fault};
+use star_common::Sink;
 use star_engine::EngineFault;
-use star_schema::Sink;
 use std::alloc::{AllocError, Global};
 
 /// Why no times are told.

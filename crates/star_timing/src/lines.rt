@@ -24,7 +24,7 @@ fn line_told(alloc: Global, query: BenchmarkQuery, summary: Summary) -> Result<S
     format!(in alloc; "query {name} {best} {median}\n")
 }
 
-// The line of a query, so many runs of which are timed over loaded tables.
+// The line of a query that is run and timed `runs` times over loaded tables.
 fn line_of<R: Clock + AllocGlobal>(
     rt: &R,
     catalogue: &Catalogue,
@@ -39,7 +39,7 @@ fn line_of<R: Clock + AllocGlobal>(
     Ok(line_told(rt.alloc(), query, summary_of(times))?)
 }
 
-/// The lines of the thirteen queries, so many runs of each timed over loaded tables.
+/// The lines of the thirteen queries, each run and timed `runs` times over loaded tables.
 pub(crate) fn lines_of<R: Clock + AllocGlobal>(
     rt: &R,
     catalogue: &Catalogue,

@@ -1,7 +1,7 @@
 // The runs of a query of the benchmark, and how long they take.
 
 ghost use Rattle.std.specs.Prelude.{◌≡◌, ◌<◌, IfOk, vec_len};
-ghost use Rattle.star_timing.specs.Runs.{IsProgramOfQuery, IsReportOfProgram};
+ghost use Rattle.star_timing.specs.Runs.{IsBenchmarkProgram, IsReportOfProgram};
 
 use crate::failure::Failure;
 use crate::times::microseconds;
@@ -21,7 +21,7 @@ use std::time::{Duration, Instant};
 
 // The program of a query.
 fn program_of(alloc: Global, query: BenchmarkQuery) -> Result<Program, EngineFault>
-    ensures { IfOk result (IsProgramOfQuery query) }
+    ensures { IfOk result (IsBenchmarkProgram query) }
 {
     let parsed = Query::parse(alloc, query.text().as_bytes())?;
     let planned = plan(alloc, &parsed)?;
@@ -39,7 +39,7 @@ pub(crate) fn verified_of<'c>(
     query: BenchmarkQuery,
 ) -> Result<Verified<'c>, EngineFault>
     ensures tables { IfOk result (λ verified. verified.database ≡ catalogue.now) }
-    ensures program { IfOk result (λ verified. IsProgramOfQuery query verified.program) }
+    ensures program { IfOk result (λ verified. IsBenchmarkProgram query verified.program) }
 {
     let program = program_of(alloc, query)?;
     match verify(alloc, catalogue, program, Limits::widest()) {
@@ -63,7 +63,7 @@ fn now(clock: &impl Clock) -> Result<Instant, Failure> {
     }
 }
 
-// How long one run takes. Its report is let go behind the second look at the clock.
+// How long one run takes. Its report is let go after the second look at the clock.
 fn time_of<R: Clock + AllocGlobal>(rt: &R, verified: &Verified<'_>) -> Result<Duration, Failure> {
     let start = now(rt)?;
     let _report = report_of(rt.alloc(), verified)?;

@@ -3,8 +3,8 @@
 use crate::asked::{Asked, asked_of};
 use crate::command::{command, usage};
 use crate::times::{Seconds, microseconds, summary_of};
+use star_common::Out;
 use star_engine::THIRTEEN;
-use star_schema::Out;
 use std::alloc::{AllocError, Global};
 use std::fs;
 use std::rt::{Clock, Files};
@@ -157,7 +157,7 @@ fn tells_tables_that_are_not_loaded(rt: HostRuntime) -> Result<(), Fail> {
     Ok(())
 }
 
-// The number of microseconds that six places behind a number of seconds write.
+// The number of microseconds that six places after a number of seconds write.
 fn time_read(word: &str) -> Option<u64> {
     let (seconds, places) = word.split_once(".")?;
     if places.len() != 6 {

@@ -1,5 +1,5 @@
 -- What an instruction does, by what was computed for it.
-use Rattle.std.proofs.Common.{◌≡◌, ◌⊎◌, ⊎_elim, ℕ, ℤ, Bool, true, false, Some, None, Option, refl, ap, sym, subst, ◌∙◌}
+use Rattle.std.proofs.Common.{◌≡◌, ◌⊎◌, ⊎_elim, ℕ, ℤ, Bool, true, false, Some, None, Option, refl, ap, sym, subst}
 use Rattle.std.specs.Prelude.{Result, Ok, Err, MatchOption, if◌then◌else◌}
 use Rattle.star_schema.specs.Database.{Database}
 use Rattle.star_program.specs.declared.op.Operator.{Operator}
@@ -18,7 +18,7 @@ use Rattle.star_program.specs.declared.value.Value.TheVariants.{Number}
 use Rattle.star_program.specs.Values.{Registers, with_entry}
 use Rattle.star_trial.specs.declared.fault.Stop.{Stop}
 use Rattle.star_trial.specs.declared.fault.Stop.TheVariants as stop
-use Rattle.star_trial.specs.Private.Acts.{IsMade, IsStop, Sets}
+use Rattle.star_trial.specs.Private.Acts.{IsActStopped, IsValueMade, Sets}
 use Rattle.star_trial.specs.Private.Stops.{stop_of_put}
 use Rattle.star_trial.specs.Private.Runs.{HasDone, Run}
 use Rattle.star_outcome.specs.Sound.{IsSoundValue}
@@ -31,36 +31,52 @@ answer_sound database Mul l r = tt
 answer_sound database Less l r = tt
 answer_sound database _ l r = tt
 
-module _ (database : Database) (parts : Parts) (registers : Registers) (run : Run) (s : State) (done : HasDone database parts run s) (t : ℕ) where
-  pub sets : (effect : Effect) (value : Value) → effect ≡ GoesOn (with_entry registers t value) s → IsSoundValue database value
+module _ (database : Database) (parts : Parts) (registers : Registers) (run : Run) (s : State)
+    (done : HasDone database parts run s) (t : ℕ) where
+  pub sets : (effect : Effect) (value : Value) → effect ≡ GoesOn (with_entry registers t value) s
+      → IsSoundValue database value
       → Sets database parts registers run t effect value
   sets effect value does sound = record { s = s; does = does; done = done; sound = sound }
 
   made : (v : Value) (b : Bool) (result : Result Value Stop) → IsSoundValue database v
-      → MatchOption (if b then Some v else None) (result ≡ Err (stop.Trap Overflow)) (λ value. result ≡ Ok value)
-      → IsMade database parts registers run t (unless_trap (unless b Overflow) (GoesOn (with_entry registers t v) s)) result
-  made v true result sound is = subst (IsMade database parts registers run t _) (sym is) (sets _ v refl sound)
-  made v false result sound is = subst (IsMade database parts registers run t _) (sym is) refl
+      → MatchOption (if b then Some v else None) (result ≡ Err (stop.Trap Overflow))
+      (λ value. result ≡ Ok value)
+      → IsValueMade database parts registers run t
+      (unless_trap (unless b Overflow) (GoesOn (with_entry registers t v) s)) result
+  made v true result sound is =
+      subst (IsValueMade database parts registers run t _) (sym is) (sets _ v refl sound)
+  made v false result sound is = subst (IsValueMade database parts registers run t _) (sym is) refl
 
   -- an operator's answer
-  pub answer_made : (o : Operator) (l r : Option Value) (answer : Option Value) (result : Result Value Stop) → answer ≡ fitting (answer_of o l r)
-      → MatchOption answer (result ≡ Err (stop.Trap Overflow)) (λ value. result ≡ Ok value) → IsMade database parts registers run t (sets_answer registers s t (answer_of o l r)) result
+  pub answer_made : (o : Operator) (l r : Option Value) (answer : Option Value)
+      (result : Result Value Stop) → answer ≡ fitting (answer_of o l r)
+      → MatchOption answer (result ≡ Err (stop.Trap Overflow)) (λ value. result ≡ Ok value)
+      → IsValueMade database parts registers run t (sets_answer registers s t (answer_of o l r))
+      result
   answer_made o l r answer result shown is =
       made (answer_of o l r) (fits_register (answer_of o l r)) result (answer_sound database o l r)
-      (subst (λ (a : Option Value). MatchOption a (result ≡ Err (stop.Trap Overflow)) (λ value. result ≡ Ok value)) shown is)
+      (subst (λ (a : Option Value).
+      MatchOption a (result ≡ Err (stop.Trap Overflow)) (λ value. result ≡ Ok value)) shown is)
 
   -- what a read gives
-  pub read_made : (z : ℤ) (answer : Option Value) (result : Result Value Stop) → answer ≡ fitting (Number z)
-      → MatchOption answer (result ≡ Err (stop.Trap Overflow)) (λ value. result ≡ Ok value) → IsMade database parts registers run t (sets_answer registers s t (Number z)) result
+  pub read_made : (z : ℤ) (answer : Option Value) (result : Result Value Stop)
+      → answer ≡ fitting (Number z)
+      → MatchOption answer (result ≡ Err (stop.Trap Overflow)) (λ value. result ≡ Ok value)
+      → IsValueMade database parts registers run t (sets_answer registers s t (Number z)) result
   read_made z answer result shown is =
       made (Number z) (fits_register (Number z)) result tt
-      (subst (λ (a : Option Value). MatchOption a (result ≡ Err (stop.Trap Overflow)) (λ value. result ≡ Ok value)) shown is)
+      (subst (λ (a : Option Value).
+      MatchOption a (result ≡ Err (stop.Trap Overflow)) (λ value. result ≡ Ok value)) shown is)
 
 -- a put that is refused
-pub put_stops : (d : GroupDecl) (registers : Registers) (s : State) (g : ℕ) (update : Update) (fault : PutFault) → (fault ≡ memory.OutOfMemory) ⊎ (overflows d.shape d.aggregates (s.updates_of g) update ≡ true)
-    → IsStop (puts_update d registers s g update) (stop_of_put fault)
+pub put_stops : (d : GroupDecl) (registers : Registers) (s : State) (g : ℕ) (update : Update)
+    (fault : PutFault) → (fault ≡ memory.OutOfMemory)
+    ⊎ (overflows d.shape d.aggregates (s.updates_of g) update ≡ true)
+    → IsActStopped (puts_update d registers s g update) (stop_of_put fault)
 put_stops d registers s g update memory.OutOfMemory why = tt
-put_stops d registers s g update memory.Overflow why = ⊎_elim {C = puts_update d registers s g update ≡ Traps Overflow} (λ memory. absurd (apart memory)) (λ leaves. ap (puts registers s g update) leaves) why
+put_stops d registers s g update memory.Overflow why =
+    ⊎_elim {C = puts_update d registers s g update ≡ Traps Overflow}
+    (λ memory. absurd (apart memory)) (λ leaves. ap (puts registers s g update) leaves) why
   where
     apart : memory.Overflow ≡ memory.OutOfMemory → ⊥
     apart e = cc

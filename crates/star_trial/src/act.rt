@@ -3,7 +3,7 @@
 ghost use Rattle.std.specs.Prelude.{◌≡◌, ◌<◌, ◌^◌, ℕ, Bool, List, None, Ok, Err, MatchOption, Some, length, slice_get, unwrap_or};
 ghost use Rattle.star_group.specs.declared.eager.EagerStore.{EagerStore};
 ghost use Rattle.star_group.specs.Eager.{group_view};
-ghost use Rattle.star_outcome.specs.Private.Placed.{IsPlaced};
+ghost use Rattle.star_outcome.specs.Private.Placed.{IsPutPlaced};
 ghost use Rattle.star_program.specs.declared.fault.TrapKind.TheVariants as TrapKind;
 ghost use Rattle.star_program.specs.declared.op.Op.TheVariants as op;
 ghost use Rattle.star_program.specs.declared.op.Operation.TheVariants as operation;
@@ -76,7 +76,7 @@ fn update(
     values: &RegisterList,
 ) -> Result<Flow, Stop>
     requires ready { CanAct machine.now registers.now run.old }
-    requires placed { IsPlaced machine.now.parts.now group keys.now values.now }
+    requires placed { IsPutPlaced machine.now.parts.now group keys.now values.now }
     requires keys { faults.keys_fault (length registers.now) (kinds_in (registers_view registers.now))
         (faults.group_at machine.now.parts.now group).keys keys.now ≡ None }
     ensures { HasActed machine.now registers.now registers.now run.old run.new

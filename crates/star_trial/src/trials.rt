@@ -55,7 +55,7 @@ fn run_through(
 }
 
 /// Runs a program, whether or not anything could be refused in it, over a loaded catalogue, with at
-/// most so many visits: a visit is a turn of a scan, one for each row.
+/// most `visits` visits: a visit is a turn of a scan, one for each row.
 ///
 /// Answers the rows of the reported group in order, and how many turns of scans were begun, how
 /// many finds were reached and how many puts went through. The first in the order of the run

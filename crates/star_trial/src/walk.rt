@@ -4,7 +4,7 @@ ghost use Rattle.std.specs.Prelude.{◌≡◌, ◌≤◌, ◌<◌, ◌+◌, ◌^
 ghost use Rattle.star_program.specs.Code.{code_size, scan_depth};
 ghost use Rattle.star_trial.specs.Private.Views.{registers_view};
 ghost use Rattle.star_outcome.specs.Sound.{IsSoundValue};
-ghost use Rattle.star_trial.specs.Private.Walks.{Does, HasWorked, IsReady, fault_at, means, means_scan, means_turn, means_turns};
+ghost use Rattle.star_trial.specs.Private.Walks.{Does, HasWorked, IsWalkReady, fault_at, means, means_scan, means_turn, means_turns};
 
 use crate::act::act;
 use crate::compute::set;
@@ -52,7 +52,7 @@ fn turn(
 ) -> Result<(), TrialFault>
     requires target { scanned.now.target < machine.now.parts.now.registers }
     requires wide { length registers.old ≡ machine.now.parts.now.registers }
-    requires ready { IsReady machine.now scanned.now.before.now frames.old run.old
+    requires ready { IsWalkReady machine.now scanned.now.before.now frames.old run.old
         (scan_depth scanned.now.body.now) 0 }
     requires row { IsSoundValue machine.now.catalogue.now row }
     ensures ends { Does machine.now run.old run.new
@@ -89,7 +89,7 @@ fn turns(
 ) -> Result<(), TrialFault>
     requires target { scanned.now.target < machine.now.parts.now.registers }
     requires wide { length registers.old ≡ machine.now.parts.now.registers }
-    requires ready { IsReady machine.now scanned.now.before.now frames.old run.old
+    requires ready { IsWalkReady machine.now scanned.now.before.now frames.old run.old
         (scan_depth scanned.now.body.now) 0 }
     ensures ends { Does machine.now run.old run.new
         (means_turns machine.now scanned.now (registers_view scanned.now.before.now)) result }
@@ -110,7 +110,7 @@ fn scan(
     frames: &mut [Register],
     run: &mut Work<EagerStore>,
 ) -> Result<(), TrialFault>
-    requires ready { IsReady machine.now scanned.now.before.now frames.old run.old
+    requires ready { IsWalkReady machine.now scanned.now.before.now frames.old run.old
         (1 + scan_depth scanned.now.body.now) 0 }
     ensures ends { Does machine.now run.old run.new
         (means_scan machine.now scanned.now (registers_view scanned.now.before.now)) result }
@@ -141,7 +141,7 @@ pub(crate) fn walk(
 ) -> Result<(), TrialFault>
     requires size { code_size body.now ≤ 4096 }
     requires at { at + code_size body.now < 2 ^ 16 }
-    requires ready { IsReady machine.now registers.old frames.old run.old (scan_depth body.now)
+    requires ready { IsWalkReady machine.now registers.old frames.old run.old (scan_depth body.now)
         (code_size body.now) }
     ensures ends { Does machine.now run.old run.new
         (means machine.now body.now at inside (registers_view registers.old)) result }

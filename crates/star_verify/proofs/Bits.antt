@@ -10,7 +10,8 @@ use Rattle.std.specs.Prelude.{◌||◌, nat_eq}
 
 pub bit_is : (k i : ℕ) → nat_eq (bit_at (2 ^ k) i) 1 ≡ nat_eq k i
 bit_is k i = elim (eqb_tells k i) [
-  | inl h ↦ ap (λ b. nat_eq b 1) (ap (λ j. bit_at (2 ^ k) j) (sym h.1) ∙ bit_at-pow_same k) ∙ sym h.0
+  | inl h ↦ ap (λ b. nat_eq b 1) (ap (λ j. bit_at (2 ^ k) j) (sym h.1) ∙ bit_at-pow_same k)
+      ∙ sym h.0
   | inr h ↦ ap (λ b. nat_eq b 1) (bit_at-pow_other k i (λ e. h.1 (sym e))) ∙ sym h.0
 ]
 
@@ -22,9 +23,11 @@ either_bit (suc zero) (suc zero) p q = refl
 either_bit (suc (suc x)) y p q = absurd (omega (arith, p))
 either_bit x (suc (suc y)) p q = absurd (omega (arith, q))
 
-pub either_set : (a b i : ℕ) → nat_eq (bit_at (bit_or a b) i) 1 ≡ nat_eq (bit_at a i) 1 || nat_eq (bit_at b i) 1
+pub either_set : (a b i : ℕ)
+    → nat_eq (bit_at (bit_or a b) i) 1 ≡ nat_eq (bit_at a i) 1 || nat_eq (bit_at b i) 1
 either_set a b i =
-    ap (λ n. nat_eq n 1) (bit_at_or a b i) ∙ either_bit (bit_at a i) (bit_at b i) (bit_at-lt a i) (bit_at-lt b i)
+    ap (λ n. nat_eq n 1) (bit_at_or a b i)
+    ∙ either_bit (bit_at a i) (bit_at b i) (bit_at-lt a i) (bit_at-lt b i)
 
 pub bit_alone : (k : ℕ) → k < 58 → 1 * 2 ^ k % 2 ^ 64 ≡ 2 ^ k
 bit_alone k small =

@@ -13,12 +13,12 @@ use Rattle.star_schema.proofs.Same.{at_index, column_same, index_within}
 use Rattle.star_interval.specs.declared.Interval.{Interval}
 use Rattle.star_interval.specs.Interval.{range_of}
 use Rattle.star_program.specs.World.{World}
-use Rattle.star_verify.specs.Private.Facts.{AreBounds, AreFacts}
+use Rattle.star_verify.specs.Private.Facts.{AreBoundsBefore, AreFacts}
 
 module _ (w : World) (bounds : List Interval) (k : ℕ) (d : ColumnId) (new : Interval) where
-  pub one_more : length bounds ≡ 58 → AreBounds w bounds k
+  pub one_more : length bounds ≡ 58 → AreBoundsBefore w bounds k
       → range_of new ≡ w.bounds (get_or COLUMNS k d)
-      → AreBounds w (slice_set bounds (index_of (get_or COLUMNS k d)) new) (k + 1)
+      → AreBoundsBefore w (slice_set bounds (index_of (get_or COLUMNS k d)) new) (k + 1)
   one_more len are is c i before at =
       go (nat_eq (index_of (get_or COLUMNS k d)) (index_of c)) refl
     where
@@ -43,7 +43,7 @@ module _ (w : World) (bounds : List Interval) (k : ℕ) (d : ColumnId) (new : In
           are c i (omega (arith, before, other)) (at ∙ (rw get_or-set_other refl))
 
 pub all_facts : (w : World) (sizes : Sizes) (bounds : List Interval) (k : ℕ)
-    → ((t : TableId) → size_of sizes t ≡ w.size t) → 58 ≤ k → AreBounds w bounds k
+    → ((t : TableId) → size_of sizes t ≡ w.size t) → 58 ≤ k → AreBoundsBefore w bounds k
     → AreFacts w (record { sizes = sizes; bounds = bounds })
 all_facts w sizes bounds k same past are = record {
   sizes = same;

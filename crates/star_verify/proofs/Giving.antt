@@ -7,7 +7,7 @@ use Rattle.star_safety.specs.Ranges as ranges
 use Rattle.star_safety.specs.Tallies.{Share}
 use Rattle.star_verify.specs.declared.tally.Tally.{Tally}
 use Rattle.star_verify.specs.Private.Bounded.{IsBounded}
-use Rattle.star_verify.specs.Private.Kept.{IsGrown}
+use Rattle.star_verify.specs.Private.Kept.{IsTallyGrown}
 use Rattle.star_verify.specs.Private.Made.{IsTallyAt}
 use Rattle.star_verify.specs.Private.Views.{IsTally}
 
@@ -41,19 +41,21 @@ module _ (old mid new : List Tally) (first met n : ℕ) (one : Option ranges.Kno
       (λ t. keep (first + 1 + b) t (λ e. omega (arith, e)))
       (subst (λ p. IsTallyAt old p ss) there h)))
 
-  pub grown_more : ((t : Tally) → IsGrown (slice_index_or old first t) (slice_index_or mid first t) met)
+  pub grown_more : ((t : Tally)
+      → IsTallyGrown (slice_index_or old first t) (slice_index_or mid first t) met)
       → ((p : ℕ) (t : Tally) → ((p ≡ first) → ⊥) → slice_index_or mid p t ≡ slice_index_or old p t)
       → ((p : ℕ) (t : Tally) → IsBounded (slice_index_or mid p t)
-      → IsGrown (slice_index_or mid p t) (slice_index_or new p t) met)
+      → IsTallyGrown (slice_index_or mid p t) (slice_index_or new p t) met)
       → ((p : ℕ) (t : Tally) → (p < first + 1) ⊎ (first + 1 + n ≤ p)
       → slice_index_or new p t ≡ slice_index_or mid p t)
       → (p : ℕ) (t : Tally) → IsBounded (slice_index_or old p t)
-      → IsGrown (slice_index_or old p t) (slice_index_or new p t) met
+      → IsTallyGrown (slice_index_or old p t) (slice_index_or new p t) met
   grown_more add keep give leave p t bounded = ⊎_elim
-      (λ e. let here = subst (λ q. IsGrown (slice_index_or old q t) (slice_index_or mid q t) met) (sym e.1) (add t) in
-      subst (λ tally. IsGrown (slice_index_or old p t) tally met)
+      (λ e. let here = subst (λ q.
+      IsTallyGrown (slice_index_or old q t) (slice_index_or mid q t) met) (sym e.1) (add t) in
+      subst (λ tally. IsTallyGrown (slice_index_or old p t) tally met)
       (sym (leave p t (inl (omega (arith, e.1))))) here)
       (λ e. let same = keep p t e.1 in
-      subst (λ tally. IsGrown tally (slice_index_or new p t) met) same
+      subst (λ tally. IsTallyGrown tally (slice_index_or new p t) met) same
       (give p t (subst IsBounded (sym same) bounded)))
       (eqb_tells p first)

@@ -72,10 +72,13 @@ module _ (w : World) (parts : Parts) (x : Context) (old new : List Tally) (g met
       (subst (λ n. IsTally (slice_index_or new (8 * n + a) t) (share ∷ x.so_far n a)) (sym p.1)
       (now t)))
       (λ p. let share = put_share parts x g vs a in
-      let few = (All-get_or IsSmall parts.groups h (record { shape = Plain; keys = []; aggregates = [] }) lt small).aggregates in
-      let many = (All-get_or IsSmall parts.groups g (record { shape = Plain; keys = []; aggregates = [] }) there small).aggregates in
+      let few = (All-get_or IsSmall parts.groups h
+      (record { shape = Plain; keys = []; aggregates = [] }) lt small).aggregates in
+      let many = (All-get_or IsSmall parts.groups g
+      (record { shape = Plain; keys = []; aggregates = [] }) there small).aggregates in
       let kept = leave (8 * h + a) t
-      (apart h g a (length gs) p.1 (omega (arith, below, few)) (omega (arith, many, ap length is))) in
+      (apart h g a (length gs) p.1 (omega (arith, below, few))
+      (omega (arith, many, ap length is))) in
       subst (λ (b : Bool). IsTally (slice_index_or new (8 * h + a) t)
       ((if b then share ∷ [] else []) ++ x.so_far h a)) (sym p.0)
       (subst (λ tally. IsTally tally (x.so_far h a)) (sym kept) (had h lt a below t)))
@@ -92,9 +95,11 @@ pub put_key_shares : (w : World) (parts : Parts) (x : Context) (old new : List T
     → ((p : ℕ) (t : Tally) → (p < 8 * g) ⊎ (8 * g + length keys ≤ p)
     → slice_index_or new p t ≡ slice_index_or old p t)
     → HasKeyShares parts new (after_op w parts x (Put g ks vs))
-put_key_shares w parts x old new g met ks vs keys table small same known often there counted had give leave h lt k below t = ⊎_elim
+put_key_shares w parts x old new g met ks vs keys table small same known often there counted had
+    give leave h lt k below t = ⊎_elim
     (λ p. let share = key_share x ks k in
-    let in_g : k < length ks = omega (arith, counted, ap (λ n. length (group_at parts n).keys) p.1, below) in
+    let in_g : k < length ks =
+    omega (arith, counted, ap (λ n. length (group_at parts n).keys) p.1, below) in
     let in_keys : k < length keys = omega (arith, in_g, ap length same) in
     let one : known_share met (slice_index_or (map table keys) k None) ≡ share =
     ap (known_share met) (get_or-map table keys k 0 None in_keys)
@@ -107,10 +112,13 @@ put_key_shares w parts x old new g met ks vs keys table small same known often t
     (subst (λ n. IsTally (slice_index_or new (8 * n + k) t) (share ∷ x.keys_so_far n k)) (sym p.1)
     (now t)))
     (λ p. let share = key_share x ks k in
-    let few = (All-get_or IsSmall parts.groups h (record { shape = Plain; keys = []; aggregates = [] }) lt small).keys in
-    let many = (All-get_or IsSmall parts.groups g (record { shape = Plain; keys = []; aggregates = [] }) there small).keys in
+    let few = (All-get_or IsSmall parts.groups h
+    (record { shape = Plain; keys = []; aggregates = [] }) lt small).keys in
+    let many = (All-get_or IsSmall parts.groups g
+    (record { shape = Plain; keys = []; aggregates = [] }) there small).keys in
     let kept = leave (8 * h + k) t
-    (apart h g k (length keys) p.1 (omega (arith, below, few)) (omega (arith, many, counted, ap length same))) in
+    (apart h g k (length keys) p.1 (omega (arith, below, few))
+    (omega (arith, many, counted, ap length same))) in
     subst (λ (b : Bool). IsTally (slice_index_or new (8 * h + k) t)
     ((if b then share ∷ [] else []) ++ x.keys_so_far h k)) (sym p.0)
     (subst (λ tally. IsTally tally (x.keys_so_far h k)) (sym kept) (had h lt k below t)))

@@ -17,7 +17,8 @@ module _ {X : Type 0} (col : X → GroupColumn) (d : GroupDecl) (line : ℕ) (xs
     -- what is left, by the next line
     next : (x : X) → i < length xs
         → first_unshown d line (map col (drop i xs))
-        ≡ (if has_column d (col (get_or xs i x)) then first_unshown d (line + 1) (map col (drop (i + 1) xs)) else Some line)
+        ≡ (if has_column d (col (get_or xs i x))
+        then first_unshown d (line + 1) (map col (drop (i + 1) xs)) else Some line)
     next x lt =
         ap (λ ys. first_unshown d line (map col ys)) (drop-cons xs i x lt)
         ∙ ap (λ n. first_unshown d line (map col (get_or xs i x ∷ drop n xs))) (sym (add-one i))
@@ -27,13 +28,15 @@ module _ {X : Type 0} (col : X → GroupColumn) (d : GroupDecl) (line : ℕ) (xs
         ≡ first_unshown d (line + 1) (map col (drop (i + 1) xs))
     unshown_next x lt has =
         next x lt
-        ∙ ap (λ b. if b then first_unshown d (line + 1) (map col (drop (i + 1) xs)) else Some line) has
+        ∙ ap (λ b. if b then first_unshown d (line + 1) (map col (drop (i + 1) xs)) else Some line)
+        has
 
     pub unshown_here : (x : X) → i < length xs → has_column d (col (get_or xs i x)) ≡ false
         → first_unshown d line (map col (drop i xs)) ≡ Some line
     unshown_here x lt has =
         next x lt
-        ∙ ap (λ b. if b then first_unshown d (line + 1) (map col (drop (i + 1) xs)) else Some line) has
+        ∙ ap (λ b. if b then first_unshown d (line + 1) (map col (drop (i + 1) xs)) else Some line)
+        has
 
     pub unshown_end : length xs ≤ i → first_unshown d line (map col (drop i xs)) ≡ None
     unshown_end past = ap (λ ys. first_unshown d line (map col ys)) (drop_all i xs past)
@@ -54,7 +57,8 @@ unshown_append d line (x ∷ xs) ys =
     ap (λ o. if has_column d x then o else Some line) (unshown_append d (line + 1) xs ys)
     ∙ either (has_column d x) (first_unshown d (line + 1) xs)
     (first_unshown d (line + 1 + length xs) ys) line
-    ∙ ap (λ n. option_or (if has_column d x then first_unshown d (line + 1) xs else Some line) (first_unshown d n ys)) e
+    ∙ ap (λ n. option_or (if has_column d x then first_unshown d (line + 1) xs else Some line)
+    (first_unshown d n ys)) e
 
 -- the show lines and then the sort lines
 pub both_lines : (d : GroupDecl) (parts : Parts)
@@ -64,7 +68,8 @@ pub both_lines : (d : GroupDecl) (parts : Parts)
 both_lines d parts =
     let shown : List GroupColumn = map (λ show. show.column) parts.shows in
     let sorted : List GroupColumn = map (λ sort. sort.column) parts.sorts in
-    let len : 1 + length shown ≡ length parts.shows + 1 = omega (arith, length-map parts.shows (λ show. show.column)) in
+    let len : 1 + length shown ≡ length parts.shows + 1 =
+    omega (arith, length-map parts.shows (λ show. show.column)) in
     unshown_append d 1 shown sorted
     ∙ ap (λ n. option_or (first_unshown d 1 shown) (first_unshown d n sorted)) len
 
@@ -75,8 +80,11 @@ pub reported : (d : GroupDecl) (parts : Parts) (line : Option ℕ) → d ≡ gro
 reported d parts line is there some e =
     sym e
     ∙ ap (λ g. first_unshown g 1 (named_columns parts)) is
-    ∙ sym (ap (λ b. if b && nat_lt 0 (length parts.shows) then first_unshown (group_at parts parts.report) 1 (named_columns parts) else Some 0) (lt-ltb parts.report (length parts.groups) there)
-    ∙ ap (λ b. if b then first_unshown (group_at parts parts.report) 1 (named_columns parts) else Some 0) (lt-ltb 0 (length parts.shows) some))
+    ∙ sym (ap (λ b. if b && nat_lt 0 (length parts.shows)
+    then first_unshown (group_at parts parts.report) 1 (named_columns parts) else Some 0)
+    (lt-ltb parts.report (length parts.groups) there)
+    ∙ ap (λ b. if b then first_unshown (group_at parts parts.report) 1 (named_columns parts)
+    else Some 0) (lt-ltb 0 (length parts.shows) some))
 
 pub not_empty : (n : ℕ) (b : Bool) → b ≡ nat_eq n 0 → b ≡ false → 0 < n
 not_empty zero b e f = cc

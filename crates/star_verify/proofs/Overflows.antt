@@ -13,18 +13,22 @@ use Rattle.star_verify.specs.Private.Views.{reach_view}
 
 module _ (w : World) (r : Range) (reach : ranges.Reach) where
   pub fitting : FitsI64 r → overflow_of w (ranges.KnownNumber r reach None) ≡ None
-  fitting fits = ap (λ b. refuses (not b) (Overflow r.low r.high (reached w reach))) ((fits_i64_fits r).1 fits)
+  fitting fits = ap (λ b. refuses (not b) (Overflow r.low r.high (reached w reach)))
+      ((fits_i64_fits r).1 fits)
 
   pub leaving : (FitsI64 r → ⊥)
-      → overflow_of w (ranges.KnownNumber r reach None) ≡ Some (Overflow r.low r.high (reached w reach))
+      → overflow_of w (ranges.KnownNumber r reach None)
+      ≡ Some (Overflow r.low r.high (reached w reach))
   leaving none = go (fits_i64 r) refl
     where
       go : (b : Bool) → fits_i64 r ≡ b
-          → refuses (not b) (Overflow r.low r.high (reached w reach)) ≡ Some (Overflow r.low r.high (reached w reach))
+          → refuses (not b) (Overflow r.low r.high (reached w reach))
+          ≡ Some (Overflow r.low r.high (reached w reach))
       go true e = absurd (none ((fits_i64_fits r).0 e))
       go false e = refl
 
-pub computed_is : (operation : ℤ → ℤ → ℤ) (b from to : Range) (reach on_left on_right : ranges.Reach)
+pub computed_is : (operation : ℤ → ℤ → ℤ) (b from to : Range)
+    (reach on_left on_right : ranges.Reach)
     (left right : Option ranges.Known)
     → b ≡ corner_range operation from to → from ≡ ranges.range_at left → to ≡ ranges.range_at right
     → reach ≡ ranges.joined_reach on_left on_right
@@ -40,9 +44,13 @@ computed_is operation b from to reach on_left on_right left right e f g h j k =
 -- what leaves 64 bits is told by its range and its columns
 pub overflow_as : (w : World) (result : Result Known Beyond) (k made : ranges.Known) → k ≡ made
     → MatchResult result (λ _. overflow_of w k ≡ None)
-    (λ beyond. overflow_of w k ≡ Some (Overflow beyond.range.low beyond.range.high (reached w (reach_view beyond.reach))))
+    (λ beyond. overflow_of w k
+    ≡ Some (Overflow beyond.range.low beyond.range.high (reached w (reach_view beyond.reach))))
     → MatchResult result (λ _. overflow_of w made ≡ None)
-    (λ beyond. overflow_of w made ≡ Some (Overflow beyond.range.low beyond.range.high (reached w (reach_view beyond.reach))))
+    (λ beyond. overflow_of w made
+    ≡ Some (Overflow beyond.range.low beyond.range.high (reached w (reach_view beyond.reach))))
 overflow_as w result k made e h =
     subst (λ (m : ranges.Known). MatchResult result (λ _. overflow_of w m ≡ None)
-    (λ beyond. overflow_of w m ≡ Some (Overflow beyond.range.low beyond.range.high (reached w (reach_view beyond.reach))))) e h
+    (λ beyond. overflow_of w m
+    ≡ Some (Overflow beyond.range.low beyond.range.high (reached w (reach_view beyond.reach)))))
+    e h

@@ -32,13 +32,15 @@ same_quote w facts are parts visits e =
 module _ (w : World) (most : ℕ) (parts : Parts) (facts : Facts) (are : AreFacts w facts)
     (visits : ℕ) (quoted : visits ≡ quote (size_of facts.sizes) parts) where
   abbrev later : Option (ℕ × Reason) → Option ℕ → Option admissible.Refusal
-  later reason line = option_or (option_map admissible.Refused reason) (option_map admissible.BadShow line)
+  later reason line = option_or (option_map admissible.Refused reason)
+      (option_map admissible.BadShow line)
 
   pub too_costly : most < visits → first_refusal w most parts ≡ Some (admissible.TooCostly visits)
   too_costly over =
       let same = same_quote w facts are parts visits quoted in
       subst (λ n. first_refusal w most parts ≡ Some (admissible.TooCostly n)) (sym same)
-      (ap (λ cheap. option_or (cost_refusal (quote w.size parts) cheap) (later (first_answer (reason_of w parts) (instructions_of w parts)) (shown_fault parts)))
+      (ap (λ cheap. option_or (cost_refusal (quote w.size parts) cheap)
+      (later (first_answer (reason_of w parts) (instructions_of w parts)) (shown_fault parts)))
       (lt-leb (quote w.size parts) most (subst (λ n. most < n) same over)))
 
   -- within the limit, the instructions decide, and then the report
@@ -48,7 +50,8 @@ module _ (w : World) (most : ℕ) (parts : Parts) (facts : Facts) (are : AreFact
       → first_refusal w most parts ≡ later reason line
   within held is cheap reason line first shown =
       let same = same_quote w facts are parts visits quoted in
-      ap (λ b. option_or (cost_refusal (quote w.size parts) b) (later (first_answer (reason_of w parts) (instructions_of w parts)) (shown_fault parts)))
+      ap (λ b. option_or (cost_refusal (quote w.size parts) b)
+      (later (first_answer (reason_of w parts) (instructions_of w parts)) (shown_fault parts)))
       (le-leb (quote w.size parts) most (subst (λ n. n ≤ most) same cheap))
       ∙ ap (λ r. later r (shown_fault parts)) (sym (first_standing w parts)
       ∙ subst (λ p. first_reason w p none_open at_first 1 p.body ≡ reason) is first)

@@ -11,7 +11,8 @@ use Rattle.star_verify.specs.declared.register.Register.{Register}
 use Rattle.star_verify.specs.Private.Views.{kind_known, known_in, known_of, known_view, nothing_known}
 
 known_set_at : (xs : List Register) (t : ℕ) (k : Known) (r : ℕ) → t < length xs
-    → known_in (slice_set xs t (record { known = Some k })) r ≡ with_entry (known_in xs) t (known_view k) r
+    → known_in (slice_set xs t (record { known = Some k })) r
+    ≡ with_entry (known_in xs) t (known_view k) r
 known_set_at xs t k r h =
     let new : Register = record { known = Some k } in
     ⊎_elim
@@ -24,10 +25,12 @@ known_set_at xs t k r h =
 
 -- a register that is written
 pub known_set : (xs : List Register) (t : ℕ) (k : Known) → t < length xs
-    → known_in (slice_set xs t (record { known = Some k })) ≡ with_entry (known_in xs) t (known_view k)
+    → known_in (slice_set xs t (record { known = Some k }))
+    ≡ with_entry (known_in xs) t (known_view k)
 known_set xs t k h = λ i r. known_set_at xs t k r h i
 
-kind_at : (xs : List Register) (r : ℕ) → register_kinds kind_known xs r ≡ kinds_known (known_in xs) r
+kind_at : (xs : List Register) (r : ℕ)
+    → register_kinds kind_known xs r ≡ kinds_known (known_in xs) r
 kind_at [] r = refl
 kind_at (x ∷ xs) zero = refl
 kind_at (x ∷ xs) (suc r) = kind_at xs r

@@ -17,7 +17,7 @@ use Rattle.star_program.specs.Puts.{masks}
 use Rattle.star_program.specs.World.{World}
 use Rattle.star_safety.specs.MostRows.{all_key_shares, each_values, lists_of, most_report_rows, numbers_to, rows_of_grouping, rows_of_groupings, width}
 use Rattle.star_safety.specs.Tallies.{most_of}
-use Rattle.star_verify.specs.Private.Rows.{AgreeUpTo, MayHide, goes_on, groupings, lesser, may_hide, may_show, rows_behind, rows_of_rest}
+use Rattle.star_verify.specs.Private.Rows.{AgreeUpTo, MayHide, grouping_goes_on, groupings, lesser, may_hide, may_show, rows_behind, rows_of_rest}
 
 -- ---- the width of a range
 
@@ -71,7 +71,8 @@ module _ {X : Type 0} where
       by : (b : Bool)
           → sum_by f (filter p (map g xs)) ≡ sum_by (λ x. f (g x)) (filter (λ x. p (g x)) xs)
           → sum_by f (if b then g x ∷ filter p (map g xs) else filter p (map g xs))
-          ≡ sum_by (λ y. f (g y)) (if b then x ∷ filter (λ y. p (g y)) xs else filter (λ y. p (g y)) xs)
+          ≡ sum_by (λ y. f (g y)) (if b then x ∷ filter (λ y. p (g y)) xs
+          else filter (λ y. p (g y)) xs)
       by true e = sum_by-cons f (g x) (filter p (map g xs)) ∙ ap (λ n. f (g x) + n) e
           ∙ sym (sum_by-cons (λ y. f (g y)) x (filter (λ y. p (g y)) xs))
       by false e = e
@@ -84,23 +85,27 @@ module _ {X : Type 0} where
       → sum_by f (filter p xs) ≡ 0
   sum_none f p none [] = refl
   sum_none f p none (x ∷ xs) =
-      ap (λ (b : Bool). sum_by f (if b then x ∷ filter p xs else filter p xs)) (none x) ∙ sum_none f p none xs
+      ap (λ (b : Bool). sum_by f (if b then x ∷ filter p xs else filter p xs)) (none x)
+      ∙ sum_none f p none xs
 
 -- ---- one key more
 
 -- what is added by the groupings that show a key, and by those that hide it
 module _ (u : ℕ) (s : Shape) (has_shown has_hidden : Bool) (lists c : ℕ) (cs : List ℕ) where
   parted : rows_behind u s has_shown has_hidden lists (c ∷ cs)
-      ≡ sum_by (λ m. rows_of_rest u has_shown lists (Some c ∷ m)) (filter (λ m. goes_on s has_hidden (Some c ∷ m)) (masks cs))
-      + sum_by (λ m. rows_of_rest u has_shown lists (None ∷ m)) (filter (λ m. goes_on s has_hidden (None ∷ m)) (masks cs))
+      ≡ sum_by (λ m. rows_of_rest u has_shown lists (Some c ∷ m))
+      (filter (λ m. grouping_goes_on s has_hidden (Some c ∷ m)) (masks cs))
+      + sum_by (λ m. rows_of_rest u has_shown lists (None ∷ m))
+      (filter (λ m. grouping_goes_on s has_hidden (None ∷ m)) (masks cs))
   parted =
       let rows = rows_of_rest u has_shown lists in
-      let p = goes_on s has_hidden in
+      let p = grouping_goes_on s has_hidden in
       let shown = map (λ m. Some c ∷ m) (masks cs) in
       let hidden = map (λ m. None ∷ m) (masks cs) in
       ap (sum_by rows) (filter-append p shown hidden)
       ∙ sum_by-append rows (filter p shown) (filter p hidden)
-      ∙ (λ i. sum_mapped rows p (λ m. Some c ∷ m) (masks cs) i + sum_mapped rows p (λ m. None ∷ m) (masks cs) i)
+      ∙ (λ i. sum_mapped rows p (λ m. Some c ∷ m) (masks cs) i
+      + sum_mapped rows p (λ m. None ∷ m) (masks cs) i)
 
   shown_rows : (m : List (Option ℕ))
       → rows_of_rest u has_shown lists (Some c ∷ m) ≡ rows_of_rest u true (lists * c) m
@@ -120,31 +125,39 @@ module _ (u : ℕ) (s : Shape) (has_shown has_hidden : Bool) (lists c : ℕ) (cs
   unfolding rows_of_rest
   hidden_rows m = refl
 
-  behind_shown : ((m : List (Option ℕ)) → goes_on s has_hidden (Some c ∷ m) ≡ goes_on s has_hidden m)
-      → sum_by (λ m. rows_of_rest u has_shown lists (Some c ∷ m)) (filter (λ m. goes_on s has_hidden (Some c ∷ m)) (masks cs))
+  behind_shown : ((m : List (Option ℕ))
+      → grouping_goes_on s has_hidden (Some c ∷ m) ≡ grouping_goes_on s has_hidden m)
+      → sum_by (λ m. rows_of_rest u has_shown lists (Some c ∷ m))
+      (filter (λ m. grouping_goes_on s has_hidden (Some c ∷ m)) (masks cs))
       ≡ rows_behind u s true has_hidden (lists * c) cs
   behind_shown may = sum_agree _ _ _ _ shown_rows may (masks cs)
 
-  behind_hidden : ((m : List (Option ℕ)) → goes_on s has_hidden (None ∷ m) ≡ goes_on s true m)
-      → sum_by (λ m. rows_of_rest u has_shown lists (None ∷ m)) (filter (λ m. goes_on s has_hidden (None ∷ m)) (masks cs))
+  behind_hidden : ((m : List (Option ℕ))
+      → grouping_goes_on s has_hidden (None ∷ m) ≡ grouping_goes_on s true m)
+      → sum_by (λ m. rows_of_rest u has_shown lists (None ∷ m))
+      (filter (λ m. grouping_goes_on s has_hidden (None ∷ m)) (masks cs))
       ≡ rows_behind u s has_shown true lists cs
   behind_hidden may = sum_agree _ _ _ _ hidden_rows may (masks cs)
 
 -- of a plain group each key is shown
 plain_more : (u : ℕ) (has_shown : Bool) (lists c : ℕ) (cs : List ℕ)
-    → rows_behind u Plain has_shown false lists (c ∷ cs) ≡ rows_behind u Plain true false (lists * c) cs
+    → rows_behind u Plain has_shown false lists (c ∷ cs)
+    ≡ rows_behind u Plain true false (lists * c) cs
 plain_more u has_shown lists c cs =
     parted u Plain has_shown false lists c cs
     ∙ (λ i. behind_shown u Plain has_shown false lists c cs (λ m. refl) i
-    + sum_none (λ m. rows_of_rest u has_shown lists (None ∷ m)) (λ m. goes_on Plain false (None ∷ m)) (λ m. refl) (masks cs) i)
+    + sum_none (λ m. rows_of_rest u has_shown lists (None ∷ m))
+    (λ m. grouping_goes_on Plain false (None ∷ m)) (λ m. refl) (masks cs) i)
     ∙ omega arith
 
 -- of a rollup no key behind one that is hidden
 rollup_hidden : (u : ℕ) (has_shown : Bool) (lists c : ℕ) (cs : List ℕ)
-    → rows_behind u Rollup has_shown true lists (c ∷ cs) ≡ rows_behind u Rollup has_shown true lists cs
+    → rows_behind u Rollup has_shown true lists (c ∷ cs)
+    ≡ rows_behind u Rollup has_shown true lists cs
 rollup_hidden u has_shown lists c cs =
     parted u Rollup has_shown true lists c cs
-    ∙ (λ i. sum_none (λ m. rows_of_rest u has_shown lists (Some c ∷ m)) (λ m. goes_on Rollup true (Some c ∷ m)) (λ m. refl) (masks cs) i
+    ∙ (λ i. sum_none (λ m. rows_of_rest u has_shown lists (Some c ∷ m))
+    (λ m. grouping_goes_on Rollup true (Some c ∷ m)) (λ m. refl) (masks cs) i
     + behind_hidden u Rollup has_shown true lists c cs (λ m. refl) i)
     ∙ omega arith
 
@@ -165,11 +178,13 @@ cube_more u has_shown has_hidden lists c cs =
     ∙ (λ i. behind_shown u Cube has_shown has_hidden lists c cs (goes has_hidden) i
     + behind_hidden u Cube has_shown has_hidden lists c cs (goes_hidden has_hidden) i)
   where
-    goes : (h : Bool) (m : List (Option ℕ)) → goes_on Cube h (Some c ∷ m) ≡ goes_on Cube h m
+    goes : (h : Bool) (m : List (Option ℕ))
+        → grouping_goes_on Cube h (Some c ∷ m) ≡ grouping_goes_on Cube h m
     goes true m = refl
     goes false m = refl
 
-    goes_hidden : (h : Bool) (m : List (Option ℕ)) → goes_on Cube h (None ∷ m) ≡ goes_on Cube true m
+    goes_hidden : (h : Bool) (m : List (Option ℕ))
+        → grouping_goes_on Cube h (None ∷ m) ≡ grouping_goes_on Cube true m
     goes_hidden true m = refl
     goes_hidden false m = refl
 
@@ -186,7 +201,8 @@ one_more u Rollup has_shown false lists c cs may = rollup_more u has_shown lists
 one_more u Cube has_shown has_hidden lists c cs may = cube_more u has_shown has_hidden lists c cs
 
 -- a front that may be hides no key of a plain group
-pub may_be_shown : (s : Shape) (has_hidden : Bool) → may_show s has_hidden ≡ true → MayHide s has_hidden
+pub may_be_shown : (s : Shape) (has_hidden : Bool) → may_show s has_hidden ≡ true
+    → MayHide s has_hidden
 may_be_shown Plain false e = tt
 may_be_shown Plain true e = absurd (true≢false (sym e))
 may_be_shown Cube has_hidden e = tt
@@ -239,7 +255,8 @@ pub one_row : (w : World) (parts : Parts) → (group_at parts parts.report).keys
 one_row w parts none =
     let d = group_at parts parts.report in
     let updates = most_of (all_key_shares w parts parts.report 0) in
-    sym (ap (λ keys. rows_of_groupings d.shape updates (each_values w (all_key_shares w parts parts.report) 0 keys)) none
+    sym (ap (λ keys. rows_of_groupings d.shape updates
+    (each_values w (all_key_shares w parts parts.report) 0 keys)) none
     ∙ no_keys d.shape updates)
 
 pub empty_list : {X : Type 0} (xs : List X) → length xs < 1 → xs ≡ []

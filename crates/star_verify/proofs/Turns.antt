@@ -7,7 +7,8 @@ use Rattle.star_safety.proofs.Nested.{body_nested, rest_nested, met_within}
 
 pub inner : (times size : ℕ) (table : TableId) (r : ℕ) (body rest left : Code)
     → left ≡ Each table r body rest → size < 2 ^ 32
-    → times * (2 ^ 32) ^ scan_depth left ≤ 2 ^ 96 → times * size * (2 ^ 32) ^ scan_depth body ≤ 2 ^ 96
+    → times * (2 ^ 32) ^ scan_depth left ≤ 2 ^ 96
+    → times * size * (2 ^ 32) ^ scan_depth body ≤ 2 ^ 96
 inner times size table r body rest left code small deep =
     body_nested (2 ^ 32) (2 ^ 96) times size table r body rest small
     (subst (λ k. times * (2 ^ 32) ^ scan_depth k ≤ 2 ^ 96) code deep)
@@ -30,7 +31,8 @@ pub scan_turns : (size_of : TableId → ℕ) (times size deeper : ℕ) (table : 
     → turns_met size_of times left ≡ times * size + deeper + turns_met size_of times rest
 scan_turns size_of times size deeper table r body rest left code is below =
     ap (turns_met size_of times) code
-    ∙ ap (λ n. times * n + turns_met size_of (times * n) body + turns_met size_of times rest) (sym is)
+    ∙ ap (λ n. times * n + turns_met size_of (times * n) body + turns_met size_of times rest)
+    (sym is)
     ∙ ap (λ n. times * size + n + turns_met size_of times rest) (sym below)
 
 pub scan_sum : (total now turns deeper rest left all : ℕ) → now ≡ total + (turns + deeper)

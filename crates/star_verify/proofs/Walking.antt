@@ -1,5 +1,5 @@
 -- What is first of the steps of a body, one step after another.
-use Rattle.std.proofs.Common.{◌≡◌, ◌+◌, ◌-◌, ◌≤◌, ◌<◌, ℕ, Bool, List, [], ◌∷◌, length, take, drop, get_or, Option, Some, None, Result, Ok, Err, arith, refl, ap, sym, subst, ◌∙◌}
+use Rattle.std.proofs.Common.{◌≡◌, ◌+◌, ◌-◌, ◌≤◌, ◌<◌, ℕ, Bool, List, [], ◌∷◌, length, take, drop, get_or, Option, Some, None, Result, arith, refl, ap, sym, subst, ◌∙◌}
 use Rattle.std.specs.Option.{option_or}
 use Rattle.std.specs.Prelude.{◌||◌}
 use Rattle.star_schema.specs.Sizes.{size_of}
@@ -21,10 +21,8 @@ use Rattle.star_verify.specs.declared.instructions.Noted.{Noted}
 use Rattle.star_verify.specs.declared.instructions.Place.{Place}
 use Rattle.star_verify.specs.declared.refusal.Refusal.{Refusal}
 use Rattle.star_verify.specs.declared.refusal.Refusal.TheVariants as told
-use Rattle.star_verify.specs.declared.register.Register.{Register}
-use Rattle.star_verify.specs.Private.Judged.{AreFewAt, AreNoted, InEachContext, IsFirst, IsPlaced, IsSized, IsWalked, Keeps, scan_first}
-use Rattle.star_verify.specs.Private.Views.{known_in}
-use Rattle.star_verify.specs.Private.Walked.{IsLeft, Walk, after_step, step_first, step_size}
+use Rattle.star_verify.specs.Private.Judged.{AreFewAt, AreNoted, InEachContext, IsFirst, IsPlaceOf, IsSized, IsWalked, KeepsContext, scan_first}
+use Rattle.star_verify.specs.Private.Walked.{AreStepsLeft, Walk, after_step, step_first, step_size}
 use Rattle.star_verify.proofs.Firsts.{first_and_others}
 use Rattle.star_verify.proofs.Marks.{or_assoc as either_assoc}
 
@@ -39,7 +37,8 @@ code_first steps step some is =
     sym (ap code_of_steps (first_and_others steps step some))
     ∙ ap (λ s. before s (code_of_steps (others steps))) (sym is)
 
-pub size_first : (step : Step) (rest : Code) → code_size (before step rest) ≡ step_size step + code_size rest
+pub size_first : (step : Step) (rest : Code)
+    → code_size (before step rest) ≡ step_size step + code_size rest
 size_first (Act op) rest = refl
 size_first (Scan table r body) rest = refl
 
@@ -83,46 +82,33 @@ module _ (w : World) (parts : Parts) (pending : ℕ → Bool) (x : Context) (at 
   end_first (Scan table r body) rest = refl
 
 still_placed : (w : World) (parts : Parts) (place : Place) (x : Context) (step : Step)
-    → IsPlaced place x → IsPlaced place (after_step w parts x step)
+    → IsPlaceOf place x → IsPlaceOf place (after_step w parts x step)
 still_placed w parts place x (Act op) is = record { inside = is.inside; met = is.met }
 still_placed w parts place x (Scan table r body) is = record { inside = is.inside; met = is.met }
 
 -- ---- what a step is answered
 
 module _ (w : World) (parts : Parts) (pending : ℕ → Bool) (x : Context) (at : ℕ) (step : Step)
-    (rest : Code) (registers : List Register) (noted : Noted) where
+    (rest : Code) (noted : Noted) where
   pub act_walked : (op : Op) → step ≡ Act op
       → op_reason w parts (open_with pending rest) x op ≡ None
-      → Keeps parts registers noted (after_op w parts x op)
+      → KeepsContext parts noted (after_op w parts x op)
       → (step_first w parts pending x at step rest ≡ None)
-      × Keeps parts registers noted (after_step w parts x step)
+      × KeepsContext parts noted (after_step w parts x step)
   act_walked op is none kept =
       subst (λ s. (step_first w parts pending x at s rest ≡ None)
-      × Keeps parts registers noted (after_step w parts x s)) (sym is) (ap (at_place at) none, kept)
+      × KeepsContext parts noted (after_step w parts x s)) (sym is) (ap (at_place at) none, kept)
 
-  -- what is known of registers before a scan is known of them after it
   pub scan_walked : (result : Result ℕ Refusal) (table : TableId) (r : ℕ) (body : Code)
-      → step ≡ Scan table r body → known_in registers ≡ x.known
+      → step ≡ Scan table r body
       → IsWalked result
       (scan_first w parts (open_with pending (Each table r body rest)) x at table r body)
-      (AreNoted parts noted (at_end w parts (in_scan w x table r) body))
+      (KeepsContext parts noted (after_scan x (at_end w parts (in_scan w x table r) body)))
       → IsWalked result (step_first w parts pending x at step rest)
-      (Keeps parts registers noted (after_step w parts x step))
-  scan_walked result table r body is known h =
+      (KeepsContext parts noted (after_step w parts x step))
+  scan_walked result table r body is h =
       subst (λ s. IsWalked result (step_first w parts pending x at s rest)
-      (Keeps parts registers noted (after_step w parts x s))) (sym is) (go result h)
-    where
-      first : Option (ℕ × Reason)
-      first = scan_first w parts (open_with pending (Each table r body rest)) x at table r body
-
-      there : Context
-      there = at_end w parts (in_scan w x table r) body
-
-      go : (result : Result ℕ Refusal) → IsWalked result first (AreNoted parts noted there)
-          → IsWalked result first (Keeps parts registers noted (after_scan x there))
-      go (Ok next) (none, are) =
-          (none, record { known = known; earlier = record { written = are.written; shares = are.shares; keys = are.keys } })
-      go (Err refusal) is_first = is_first
+      (KeepsContext parts noted (after_step w parts x s))) (sym is) h
 
 -- what the body of a scan and the steps after it put to is open, or was open already
 pub opened_in : (g : ℕ) (pending : ℕ → Bool) (table : TableId) (r : ℕ) (body rest body_as : Code)
@@ -137,24 +123,24 @@ opened_in g pending table r body rest body_as old inner outer e f is same =
 -- ---- how far a walk is
 
 -- what the walk of a step answers where nothing refuses it
-abbrev IsStepped : Walk → List Register → Noted → ℕ → Step → Code → List Register → Noted → Type 0
-IsStepped walk registers noted at step rest registers_then noted_then =
-    InEachContext walk.subject (record walk.place { at = at }) registers noted (λ w x pending.
+abbrev IsStepped : Walk → Noted → ℕ → Step → Code → Noted → Type 0
+IsStepped walk noted at step rest noted_then =
+    InEachContext walk.subject (record walk.place { at = at }) noted (λ w x pending.
     (step_first w walk.subject.parts.now pending x at step rest ≡ None)
-    × Keeps walk.subject.parts.now registers_then noted_then (after_step w walk.subject.parts.now x step))
+    × KeepsContext walk.subject.parts.now noted_then (after_step w walk.subject.parts.now x step))
 
-module _ (walk : Walk) (registers : List Register) (noted : Noted) (at : ℕ) (left : List Step)
+module _ (walk : Walk) (noted : Noted) (at : ℕ) (left : List Step)
     (step : Step) (some : 1 ≤ length left) (is : step ≡ get_or left 0 step)
-    (so_far : IsLeft walk registers noted at left) where
+    (so_far : AreStepsLeft walk noted at left) where
   abbrev rest : Code
   rest = code_of_steps (others left)
 
-  pub one_walked : (registers_then : List Register) (noted_then : Noted) (next : ℕ)
-      → IsStepped walk registers noted at step rest registers_then noted_then
+  pub one_walked : (noted_then : Noted) (next : ℕ)
+      → IsStepped walk noted at step rest noted_then
       → next ≡ at + step_size step
-      → IsSized walk.subject.parts.now registers_then noted_then → AreFewAt noted_then next
-      → IsLeft walk registers_then noted_then next (others left)
-  one_walked registers_then noted_then next stepped number sized few =
+      → IsSized walk.subject.parts.now noted_then → AreFewAt noted_then next
+      → AreStepsLeft walk noted_then next (others left)
+  one_walked noted_then next stepped number sized few =
       let code = code_first left step some is in
       record {
         past = omega (arith, number, so_far.past);
@@ -169,7 +155,8 @@ module _ (walk : Walk) (registers : List Register) (noted : Noted) (at : ℕ) (l
         kept = λ w x pending facts keeps placed marked.
             let here = so_far.kept w x pending facts keeps placed marked in
             let there = here.0 in
-            let done = stepped w there pending facts here.1 (record { inside = here.2.inside; met = here.2.met }) marked in
+            let done = stepped w there pending facts here.1
+            (record { inside = here.2.inside; met = here.2.met }) marked in
             let next_there = after_step w walk.subject.parts.now there step in (
               next_there,
               done.1,
@@ -178,43 +165,52 @@ module _ (walk : Walk) (registers : List Register) (noted : Noted) (at : ℕ) (l
                 first = here.3.first
                     ∙ ap (first_reason w walk.subject.parts.now pending there at) code
                     ∙ first_step w walk.subject.parts.now pending there at step rest
-                    ∙ ap (λ o. option_or o (first_reason w walk.subject.parts.now pending next_there (at + step_size step) rest)) done.0
-                    ∙ ap (λ n. first_reason w walk.subject.parts.now pending next_there n rest) (sym number);
-                after = here.3.after ∙ ap (at_end w walk.subject.parts.now there) code ∙ end_first w walk.subject.parts.now pending there at step rest;
+                    ∙ ap (λ o. option_or o (first_reason w walk.subject.parts.now pending next_there
+                    (at + step_size step) rest)) done.0
+                    ∙ ap (λ n. first_reason w walk.subject.parts.now pending next_there n rest)
+                    (sym number);
+                after = here.3.after ∙ ap (at_end w walk.subject.parts.now there) code
+                    ∙ end_first w walk.subject.parts.now pending there at step rest;
               },
             );
       }
 
   -- what refuses the step is first
   pub step_refused : (refusal : Refusal)
-      → InEachContext walk.subject (record walk.place { at = at }) registers noted (λ w x pending.
+      → InEachContext walk.subject (record walk.place { at = at }) noted (λ w x pending.
       IsFirst refusal (step_first w walk.subject.parts.now pending x at step rest))
-      → InEachContext walk.subject walk.place walk.registers walk.noted (λ w x pending.
-      IsFirst refusal (first_reason w walk.subject.parts.now pending x walk.place.at (code_of_steps walk.steps)))
+      → InEachContext walk.subject walk.place walk.noted (λ w x pending.
+      IsFirst refusal (first_reason w walk.subject.parts.now pending x walk.place.at
+      (code_of_steps walk.steps)))
   step_refused refusal stops w x pending facts keeps placed marked =
       let here = so_far.kept w x pending facts keeps placed marked in
       let there = here.0 in
       subst (IsFirst refusal)
-      (sym (here.3.first ∙ ap (first_reason w walk.subject.parts.now pending there at) (code_first left step some is)
+      (sym (here.3.first ∙ ap (first_reason w walk.subject.parts.now pending there at)
+      (code_first left step some is)
       ∙ first_step w walk.subject.parts.now pending there at step rest))
       (first_of refusal (step_first w walk.subject.parts.now pending there at step rest) _
-      (stops w there pending facts here.1 (record { inside = here.2.inside; met = here.2.met }) marked))
+      (stops w there pending facts here.1 (record { inside = here.2.inside; met = here.2.met })
+      marked))
 
 none_left : (left : List Step) → length left < 1 → code_of_steps left ≡ Stop
 none_left [] h = refl
 none_left (step ∷ rest) h = absurd (omega (arith, h))
 
-pub all_walked : (walk : Walk) (registers : List Register) (noted : Noted) (at : ℕ) (left : List Step)
-    → length left < 1 → IsLeft walk registers noted at left
-    → InEachContext walk.subject walk.place walk.registers walk.noted (λ w x pending.
-    (first_reason w walk.subject.parts.now pending x walk.place.at (code_of_steps walk.steps) ≡ None)
-    × AreNoted walk.subject.parts.now noted (at_end w walk.subject.parts.now x (code_of_steps walk.steps)))
-all_walked walk registers noted at left none so_far w x pending facts keeps placed marked =
+pub all_walked : (walk : Walk) (noted : Noted) (at : ℕ) (left : List Step)
+    → length left < 1 → AreStepsLeft walk noted at left
+    → InEachContext walk.subject walk.place walk.noted (λ w x pending.
+    (first_reason w walk.subject.parts.now pending x walk.place.at (code_of_steps walk.steps)
+    ≡ None)
+    × AreNoted walk.subject.parts.now noted
+    (at_end w walk.subject.parts.now x (code_of_steps walk.steps)))
+all_walked walk noted at left none so_far w x pending facts keeps placed marked =
     let here = so_far.kept w x pending facts keeps placed marked in
     let there = here.0 in
     let code = none_left left none in (
       here.3.first ∙ ap (first_reason w walk.subject.parts.now pending there at) code,
-      subst (AreNoted walk.subject.parts.now noted) (sym (here.3.after ∙ ap (at_end w walk.subject.parts.now there) code))
+      subst (AreNoted walk.subject.parts.now noted)
+          (sym (here.3.after ∙ ap (at_end w walk.subject.parts.now there) code))
           here.1.earlier,
     )
 

@@ -15,7 +15,8 @@ by_name : refusal_text (Refused 3 NotAForeignKey) ≡ codes "refused 65 NotAFore
 unfolding digits refusal_text reason_text
 by_name = refl
 
-by_its_target : refusal_text (Refused 2 (Faulty WrittenTwice)) ≡ codes "refused 61 WrittenTwice at 2"
+by_its_target : refusal_text (Refused 2 (Faulty WrittenTwice))
+    ≡ codes "refused 61 WrittenTwice at 2"
 unfolding digits refusal_text reason_text wrong_text
 by_its_target = refl
 
@@ -26,8 +27,14 @@ of_no_column = refl
 
 of_one_column : refusal_text
     (Refused 7 (Overflow (pos 0) (pos 9900000000000000000)
-    (record { column = LoExtendedprice; low = pos 900000000000000000; high = pos 900000000000000000 } ∷ [])))
-    ≡ codes "refused 69 Overflow at 7: 0..9900000000000000000 from lo_extendedprice 900000000000000000..900000000000000000"
+    (record {
+      column = LoExtendedprice;
+      low = pos 900000000000000000;
+      high =
+          pos 900000000000000000;
+    } ∷ [])))
+    ≡ codes
+    "refused 69 Overflow at 7: 0..9900000000000000000 from lo_extendedprice 900000000000000000..900000000000000000"
 unfolding digits refusal_text reason_text column_of
 of_one_column = refl
 

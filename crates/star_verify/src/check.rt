@@ -8,9 +8,8 @@ ghost use Rattle.star_safety.specs.Contexts.{at_end, at_first};
 ghost use Rattle.star_safety.specs.Private.Forward.{first_reason, none_open};
 ghost use Rattle.star_safety.specs.Quote as spec;
 ghost use Rattle.star_verify.specs.Private.Facts.{AreFacts};
-ghost use Rattle.star_verify.specs.Private.Judged.{AreFewAt, AreNoted, IsChecked, IsFirst};
+ghost use Rattle.star_verify.specs.Private.Judged.{AreFewAt, IsChecked, IsFirst, IsSized, KeepsContext};
 ghost use Rattle.star_verify.specs.Private.Kept.{HasKeyShares};
-ghost use Rattle.star_verify.specs.Private.Views.{known_in};
 
 use crate::facts::Facts;
 use crate::instructions::{Noted, Place};
@@ -20,31 +19,21 @@ use crate::report::misnamed_line;
 use crate::subject::Subject;
 use crate::tally::{TALLIES, Tally};
 use crate::visits::quote;
-use crate::walk::walk;
 use star_program::{MOST_GROUPS, Parts, Program};
 use star_schema::Limits;
 use std::alloc::{AllocError, Global};
 
-// So many registers of which nothing is known.
-#[tactic(auto, using(crate::proofs::Starting::nothing_in))]
-fn unknown_registers(alloc: Global, count: u16) -> Result<Vec<Register>, AllocError>
-    ensures known { IfOk result (λ registers. known_in registers.items ≡ at_first.known) }
-    ensures len { IfOk result (λ registers. length registers.items ≡ count) }
-{
-    Ok(vec![in alloc; Register { known: None }; count as usize]?)
-}
-
-// Before the first instruction nothing is written and nothing put.
+// Before the first instruction nothing is known of a register, nothing written and nothing put.
 fn nothing_noted(alloc: Global, parts: &Parts) -> Result<Noted, AllocError>
     requires { IsWithinLimits parts.now }
-    ensures noted { IfOk result (λ noted. AreNoted parts.now noted at_first) }
-    ensures flags { IfOk result (λ noted. length noted.written.items ≡ parts.now.registers) }
-    ensures tallies { IfOk result (λ noted. length noted.tallies.items ≡ 64) }
-    ensures keys { IfOk result (λ noted. length noted.keys.items ≡ 64) }
+    ensures kept { IfOk result (λ noted. KeepsContext parts.now noted at_first) }
+    ensures sized { IfOk result (λ noted. IsSized parts.now noted) }
     ensures few { IfOk result (λ noted. AreFewAt noted 1) }
 {
+    let count = parts.registers as usize;
     Ok(Noted {
-        written: vec![in alloc; false; parts.registers as usize]?,
+        registers: vec![in alloc; Register { known: None }; count]?,
+        written: vec![in alloc; false; count]?,
         tallies: vec![in alloc; Tally::none(); TALLIES]?,
         keys: vec![in alloc; Tally::none(); TALLIES]?,
     })
@@ -63,7 +52,6 @@ fn check_instructions(alloc: Global, parts: &Parts, facts: &Facts) -> Result<Vec
         (first_reason w parts.now none_open at_first 1 parts.now.body)) }
 {
     let mut noted = nothing_noted(alloc, parts)?;
-    let mut registers = unknown_registers(alloc, parts.registers)?;
     let pending = [false; MOST_GROUPS];
     let first = Place {
         at: 1,
@@ -71,13 +59,12 @@ fn check_instructions(alloc: Global, parts: &Parts, facts: &Facts) -> Result<Vec
         met: 1,
         pending,
     };
-    walk(
-        &Subject { parts, facts },
-        first,
-        &mut registers,
-        &mut noted,
-        parts.body.as_slice(),
-    )?;
+    let subject = Subject {
+        alloc,
+        parts,
+        facts,
+    };
+    subject.walk(&mut noted, first, parts.body.as_slice())?;
     let Noted { keys, .. } = noted;
     Ok(keys)
 }
@@ -90,7 +77,9 @@ pub(crate) struct Accepted {
     pub(crate) keys: Vec<Tally>,
 }
 
-// What refuses a program first, or what is known of its run.
+// What refuses a program first, or what is known of its run. The quote is computed here even where a
+// caller has told it before: it takes one pass over the body, and a number that is handed in would
+// have to be proved this program's.
 pub(crate) fn check(
     alloc: Global,
     program: &Program,

@@ -7,7 +7,7 @@ ghost use Rattle.star_program.specs.Faults.{value_count};
 ghost use Rattle.star_safety.specs.Contexts.{known_share};
 ghost use Rattle.star_safety.specs.Tallies.{Share};
 ghost use Rattle.star_verify.specs.Private.Bounded.{IsBounded};
-ghost use Rattle.star_verify.specs.Private.Kept.{HasRoom, IsGrown, numbers_known};
+ghost use Rattle.star_verify.specs.Private.Kept.{HasTallyRoom, IsTallyGrown, numbers_known};
 ghost use Rattle.star_verify.specs.Private.Made.{IsTallyAt};
 ghost use Rattle.star_verify.specs.Private.Views.{known_in, known_view};
 
@@ -18,13 +18,13 @@ use crate::totals::tally_at;
 use star_interval::Interval;
 use star_schema::Aggregate;
 
-// Adds to the tally of a place numbers of which this is known, so many.
+// Adds `met` numbers that this is known of to the tally of a place.
 fn add(tallies: &mut [Tally], place: usize, met: u64, known: Option<Known>)
     requires there { place < length tallies.old }
-    requires room { (t : Tally) → HasRoom (slice_index_or tallies.old place t) met }
+    requires room { (t : Tally) → HasTallyRoom (slice_index_or tallies.old place t) met }
     ensures given { (ss : List Share) → IsTallyAt tallies.old place ss
         → IsTallyAt tallies.new place (known_share met (option_map known_view known) ∷ ss) }
-    ensures grown { (t : Tally) → IsGrown (slice_index_or tallies.old place t)
+    ensures grown { (t : Tally) → IsTallyGrown (slice_index_or tallies.old place t)
         (slice_index_or tallies.new place t) met }
     ensures others { (p : ℕ) (t : Tally) → ¬ (p ≡ place)
         → slice_index_or tallies.new p t ≡ slice_index_or tallies.old p t }
@@ -66,13 +66,13 @@ pub(crate) fn give(
     requires there { first + length aggregates.now ≤ length tallies.old }
     requires values { length values.now ≡ value_count aggregates.now }
     requires room { (p : ℕ) (t : Tally) → first ≤ p → p < length tallies.old
-        → HasRoom (slice_index_or tallies.old p t) met }
+        → HasTallyRoom (slice_index_or tallies.old p t) met }
     ensures given { (a : ℕ) (ss : List Share) → a < length aggregates.now
         → IsTallyAt tallies.old (first + a) ss
         → IsTallyAt tallies.new (first + a) (known_share met (slice_index_or
         (numbers_known aggregates.now (known_in registers.now) values.now) a None) ∷ ss) }
     ensures grown { (p : ℕ) (t : Tally) → IsBounded (slice_index_or tallies.old p t)
-        → IsGrown (slice_index_or tallies.old p t) (slice_index_or tallies.new p t) met }
+        → IsTallyGrown (slice_index_or tallies.old p t) (slice_index_or tallies.new p t) met }
     ensures others { (p : ℕ) (t : Tally) → (p < first) ⊎ (first + length aggregates.now ≤ p)
         → slice_index_or tallies.new p t ≡ slice_index_or tallies.old p t }
     ensures len { length tallies.new ≡ length tallies.old }
@@ -97,13 +97,13 @@ pub(crate) fn give_keys(
 )
     requires there { first + length keys.now ≤ length tallies.old }
     requires room { (p : ℕ) (t : Tally) → first ≤ p → p < length tallies.old
-        → HasRoom (slice_index_or tallies.old p t) met }
+        → HasTallyRoom (slice_index_or tallies.old p t) met }
     ensures given { (k : ℕ) (ss : List Share) → k < length keys.now
         → IsTallyAt tallies.old (first + k) ss
         → IsTallyAt tallies.new (first + k) (known_share met (slice_index_or
         (map (known_in registers.now) keys.now) k None) ∷ ss) }
     ensures grown { (p : ℕ) (t : Tally) → IsBounded (slice_index_or tallies.old p t)
-        → IsGrown (slice_index_or tallies.old p t) (slice_index_or tallies.new p t) met }
+        → IsTallyGrown (slice_index_or tallies.old p t) (slice_index_or tallies.new p t) met }
     ensures others { (p : ℕ) (t : Tally) → (p < first) ⊎ (first + length keys.now ≤ p)
         → slice_index_or tallies.new p t ≡ slice_index_or tallies.old p t }
     ensures len { length tallies.new ≡ length tallies.old }

@@ -14,8 +14,8 @@ ghost use Rattle.star_safety.specs.Ranges.{kinds_known};
 ghost use Rattle.star_safety.specs.declared.reason.Reason.TheVariants.{Faulty};
 ghost use Rattle.star_safety.specs.Refusals.{op_reason, range_reason, source_reason, target_again};
 ghost use Rattle.star_verify.specs.Private.Facts.{AreFacts};
-ghost use Rattle.star_verify.specs.Private.Judged.{AreFewAt, InEachContext, IsFirst, IsJudged, IsReady, IsSized, Keeps};
-ghost use Rattle.star_verify.specs.Private.Kept.{AreFew, HasKeyShares, HasShares, flag_at};
+ghost use Rattle.star_verify.specs.Private.Judged.{AreFewAt, InEachContext, IsFirst, IsReady, IsSized, KeepsContext, TellsReason};
+ghost use Rattle.star_verify.specs.Private.Kept.{AreTalliesFew, HasKeyShares, HasShares, flag_at};
 ghost use Rattle.star_verify.specs.Private.Made.{beyond_view};
 ghost use Rattle.star_verify.specs.Private.Views.{known_in};
 ghost use Rattle.star_verify.specs.Views.{IsReason};
@@ -30,44 +30,24 @@ use crate::tally::Tally;
 use star_program::{Fault, MOST_AGGREGATES, MOST_GROUPS, Op, Operation, Parts, RegisterList, Step};
 use star_safety::Reason;
 
-// Which registers earlier instructions write, and what they give the aggregates and the keys of each
-// group.
+// What is known of each register in scope, which registers earlier instructions write, and what they
+// give the aggregates and the keys of each group.
 #[derive(Drop)]
 pub(crate) struct Noted {
+    pub(crate) registers: Vec<Register>,
     pub(crate) written: Vec<bool>,
     pub(crate) tallies: Vec<Tally>,
     pub(crate) keys: Vec<Tally>,
 }
 
-// Where an instruction stands: its number, whether scans stand round it, how often it is met at
-// most, and which groups are put to in a scan round it or after such a scan.
+// Where an instruction stands: its number, whether scans stand around it, how often it is met at
+// most, and which groups are put to in a scan around it or after such a scan.
 #[derive(Clone, Copy)]
 pub(crate) struct Place {
     pub(crate) at: u16,
     pub(crate) inside: bool,
     pub(crate) met: u64,
     pub(crate) pending: [bool; MOST_GROUPS],
-}
-
-// The refusal by numbers that leave 64 bits.
-fn overflow(subject: &Subject<'_>, at: u16, beyond: Beyond) -> Refusal
-    ensures { (w : World) → AreFacts w subject.now.facts.now
-        → IsFirst result (Some (at, beyond_view w beyond)) }
-{
-    match subject
-        .facts
-        .reached(subject.parts.groups.allocator(), beyond.reach)
-    {
-        Ok(columns) => Refusal::Refused {
-            at,
-            reason: Reason::Overflow {
-                low: beyond.range.low,
-                high: beyond.range.high,
-                columns,
-            },
-        },
-        Err(_) => Refusal::OutOfMemory,
-    }
 }
 
 pub(crate) fn is_written(written: &[bool], register: u16) -> bool
@@ -118,48 +98,6 @@ fn check_op(
     }
 }
 
-// Judges what an operation makes, and writes it.
-fn assign(
-    subject: &Subject<'_>,
-    place: Place,
-    rest: &[Step],
-    registers: &mut [Register],
-    noted: &mut Noted,
-    target: u16,
-    operation: &Operation,
-) -> Result<(), Refusal>
-    requires placed { (inside : Bool)
-        × (place_fault subject.now.parts.now inside (op.Assign target operation.now) ≡ None) }
-    requires declared { target < subject.now.parts.now.registers }
-    requires ready { IsReady subject.now.parts.now place registers.old noted.old }
-    ensures judged { InEachContext subject.now place registers.old noted.old (λ w x pending.
-        IsJudged result place.at
-        (option_or (source_reason (open_with pending (code_of_steps rest.now)) x
-        (op.Assign target operation.now))
-        (range_reason w subject.now.parts.now x (op.Assign target operation.now)))
-        (Keeps subject.now.parts.now registers.new noted.new
-        (after_op w subject.now.parts.now x (op.Assign target operation.now)))) }
-    ensures sized { IsSized subject.now.parts.now registers.new noted.new }
-    ensures tallies { noted.new.tallies ≡ noted.old.tallies }
-    ensures keys { noted.new.keys ≡ noted.old.keys }
-{
-    let parts = subject.parts;
-    match check_source(parts, registers, place.pending, rest, operation) {
-        Ok(()) => match make(parts, subject.facts, registers, &noted.tallies, operation) {
-            Ok(known) => {
-                learn(registers, target, known);
-                note(&mut noted.written, target);
-                Ok(())
-            }
-            Err(beyond) => Err(overflow(subject, place.at, beyond)),
-        },
-        Err(reason) => Err(Refusal::Refused {
-            at: place.at,
-            reason,
-        }),
-    }
-}
-
 // Tallies what a put gives the aggregates of its group.
 fn put(
     subject: &Subject<'_>,
@@ -175,13 +113,13 @@ fn put(
     requires at { place.at ≤ 4096 }
     requires met { place.met ≤ 10 ^ 15 }
     requires tallies { length tallies.old ≡ 64 }
-    requires few { AreFew tallies.old (place.at * 10 ^ 15) }
+    requires few { AreTalliesFew tallies.old (place.at * 10 ^ 15) }
     ensures shares { (w : World) (x : Context) (keys : List ℕ)
         → known_in registers.now ≡ x.known → x.met ≡ place.met
         → HasShares subject.now.parts.now tallies.old x
         → HasShares subject.now.parts.now tallies.new
         (after_op w subject.now.parts.now x (op.Put group keys values.now)) }
-    ensures few { AreFew tallies.new ((place.at + 1) * 10 ^ 15) }
+    ensures few { AreTalliesFew tallies.new ((place.at + 1) * 10 ^ 15) }
     ensures len { length tallies.new ≡ length tallies.old }
 {
     let declared = subject.parts.group_at(group);
@@ -210,98 +148,154 @@ fn put_keys(
     requires at { place.at ≤ 4096 }
     requires met { place.met ≤ 10 ^ 15 }
     requires tallies { length tallies.old ≡ 64 }
-    requires few { AreFew tallies.old (place.at * 10 ^ 15) }
+    requires few { AreTalliesFew tallies.old (place.at * 10 ^ 15) }
     ensures given { (w : World) (x : Context) (values : List ℕ)
         → known_in registers.now ≡ x.known → x.met ≡ place.met
         → HasKeyShares parts.now tallies.old x
         → HasKeyShares parts.now tallies.new
         (after_op w parts.now x (op.Put group keys.now values)) }
-    ensures few { AreFew tallies.new ((place.at + 1) * 10 ^ 15) }
+    ensures few { AreTalliesFew tallies.new ((place.at + 1) * 10 ^ 15) }
     ensures len { length tallies.new ≡ length tallies.old }
 {
     let first = MOST_AGGREGATES * group as usize;
     give_keys(tallies, first, registers, keys.as_slice(), place.met);
 }
 
-// Judges an instruction with which nothing is wrong by its kinds, and does what it does.
-fn perform(
-    subject: &Subject<'_>,
-    place: Place,
-    rest: &[Step],
-    registers: &mut [Register],
-    noted: &mut Noted,
-    op: &Op,
-) -> Result<(), Refusal>
-    requires fine { (inside : Bool) × (twice : Option Wrong)
-        × (fault_of subject.now.parts.now inside twice
-        (kinds_known (known_in registers.old)) op.now ≡ None) }
-    requires at { place.at ≤ 4096 }
-    requires ready { IsReady subject.now.parts.now place registers.old noted.old }
-    ensures judged { InEachContext subject.now place registers.old noted.old (λ w x pending.
-        IsJudged result place.at
-        (option_or (source_reason (open_with pending (code_of_steps rest.now)) x op.now)
-        (range_reason w subject.now.parts.now x op.now))
-        (Keeps subject.now.parts.now registers.new noted.new
-        (after_op w subject.now.parts.now x op.now))) }
-    ensures sized { IsSized subject.now.parts.now registers.new noted.new }
-    ensures few { AreFewAt noted.new (place.at + 1) }
-{
-    match op {
-        Op::Assign { target, operation } => assign(
-            subject, place, rest, registers, noted, *target, operation,
-        ),
-        Op::Keep { .. } => Ok(()),
-        Op::Put {
-            group,
-            keys,
-            values,
-        } => {
-            put_keys(
-                subject.parts,
-                place,
-                registers,
-                &mut noted.keys,
-                *group,
-                keys,
-            );
-            put(
-                subject,
-                place,
-                registers,
-                &mut noted.tallies,
-                *group,
-                values,
-            );
-            Ok(())
+impl Subject<'_> {
+    // The refusal by numbers that leave 64 bits.
+    fn overflow(&self, at: u16, beyond: Beyond) -> Refusal
+        ensures { (w : World) → AreFacts w self.now.facts.now
+            → IsFirst result (Some (at, beyond_view w beyond)) }
+    {
+        match self.facts.reached(self.alloc, beyond.reach) {
+            Ok(columns) => Refusal::Refused {
+                at,
+                reason: Reason::Overflow {
+                    low: beyond.range.low,
+                    high: beyond.range.high,
+                    columns,
+                },
+            },
+            Err(_) => Refusal::OutOfMemory,
         }
     }
-}
 
-// Judges an instruction: it stands before these steps, and so many groups are put to after those or
-// in a scan round it.
-pub(crate) fn judge(
-    subject: &Subject<'_>,
-    place: Place,
-    rest: &[Step],
-    registers: &mut [Register],
-    noted: &mut Noted,
-    op: &Op,
-) -> Result<(), Refusal>
-    requires at { place.at ≤ 4096 }
-    requires ready { IsReady subject.now.parts.now place registers.old noted.old }
-    ensures judged { InEachContext subject.now place registers.old noted.old (λ w x pending.
-        IsJudged result place.at
-        (op_reason w subject.now.parts.now (open_with pending (code_of_steps rest.now)) x op.now)
-        (Keeps subject.now.parts.now registers.new noted.new
-        (after_op w subject.now.parts.now x op.now))) }
-    ensures sized { IsSized subject.now.parts.now registers.new noted.new }
-    ensures few { IfOk result (λ _. AreFewAt noted.new (place.at + 1)) }
-{
-    match check_op(subject.parts, place.inside, registers, &noted.written, op) {
-        Ok(()) => perform(subject, place, rest, registers, noted, op),
-        Err(reason) => Err(Refusal::Refused {
-            at: place.at,
-            reason,
-        }),
+    // Judges what an operation makes, and writes it.
+    fn assign(
+        &self,
+        noted: &mut Noted,
+        place: Place,
+        rest: &[Step],
+        target: u16,
+        operation: &Operation,
+    ) -> Result<(), Refusal>
+        requires placed { (inside : Bool)
+            × (place_fault self.now.parts.now inside (op.Assign target operation.now) ≡ None) }
+        requires declared { target < self.now.parts.now.registers }
+        requires ready { IsReady self.now.parts.now place noted.old }
+        ensures judged { InEachContext self.now place noted.old (λ w x pending.
+            TellsReason result place.at
+            (option_or (source_reason (open_with pending (code_of_steps rest.now)) x
+            (op.Assign target operation.now))
+            (range_reason w self.now.parts.now x (op.Assign target operation.now)))
+            (KeepsContext self.now.parts.now noted.new
+            (after_op w self.now.parts.now x (op.Assign target operation.now)))) }
+        ensures sized { IsSized self.now.parts.now noted.new }
+        ensures tallies { noted.new.tallies ≡ noted.old.tallies }
+        ensures keys { noted.new.keys ≡ noted.old.keys }
+    {
+        let parts = self.parts;
+        match check_source(parts, &noted.registers, place.pending, rest, operation) {
+            Ok(()) => match make(
+                parts,
+                self.facts,
+                &noted.registers,
+                &noted.tallies,
+                operation,
+            ) {
+                Ok(known) => {
+                    learn(&mut noted.registers, target, known);
+                    note(&mut noted.written, target);
+                    Ok(())
+                }
+                Err(beyond) => Err(self.overflow(place.at, beyond)),
+            },
+            Err(reason) => Err(Refusal::Refused {
+                at: place.at,
+                reason,
+            }),
+        }
+    }
+
+    // Judges an instruction with which nothing is wrong by its kinds, and does what it does.
+    fn perform(
+        &self,
+        noted: &mut Noted,
+        place: Place,
+        rest: &[Step],
+        op: &Op,
+    ) -> Result<(), Refusal>
+        requires fine { (inside : Bool) × (twice : Option Wrong)
+            × (fault_of self.now.parts.now inside twice
+            (kinds_known (known_in noted.old.registers.items)) op.now ≡ None) }
+        requires at { place.at ≤ 4096 }
+        requires ready { IsReady self.now.parts.now place noted.old }
+        ensures judged { InEachContext self.now place noted.old (λ w x pending.
+            TellsReason result place.at
+            (option_or (source_reason (open_with pending (code_of_steps rest.now)) x op.now)
+            (range_reason w self.now.parts.now x op.now))
+            (KeepsContext self.now.parts.now noted.new (after_op w self.now.parts.now x op.now))) }
+        ensures sized { IsSized self.now.parts.now noted.new }
+        ensures few { AreFewAt noted.new (place.at + 1) }
+    {
+        match op {
+            Op::Assign { target, operation } => {
+                self.assign(noted, place, rest, *target, operation)
+            }
+            Op::Keep { .. } => Ok(()),
+            Op::Put {
+                group,
+                keys,
+                values,
+            } => {
+                let registers = &noted.registers;
+                put_keys(self.parts, place, registers, &mut noted.keys, *group, keys);
+                put(self, place, registers, &mut noted.tallies, *group, values);
+                Ok(())
+            }
+        }
+    }
+
+    // Judges an instruction that stands before these steps; `noted` tells the groups that are put
+    // to after those or in a scan around it.
+    pub(crate) fn judge(
+        &self,
+        noted: &mut Noted,
+        place: Place,
+        rest: &[Step],
+        op: &Op,
+    ) -> Result<(), Refusal>
+        requires at { place.at ≤ 4096 }
+        requires ready { IsReady self.now.parts.now place noted.old }
+        ensures judged { InEachContext self.now place noted.old (λ w x pending.
+            TellsReason result place.at
+            (op_reason w self.now.parts.now (open_with pending (code_of_steps rest.now)) x op.now)
+            (KeepsContext self.now.parts.now noted.new (after_op w self.now.parts.now x op.now))) }
+        ensures sized { IsSized self.now.parts.now noted.new }
+        ensures few { IfOk result (λ _. AreFewAt noted.new (place.at + 1)) }
+    {
+        match check_op(
+            self.parts,
+            place.inside,
+            &noted.registers,
+            &noted.written,
+            op,
+        ) {
+            Ok(()) => self.perform(noted, place, rest, op),
+            Err(reason) => Err(Refusal::Refused {
+                at: place.at,
+                reason,
+            }),
+        }
     }
 }

@@ -1,6 +1,6 @@
 // What is known of a register before a run.
 
-ghost use Rattle.std.specs.Prelude.{◌≡◌, ◌↔◌, None, Some, IfOk, IfErr, IsOk, MatchResult};
+ghost use Rattle.std.specs.Prelude.{◌≡◌, ◌↔◌, None, Some, IfOk, IsOk, MatchResult};
 ghost use Rattle.std.specs.Option.{option_map};
 ghost use Rattle.star_interval.specs.Interval.{bounds_of, range_of};
 ghost use Rattle.star_interval.specs.Range.{FitsI64};

@@ -1,6 +1,6 @@
 // What is known of what an operation makes, and what it may not look for or read.
 
-ghost use Rattle.std.specs.Prelude.{◌≡◌, ◌*◌, ◌+◌, ◌<◌, ◌≤◌, ℕ, Bool, None, Some, length, MatchResult};
+ghost use Rattle.std.specs.Prelude.{◌≡◌, ◌*◌, ◌+◌, ◌<◌, ◌≤◌, ℕ, Bool, None, length};
 ghost use Rattle.star_program.specs.CodeOfSteps.{code_of_steps};
 ghost use Rattle.star_program.specs.declared.op.Op.TheVariants.{Assign};
 ghost use Rattle.star_program.specs.Faults.{group_at, place_fault};

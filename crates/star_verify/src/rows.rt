@@ -52,8 +52,8 @@ fn lesser(left: u128, right: u128) -> u128
     if left <= right { left } else { right }
 }
 
-// Keys of which each is shown or hidden: whether one is shown, whether one is hidden, and how many lists
-// of values those that are shown have, as far as that tells.
+// Keys that are each shown or hidden: whether one is shown, whether one is hidden, and how many
+// lists of values those that are shown have, as far as that tells.
 #[derive(Clone, Copy)]
 struct Front {
     has_shown: bool,
@@ -62,8 +62,8 @@ struct Front {
 }
 
 impl Front {
-    // With a key that is shown and has so many values. Past all counts of updates the lists need not be
-    // told apart.
+    // With one more key that is shown and has `values` values. Past all counts of updates the lists
+    // need not be told apart.
     fn shown(self, values: u128) -> Front
         requires { values ≤ 2 ^ 64 }
         ensures lists { (lists : ℕ) → AgreeUpTo self.lists lists
@@ -102,7 +102,7 @@ impl Front {
     }
 }
 
-// Whether the next key may be shown behind keys of which one is hidden or none.
+// Whether the next key may be shown after keys; `has_hidden` tells whether one of them is hidden.
 fn may_show(shape: Shape, has_hidden: bool) -> bool
     ensures { result ≡ spec.may_show shape has_hidden }
 {
@@ -132,8 +132,8 @@ struct Groupings<'a> {
 }
 
 impl Groupings<'_> {
-    // The rows of all groupings that go on behind a front. The tallies of the keys that are left stand
-    // from a place on.
+    // The rows of all groupings that go on after a front. The tallies of the keys that are left
+    // stand from a place on.
     #[cycle(rows_behind)]
     fn rows_behind(&self, front: Front, keys: &[GroupKey], first: usize) -> u128
         requires there { first + length keys.now ≤ length self.now.tallies.now }

@@ -65,7 +65,7 @@ impl Tally {
         }
     }
 
-    // With so many numbers of a range more, or fewer.
+    // With `times` more numbers of a range.
     pub(crate) fn with(self, times: u64, range: Interval, reach: Reach) -> Tally
         requires few { self.many + times ≤ 2 ^ 62 }
         requires bounded { IsBounded self }

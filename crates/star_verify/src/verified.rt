@@ -124,7 +124,7 @@ impl<'c> Verified<'c> {
     }
 }
 
-/// Checks a program against a catalogue, with at most so many visits: it is verified exactly where
+/// Checks a program against a catalogue, for at most `visits` visits: it is verified exactly where
 /// it is admissible and no more are quoted, unless memory runs out. Else it is handed back with
 /// what refuses it first: too many visits, then the first instruction that is refused, then the
 /// report.

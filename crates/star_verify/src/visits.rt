@@ -8,7 +8,7 @@ ghost use Rattle.star_safety.specs.Quote as spec;
 use star_program::{Body, Program, Step};
 use star_schema::Sizes;
 
-// The turns of a body that is met so many times. 32 bits a scan of those that stand one in another
+// The turns of a body that is met `times` times. 32 bits a scan of those that stand one in another
 // bound how often an instruction is met, and so 128 bits hold the sum over all instructions.
 fn turns_met(sizes: &Sizes, times: u128, body: &Body) -> u128
     requires few { code_size body.now ≤ 4096 }
@@ -30,7 +30,7 @@ fn turns_met(sizes: &Sizes, times: u128, body: &Body) -> u128
 }
 
 /// How many turns of scans a program can take at most over tables of these sizes: the sum, over the
-/// scans, of the product of the row counts of that scan and of the scans round it.
+/// scans, of the product of the row counts of that scan and of the scans around it.
 pub fn quote(program: &Program, sizes: &Sizes) -> u128
     ensures { result ≡ spec.quote (size_of sizes.now) program.now }
 {

@@ -1,19 +1,21 @@
 // The check of the instructions of a body, one after another.
 
-ghost use Rattle.std.specs.Prelude.{◌≡◌, ◌*◌, ◌+◌, ◌<◌, ◌≤◌, ◌^◌, IfOk};
+ghost use Rattle.std.specs.Prelude.{◌≡◌, ◌*◌, ◌+◌, ◌<◌, ◌≤◌, ◌^◌, IfOk, length};
 ghost use Rattle.star_schema.specs.Sizes.{size_of};
 ghost use Rattle.star_program.specs.Code.{code_size};
+ghost use Rattle.star_program.specs.declared.program.Parts.{Parts as Program};
+ghost use Rattle.star_program.specs.World.{World};
 ghost use Rattle.star_program.specs.CodeOfSteps.{before, code_of_steps};
-ghost use Rattle.star_safety.specs.Contexts.{Context, at_end, in_scan};
+ghost use Rattle.star_safety.specs.Contexts.{Context, after_scan, at_end, in_scan};
 ghost use Rattle.star_safety.specs.Private.Forward.{first_reason};
 ghost use Rattle.star_safety.specs.Quote.{turns_met};
 ghost use Rattle.star_safety.specs.Refusals.{scan_reason};
-ghost use Rattle.star_verify.specs.Private.Judged.{AreFewAt, AreNoted, InEachContext, IsReady, IsSized, IsWalked, Keeps, scan_first};
+ghost use Rattle.star_verify.specs.Private.Judged.{AreFewAt, AreNoted, InEachContext, IsReady, IsSized, IsWalked, KeepsContext, scan_first};
 ghost use Rattle.star_verify.specs.Private.Kept.{flag_at};
 ghost use Rattle.star_verify.specs.Private.Walked.{after_step, step_first, step_size};
 ghost use Rattle.star_verify.specs.Views.{IsReason};
 
-use crate::instructions::{Noted, Place, is_written, judge, note};
+use crate::instructions::{Noted, Place, is_written, note};
 use crate::known::Known;
 use crate::open_groups::mark_puts;
 use crate::refusal::Refusal;
@@ -45,126 +47,140 @@ fn copied(alloc: Global, registers: &[Register]) -> Result<Vec<Register>, AllocE
     Ok(registers.iter().copied().collect(alloc)?)
 }
 
-// Checks a scan and its body, with registers of their own, and answers the number of the next
-// instruction.
-#[cycle(walk)]
-fn scan(
-    subject: &Subject<'_>,
-    place: Place,
-    registers: &[Register],
-    noted: &mut Noted,
-    table: TableId,
-    target: u16,
-    body: &Body,
-) -> Result<u16, Refusal>
-    requires size { place.at + 1 + code_size body.now ≤ 4097 }
-    requires quote { place.met * size_of subject.now.facts.now.sizes table
-        + turns_met (size_of subject.now.facts.now.sizes)
-        (place.met * size_of subject.now.facts.now.sizes table) body.now ≤ 10 ^ 15 }
-    requires ready { IsReady subject.now.parts.now place registers.now noted.old }
-    ensures judged { InEachContext subject.now place registers.now noted.old (λ w x pending.
-        IsWalked result
-        (scan_first w subject.now.parts.now pending x place.at table target body.now)
-        (AreNoted subject.now.parts.now noted.new
-        (at_end w subject.now.parts.now (in_scan w x table target) body.now))) }
-    ensures next { IfOk result (λ next. next ≡ place.at + 1 + code_size body.now) }
-    ensures sized { IsSized subject.now.parts.now registers.now noted.new }
-    ensures few { IfOk result (λ next. AreFewAt noted.new next) }
+// Notes the row of a scan, which its body reads.
+fn enter(noted: &mut Noted, table: TableId, target: u16)
+    requires registers { target < length noted.old.registers.items }
+    requires written { target < length noted.old.written.items }
+    ensures kept { (w : World) (parts : Program) (x : Context) → KeepsContext parts noted.old x
+        → KeepsContext parts noted.new (in_scan w x table target) }
+    ensures wide { length noted.new.registers.items ≡ length noted.old.registers.items }
+    ensures flags { length noted.new.written.items ≡ length noted.old.written.items }
+    ensures tallies { noted.new.tallies ≡ noted.old.tallies }
+    ensures keys { noted.new.keys ≡ noted.old.keys }
 {
-    if let Err(reason) = check_target(subject.parts, &noted.written, target) {
-        let at = place.at;
-        return Err(Refusal::Refused { at, reason });
-    }
-    let mut inner = copied(subject.parts.groups.allocator(), registers)?;
-    learn(&mut inner, target, Known::Row(table));
+    learn(&mut noted.registers, target, Known::Row(table));
     note(&mut noted.written, target);
-    let pending = place.pending;
-    let inside = Place {
-        at: place.at + 1,
-        inside: true,
-        met: place.met * u64::from(subject.facts.sizes.of(table)),
-        pending,
-    };
-    let steps = body.as_slice();
-    walk(subject, inside, &mut inner, noted, steps)
 }
 
-// Checks a step before others, and answers the number of the next instruction.
-#[cycle(walk)]
-fn walk_step(
-    subject: &Subject<'_>,
-    place: Place,
-    registers: &mut [Register],
-    noted: &mut Noted,
-    step: &Step,
-    rest: &[Step],
-) -> Result<u16, Refusal>
-    requires size { place.at + code_size (before step.now (code_of_steps rest.now)) ≤ 4097 }
-    requires quote { turns_met (size_of subject.now.facts.now.sizes) place.met
-        (before step.now (code_of_steps rest.now)) ≤ 10 ^ 15 }
-    requires ready { IsReady subject.now.parts.now place registers.old noted.old }
-    ensures judged { InEachContext subject.now place registers.old noted.old (λ w x pending.
-        IsWalked result
-        (step_first w subject.now.parts.now pending x place.at step.now (code_of_steps rest.now))
-        (Keeps subject.now.parts.now registers.new noted.new
-        (after_step w subject.now.parts.now x step.now))) }
-    ensures next { IfOk result (λ next. next ≡ place.at + step_size step.now) }
-    ensures sized { IsSized subject.now.parts.now registers.new noted.new }
-    ensures few { IfOk result (λ next. AreFewAt noted.new next) }
-{
-    match step {
-        Step::Act(op) => {
-            judge(subject, place, rest, registers, noted, op)?;
-            Ok(place.at + 1)
+impl Subject<'_> {
+    // Checks a scan and its body, after which of the registers nothing else is known than before
+    // it, and answers the number of the next instruction.
+    #[cycle(walk)]
+    fn scan(
+        &self,
+        noted: &mut Noted,
+        place: Place,
+        table: TableId,
+        target: u16,
+        body: &Body,
+    ) -> Result<u16, Refusal>
+        requires size { place.at + 1 + code_size body.now ≤ 4097 }
+        requires quote { place.met * size_of self.now.facts.now.sizes table
+            + turns_met (size_of self.now.facts.now.sizes)
+            (place.met * size_of self.now.facts.now.sizes table) body.now ≤ 10 ^ 15 }
+        requires ready { IsReady self.now.parts.now place noted.old }
+        ensures judged { InEachContext self.now place noted.old (λ w x pending.
+            IsWalked result
+            (scan_first w self.now.parts.now pending x place.at table target body.now)
+            (KeepsContext self.now.parts.now noted.new (after_scan x
+            (at_end w self.now.parts.now (in_scan w x table target) body.now)))) }
+        ensures next { IfOk result (λ next. next ≡ place.at + 1 + code_size body.now) }
+        ensures sized { IsSized self.now.parts.now noted.new }
+        ensures few { IfOk result (λ next. AreFewAt noted.new next) }
+    {
+        if let Err(reason) = check_target(self.parts, &noted.written, target) {
+            let at = place.at;
+            return Err(Refusal::Refused { at, reason });
         }
-        Step::Scan {
-            table,
-            target,
-            body,
-        } => {
-            let mut pending = place.pending;
-            mark_puts(&mut pending, body.as_slice());
-            mark_puts(&mut pending, rest);
-            let opened = Place { pending, ..place };
-            scan(subject, opened, registers, noted, *table, *target, body)
-        }
-    }
-}
-
-// Checks the steps of a body, where so many groups are put to after them or in a scan round them,
-// and answers the number of the next instruction.
-#[cycle(walk)]
-pub(crate) fn walk(
-    subject: &Subject<'_>,
-    place: Place,
-    registers: &mut [Register],
-    noted: &mut Noted,
-    steps: &[Step],
-) -> Result<u16, Refusal>
-    requires size { place.at + code_size (code_of_steps steps.now) ≤ 4097 }
-    requires quote { turns_met (size_of subject.now.facts.now.sizes) place.met
-        (code_of_steps steps.now) ≤ 10 ^ 15 }
-    requires ready { IsReady subject.now.parts.now place registers.old noted.old }
-    ensures judged { InEachContext subject.now place registers.old noted.old (λ w x pending.
-        IsWalked result
-        (first_reason w subject.now.parts.now pending x place.at (code_of_steps steps.now))
-        (AreNoted subject.now.parts.now noted.new
-        (at_end w subject.now.parts.now x (code_of_steps steps.now)))) }
-    ensures next { IfOk result (λ next. next ≡ place.at + code_size (code_of_steps steps.now)) }
-    ensures sized { IsSized subject.now.parts.now registers.new noted.new }
-    ensures few { IfOk result (λ next. AreFewAt noted.new next) }
-{
-    let mut at = place.at;
-    let mut left = steps;
-    let pending = place.pending;
-    while let [step, rest @ ..] = left {
-        let here = Place {
-            at,
+        let registers = copied(self.alloc, &noted.registers)?;
+        enter(noted, table, target);
+        let pending = place.pending;
+        let inside = Place {
+            at: place.at + 1,
+            inside: true,
+            met: place.met * u64::from(self.facts.sizes.of(table)),
             pending,
-            ..place
         };
-        at = walk_step(subject, here, registers, noted, step, rest)?;
-        left = rest;
+        let next = self.walk(noted, inside, body.as_slice())?;
+        noted.registers = registers;
+        Ok(next)
     }
-    Ok(at)
+
+    // Checks a step before others, and answers the number of the next instruction.
+    #[cycle(walk)]
+    fn walk_step(
+        &self,
+        noted: &mut Noted,
+        place: Place,
+        step: &Step,
+        rest: &[Step],
+    ) -> Result<u16, Refusal>
+        requires size { place.at + code_size (before step.now (code_of_steps rest.now)) ≤ 4097 }
+        requires quote { turns_met (size_of self.now.facts.now.sizes) place.met
+            (before step.now (code_of_steps rest.now)) ≤ 10 ^ 15 }
+        requires ready { IsReady self.now.parts.now place noted.old }
+        ensures judged { InEachContext self.now place noted.old (λ w x pending.
+            IsWalked result
+            (step_first w self.now.parts.now pending x place.at step.now (code_of_steps rest.now))
+            (KeepsContext self.now.parts.now noted.new (after_step w self.now.parts.now x step.now))) }
+        ensures next { IfOk result (λ next. next ≡ place.at + step_size step.now) }
+        ensures sized { IsSized self.now.parts.now noted.new }
+        ensures few { IfOk result (λ next. AreFewAt noted.new next) }
+    {
+        match step {
+            Step::Act(op) => {
+                self.judge(noted, place, rest, op)?;
+                Ok(place.at + 1)
+            }
+            Step::Scan {
+                table,
+                target,
+                body,
+            } => {
+                let mut pending = place.pending;
+                mark_puts(&mut pending, body.as_slice());
+                mark_puts(&mut pending, rest);
+                let opened = Place { pending, ..place };
+                self.scan(noted, opened, *table, *target, body)
+            }
+        }
+    }
+
+    // Checks the steps of a body, where some groups are put to after them or in a scan around them,
+    // and answers the number of the next instruction.
+    #[cycle(walk)]
+    pub(crate) fn walk(
+        &self,
+        noted: &mut Noted,
+        place: Place,
+        steps: &[Step],
+    ) -> Result<u16, Refusal>
+        requires size { place.at + code_size (code_of_steps steps.now) ≤ 4097 }
+        requires quote { turns_met (size_of self.now.facts.now.sizes) place.met
+            (code_of_steps steps.now) ≤ 10 ^ 15 }
+        requires ready { IsReady self.now.parts.now place noted.old }
+        ensures judged { InEachContext self.now place noted.old (λ w x pending.
+            IsWalked result
+            (first_reason w self.now.parts.now pending x place.at (code_of_steps steps.now))
+            (AreNoted self.now.parts.now noted.new
+            (at_end w self.now.parts.now x (code_of_steps steps.now)))) }
+        ensures next { IfOk result
+            (λ next. next ≡ place.at + code_size (code_of_steps steps.now)) }
+        ensures sized { IsSized self.now.parts.now noted.new }
+        ensures few { IfOk result (λ next. AreFewAt noted.new next) }
+    {
+        let mut at = place.at;
+        let mut left = steps;
+        let pending = place.pending;
+        while let [step, rest @ ..] = left {
+            let here = Place {
+                at,
+                pending,
+                ..place
+            };
+            at = self.walk_step(noted, here, step, rest)?;
+            left = rest;
+        }
+        Ok(at)
+    }
 }

@@ -7,6 +7,13 @@ use Rattle.star_world.specs.RowsSeen.{IsCodeOf}
 
 -- of `b`: not below what is less than `b`, but below what is less than `c` or at most `b`
 code_of_b : (w : World) (code : ℕ) → IsCodeOf w CName (codes "b") code
-    → (nat_lt code (w.low CName (codes "b")) ≡ false) × (nat_lt code (w.low CName (codes "c")) ≡ true)
-    × (nat_lt code (w.high CName (codes "a")) ≡ false) × (nat_lt code (w.high CName (codes "b")) ≡ true)
-code_of_b w code is = (is.low (codes "b"), is.low (codes "c"), is.high (codes "a"), is.high (codes "b"))
+    → (nat_lt code (w.low CName (codes "b")) ≡ false)
+    × (nat_lt code (w.low CName (codes "c")) ≡ true)
+    × (nat_lt code (w.high CName (codes "a")) ≡ false)
+    × (nat_lt code (w.high CName (codes "b")) ≡ true)
+code_of_b w code is = (
+  is.low (codes "b"),
+  is.low (codes "c"),
+  is.high (codes "a"),
+  is.high (codes "b"),
+)

@@ -6,6 +6,6 @@ use Rattle.star_catalogue.specs.declared.dimension.DimensionKeys.TheVariants.{Fa
 use Rattle.star_catalogue.specs.Private.Places.{dense_at}
 
 -- the row that a key leads to, if there is one
-abbrev pub row_at : DimensionKeys → ℤ → Option ℕ
-row_at (Near near) key = dense_at near.least near.rows.items key
-row_at (Far far) key = position (int_eq key) far.rows.keys
+abbrev pub row_of_key : DimensionKeys → ℤ → Option ℕ
+row_of_key (Near near) key = dense_at near.least near.rows.items key
+row_of_key (Far far) key = position (int_eq key) far.rows.keys

@@ -1,15 +1,14 @@
 -- What is kept of the keys of a table.
-use Rattle.std.specs.Prelude.{◌≡◌, ◌↔◌, ◌&&◌, ◌-ℤ◌, if◌then◌else◌, ℕ, ℤ, Bool, true, List, [], ◌∷◌, Option, Some, None, nat_eq, slice_get}
-use Rattle.std.specs.Int.RustNames.{int_lt, unsigned_abs}
+use Rattle.std.specs.Prelude.{◌≡◌, ◌↔◌, ◌&&◌, ℕ, ℤ, Bool, List, [], ◌∷◌, Option, Some, None, slice_get}
 use Rattle.std.specs.Ordering.{int_cmp, int_eq, ordering_then}
 use Rattle.std.specs.declared.cmp.Ordering.{Ordering}
-use Rattle.star_catalogue.specs.Private.Indexed.{row_at}
+use Rattle.star_catalogue.specs.Private.Indexed.{row_of_key}
 use Rattle.star_catalogue.specs.declared.keys.KeyIndex.{KeyIndex}
 use Rattle.star_catalogue.specs.declared.keys.KeyIndex.TheVariants.{Dimension, Pairs}
 
 -- the row that a number leads to as a key, if there is one
 abbrev pub row_in : KeyIndex → ℤ → Option ℕ
-row_in (Dimension keys) key = row_at keys key
+row_in (Dimension keys) key = row_of_key keys key
 row_in Pairs key = None
 
 -- each number leads to the row whose key it is alone

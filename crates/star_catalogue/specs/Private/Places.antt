@@ -15,11 +15,11 @@ pub record ArePlaces {K : Type 0} (same : K → K → Bool) (place_of : K → Op
   pub found : (key : K) (place : ℕ) → (place_of key ≡ Some place) ↔ StandsAt same keys place key
 
 -- what stands for a row, or the greatest number of 32 bits, which no row has, for none
-abbrev pub row_of : Option ℕ → Option ℕ
-row_of None = None
-row_of (Some row) = if nat_eq row 4294967295 then None else Some row
+abbrev pub row_of_slot : Option ℕ → Option ℕ
+row_of_slot None = None
+row_of_slot (Some row) = if nat_eq row 4294967295 then None else Some row
 
 -- the row of a key, by the rows of the numbers from the least key on
 abbrev pub dense_at : ℤ → List ℕ → ℤ → Option ℕ
 dense_at least rows key =
-    if int_lt key least then None else row_of (slice_get rows (unsigned_abs (key -ℤ least)))
+    if int_lt key least then None else row_of_slot (slice_get rows (unsigned_abs (key -ℤ least)))

@@ -17,8 +17,8 @@ pub record AreFound (keys : List (List ℤ)) (numbers : List ℤ) (rows : List �
   pub found : map (λ row. slice_get keys row) rows ≡ map (λ number. Some (number ∷ [])) numbers
 
 -- if a column refers to a table, these are the rows of it whose keys the column's numbers are
-abbrev pub AreRowsOf : Database → ColumnId → List ℕ → Type 0
-AreRowsOf database c rows =
+abbrev pub AreRowsReferredTo : Database → ColumnId → List ℕ → Type 0
+AreRowsReferredTo database c rows =
     (t : TableId) → references c ≡ Some t
     → AreFound (keys_of t (rows_in database t)) (numbers_of c (rows_in database (table_of c))) rows
 
@@ -26,7 +26,7 @@ AreRowsOf database c rows =
 pub record AreOfFirst (database : Database) (n : ℕ) (lists : List (List ℕ)) : Type 0 where
   pub all : length lists ≡ n
   pub each : (i : ℕ) (c : ColumnId) (rows : List ℕ) → slice_get COLUMNS i ≡ Some c
-      → slice_get lists i ≡ Some rows → AreRowsOf database c rows
+      → slice_get lists i ≡ Some rows → AreRowsReferredTo database c rows
 
 -- for each column its rows
 abbrev pub AreReferred : Database → Referred → Type 0

@@ -10,7 +10,7 @@ use Rattle.star_cli.specs.declared.sessions.Stop.{Stop}
 use Rattle.star_cli.specs.declared.sessions.Stop.TheVariants.{Unread, Unwritten}
 
 -- a statement was read, and answered
-pub record IsAnswered {S E : Type 0} (loaded : Loaded) (is_terminal : Bool) (old new : Option (List ℕ))
+pub record IsStatementAnswered {S E : Type 0} (loaded : Loaded) (is_terminal : Bool) (old new : Option (List ℕ))
     (out : Change S) (err : Change E) (is_ended goes_on : Bool) : Type 0 where
   pub kept : List ℕ
   pub statement : List ℕ
@@ -24,9 +24,9 @@ IsPrompted is_terminal out err = IsUntouched out × IsTextTold err (prompt_of is
 abbrev pub IsTurn : {S E : Type 0} → Loaded → (is_terminal : Bool) → (old new : Option (List ℕ))
     → (failed : Bool) → Change S → Change E → Result Bool Stop → Type 0
 IsTurn loaded is_terminal old new failed out err (Ok is_ended) =
-    IsAnswered loaded is_terminal old new out err is_ended true
+    IsStatementAnswered loaded is_terminal old new out err is_ended true
 IsTurn loaded is_terminal old new failed out err (Err Unwritten) =
-    (is_ended : Bool) × IsAnswered loaded is_terminal old new out err is_ended false
+    (is_ended : Bool) × IsStatementAnswered loaded is_terminal old new out err is_ended false
 IsTurn loaded is_terminal old new failed out err (Err (Unread ReadFailed)) =
     IsPrompted is_terminal out err
     × ((failed ≡ true) ⊎ ((read : List ℕ) × IsPastCounting old new read))

@@ -1,6 +1,6 @@
 -- What a column of texts keeps in place of its texts.
 use Rattle.std.specs.Prelude.{◌≡◌, ◌<◌, ◌^◌, ℕ, List, All, length}
-use Rattle.star_flat.specs.Repeated.{texts_at}
+use Rattle.star_flat.specs.Repeated.{texts_at_places}
 use Rattle.star_schema.specs.Dictionary.{dictionary_of}
 
 -- a dictionary and the codes of the rows: each a place in the dictionary, and each place the code
@@ -8,4 +8,4 @@ use Rattle.star_schema.specs.Dictionary.{dictionary_of}
 pub record AreCodes (dictionary : List (List ℕ)) (codes : List ℕ) : Type 0 where
   pub few : length codes < 2 ^ 32
   pub within : All (λ code. code < length dictionary) codes
-  pub dictionary_is : dictionary ≡ dictionary_of (texts_at dictionary codes)
+  pub dictionary_is : dictionary ≡ dictionary_of (texts_at_places dictionary codes)

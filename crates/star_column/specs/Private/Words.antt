@@ -12,18 +12,18 @@ numbers_in (Bits16 words) = words.items
 numbers_in (Bits32 words) = words.items
 numbers_in (Bits64 words) = words.items
 
-abbrev pub width_of : Words → ℕ
-width_of (Bits8 words) = 8
-width_of (Bits16 words) = 16
-width_of (Bits32 words) = 32
-width_of (Bits64 words) = 64
+abbrev pub word_bits : Words → ℕ
+word_bits (Bits8 words) = 8
+word_bits (Bits16 words) = 16
+word_bits (Bits32 words) = 32
+word_bits (Bits64 words) = 64
 
 -- the numbers that lie so far above another
-abbrev pub above : ℤ → List ℕ → List ℤ
-above low differences = map (λ difference. low +ℤ pos difference) differences
+abbrev pub numbers_above : ℤ → List ℕ → List ℤ
+numbers_above low differences = map (λ difference. low +ℤ pos difference) differences
 
 -- the bounds of a column, and words of the least width with how far its numbers lie above the least
 pub record IsPacked (bounds : Interval) (words : Words) : Type 0 where
   pub few : length (numbers_in words) < 2 ^ 32
-  pub bounds_are : AreBounds bounds (above bounds.low (numbers_in words))
-  pub width : width_of words ≡ bits_of (above bounds.low (numbers_in words))
+  pub bounds_are : AreBounds bounds (numbers_above bounds.low (numbers_in words))
+  pub width : word_bits words ≡ bits_of (numbers_above bounds.low (numbers_in words))

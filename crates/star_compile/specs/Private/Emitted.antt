@@ -19,13 +19,13 @@ abbrev pub env_of : Emitter → Env
 env_of e = record { next = e.next; loaded = e.loaded.items; found = e.found.items }
 
 -- some code, and a count of registers
-pub record Whole : Type 0 where
+pub record Completed : Type 0 where
   pub code : Code
   pub registers : ℕ
 
 -- some code behind what an emitter has written, and how many registers are numbered where it ends
-unfoldable pub whole : Emitter → Code → Whole
-whole e k = record {
+unfoldable pub completed : Emitter → Code → Completed
+completed e k = record {
   code = steps_then e.steps.items k;
   registers = e.next + register_count k;
 }
@@ -33,18 +33,18 @@ whole e k = record {
 -- an emitter has gone from the old to the new by writing a piece: whatever is to come after the
 -- piece comes after what is written
 pub record Wrote (old new : Emitter) (piece : Env → (Env → Code) → Code) : Type 0 where
-  pub same : (k : Env → Code) → whole new (k (env_of new)) ≡ whole old (piece (env_of old) k)
+  pub same : (k : Env → Code) → completed new (k (env_of new)) ≡ completed old (piece (env_of old) k)
 
 -- the same of a piece whose result is x
 pub record Writes {A : Type 0} (old new : Emitter) (piece : Env → (Env → A → Code) → Code) (x : A)
     : Type 0 where
-  pub same : (k : Env → A → Code) → whole new (k (env_of new) x) ≡ whole old (piece (env_of old) k)
+  pub same : (k : Env → A → Code) → completed new (k (env_of new) x) ≡ completed old (piece (env_of old) k)
 
 -- a piece is to be written, and with it and with some code after it a program has at most 4,096
 -- registers
-pub record HasRoom {K : Type 0} (e : Emitter) (piece : Env → K → Code) : Type 0 where
+pub record HasRegisterRoom {K : Type 0} (e : Emitter) (piece : Env → K → Code) : Type 0 where
   pub rest : K
-  pub fits : (whole e (piece (env_of e) rest)).registers ≤ 4096
+  pub fits : (completed e (piece (env_of e) rest)).registers ≤ 4096
 
 -- columns behind some registers
 abbrev pub keys_after : List Join → List ColumnId → List ℕ → Env → Rests → Code

@@ -21,18 +21,18 @@ ArePrepared (q ∷ qs) (x ∷ xs) =
 ArePrepared _ _ = ⊥
 
 -- what is found of a program over loaded tables: the printed rows of its run, or what refuses it
-abbrev pub IsFound : Database → ℕ → Parts → (fits : Bool) → List ℕ → Type 0
-IsFound database most program true text =
+abbrev pub IsRunFound : Database → ℕ → Parts → (fits : Bool) → List ℕ → Type 0
+IsRunFound database most program true text =
     (outcome : Outcome) × IsRun database most program outcome
     × (text ≡ report_text outcome.names outcome.rows)
-IsFound database most program false text =
+IsRunFound database most program false text =
     (refusal : Refusal) × IsRefusal database most program refusal × (text ≡ refusal_line refusal)
 
 -- what is printed of a query and its program
 pub record IsSectionOver (database : Database) (most : ℕ) (x : Prepared) (fits : Bool)
     (section : List ℕ) : Type 0 where
   pub found : List ℕ
-  pub finding : IsFound database most x.program fits found
+  pub finding : IsRunFound database most x.program fits found
   pub printed : section ≡ named_quote x.query (quote_over database x.program) ++ found
 
 -- the sections of some, one behind the other, and whether all fit

@@ -30,22 +30,16 @@ pub record IsRun (database : Database) (most : ℕ) (program : Parts) (outcome :
 
 -- ---- writing
 
--- a whole text was written, or its first bytes
-abbrev pub IsWritten : {S : Type 0} → Change S → List ℕ → Result (Unit {0}) EngineFault → Type 0
-IsWritten sink text (Ok answer) = HasGained sink text
-IsWritten sink text (Err (Write sent)) = HasGainedPart sink text sent
-IsWritten sink text (Err fault) = ⊥
-
 -- some first bytes of a note were written
 abbrev pub IsPart : {N : Type 0} → Change N → List ℕ → Type 0
 IsPart notes note = (noted : ℕ) × HasGainedPart notes note noted
 
 -- of making a report and a note and writing one after the other: which write failed, if one did
-abbrev pub IsDelivered : {S N : Type 0} → Change S → Change N → List ℕ → List ℕ
+abbrev pub AreBothWritten : {S N : Type 0} → Change S → Change N → List ℕ → List ℕ
     → Result (Unit {0}) EngineFault → Type 0
-IsDelivered out notes report done (Ok answer) = HasGained out report × HasGained notes done
-IsDelivered out notes report done (Err OutOfMemory) = IsUntouched out × IsUntouched notes
-IsDelivered out notes report done (Err (Write sent)) =
+AreBothWritten out notes report done (Ok answer) = HasGained out report × HasGained notes done
+AreBothWritten out notes report done (Err OutOfMemory) = IsUntouched out × IsUntouched notes
+AreBothWritten out notes report done (Err (Write sent)) =
     (HasGainedPart out report sent × IsUntouched notes)
     ⊎ (HasGained out report × (sent ≡ length report) × IsPart notes done)
-IsDelivered out notes report done (Err fault) = ⊥
+AreBothWritten out notes report done (Err fault) = ⊥

@@ -61,8 +61,8 @@ first_hidden _ count = 0
 -- the first row of which a pass makes a coarser one, where there were so many before the pass before it:
 -- the rows of a rollup are made each of those that were made last
 abbrev pub first_finer : Shape → ℕ → ℕ
-first_finer Rollup many = many
-first_finer _ many = 0
+first_finer Rollup row_count = row_count
+first_finer _ row_count = 0
 
 -- the rows with their keys as they are shown
 abbrev pub shown_entries : List (List KeyPart × List (Option ℤ)) → List (List (Option KeyValue) × List (Option ℤ))

@@ -5,21 +5,21 @@ use Rattle.star_program.specs.declared.key.KeyValue.{KeyValue}
 use Rattle.star_group.specs.declared.group_row.GroupRow.{GroupRow}
 
 -- so many rows, of so many keys and aggregates each
-unfoldable pub rows_of : ℕ → ℕ → ℕ → List (Option KeyValue) → List (Option ℤ) → List GroupRow
-rows_of key_count aggregate_count zero keys aggregates = []
-rows_of key_count aggregate_count (suc count) keys aggregates =
+unfoldable pub flat_rows : ℕ → ℕ → ℕ → List (Option KeyValue) → List (Option ℤ) → List GroupRow
+flat_rows key_count aggregate_count zero keys aggregates = []
+flat_rows key_count aggregate_count (suc count) keys aggregates =
     record { keys = take key_count keys; aggregates = take aggregate_count aggregates }
-    ∷ rows_of key_count aggregate_count count (drop key_count keys) (drop aggregate_count aggregates)
+    ∷ flat_rows key_count aggregate_count count (drop key_count keys) (drop aggregate_count aggregates)
 
 -- a row of so many keys and aggregates
-pub record Fits (key_count aggregate_count : ℕ) (row : GroupRow) : Type 0 where
+pub record HasWidths (key_count aggregate_count : ℕ) (row : GroupRow) : Type 0 where
   pub keys : length row.keys ≡ key_count
   pub aggregates : length row.aggregates ≡ aggregate_count
 
 -- the parts of some rows
 pub record AreParts (key_count aggregate_count count : ℕ) (keys : List (Option KeyValue))
     (aggregates : List (Option ℤ)) (rows : List GroupRow) : Type 0 where
-  pub fit : AllByRecursion (Fits key_count aggregate_count) rows
+  pub fit : AllByRecursion (HasWidths key_count aggregate_count) rows
   pub many : count ≡ length rows
   pub key_parts : keys ≡ flat_map (λ row. row.keys) rows
   pub aggregate_parts : aggregates ≡ flat_map (λ row. row.aggregates) rows

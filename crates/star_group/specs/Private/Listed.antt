@@ -7,4 +7,4 @@ use Rattle.star_group.specs.Keyed.{keyed}
 
 -- the rows with their keys
 abbrev pub listed_entries : ListedRows → List (List KeyPart × List (Option ℤ))
-listed_entries rows = keyed (cut rows.width rows.len rows.keys.items) (cut rows.many rows.len rows.cells.items)
+listed_entries rows = keyed (cut rows.width rows.len rows.keys.items) (cut rows.aggregate_count rows.len rows.cells.items)

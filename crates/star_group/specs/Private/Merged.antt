@@ -11,16 +11,16 @@ use Rattle.star_group.specs.Base.{row_found}
 use Rattle.star_group.specs.OwnKeys.{key_eq}
 
 -- an aggregate over some puts and over some others, as one over all of them: sums and counts are added
-abbrev pub both : Aggregate → ℤ → ℤ → ℤ
-both Sum x y = x +ℤ y
-both Count x y = x +ℤ y
-both Min x y = int_min x y
-both Max x y = int_max x y
+abbrev pub merged_total : Aggregate → ℤ → ℤ → ℤ
+merged_total Sum x y = x +ℤ y
+merged_total Count x y = x +ℤ y
+merged_total Min x y = int_min x y
+merged_total Max x y = int_max x y
 
 abbrev pub merged : Aggregate → Option ℤ → Option ℤ → Option ℤ
 merged g None more = more
 merged g (Some x) None = Some x
-merged g (Some x) (Some y) = Some (both g x y)
+merged g (Some x) (Some y) = Some (merged_total g x y)
 
 -- one place of two rows merged
 abbrev pub merged_at : List Aggregate → List (Option ℤ) → List (Option ℤ) → ℕ → Option ℤ
@@ -57,10 +57,10 @@ abbrev pub IsMergedAt : List Aggregate → List (Option KeyValue) → List (Opti
 IsMergedAt gs key more entries entries' = (row : List (Option ℤ)) × IsMerged gs (unwrap_or (row_found entries key) []) more row × IsWithRow key row entries entries'
 
 -- what one put adds to an aggregate
-abbrev pub cell_of : Aggregate → ℤ → ℤ
-cell_of Count v = pos 1
-cell_of g v = v
+abbrev pub cell_of_one_put : Aggregate → ℤ → ℤ
+cell_of_one_put Count v = pos 1
+cell_of_one_put g v = v
 
 -- the row of one put alone
-abbrev pub IsRowOf : List Aggregate → List ℤ → List (Option ℤ) → Type 0
-IsRowOf gs vs row = (place : ℕ) → place < length gs → slice_index_or row place None ≡ Some (cell_of (slice_index_or gs place Count) (slice_index_or vs place (pos 0)))
+abbrev pub IsRowOfOnePut : List Aggregate → List ℤ → List (Option ℤ) → Type 0
+IsRowOfOnePut gs vs row = (place : ℕ) → place < length gs → slice_index_or row place None ≡ Some (cell_of_one_put (slice_index_or gs place Count) (slice_index_or vs place (pos 0)))

@@ -9,7 +9,7 @@ use Rattle.star_group.specs.declared.keyed.trie.Trie.{Trie}
 use Rattle.star_group.specs.Entries.{entries_of}
 use Rattle.star_program.specs.Rows.{cut}
 use Rattle.star_group.specs.Keyed.{all_hidden}
-use Rattle.star_group.specs.Private.Tries.{IsFound, IsHeld}
+use Rattle.star_group.specs.Private.Tries.{IsHeld, IsKeyFound}
 use Rattle.star_group.specs.declared.keyed.trie.Place.{Place}
 use Rattle.star_group.specs.declared.keyed.trie.Place.TheVariants.{Held, Missing}
 
@@ -30,7 +30,7 @@ IsKnown rows key (Some number) = IsHeld (keys_in rows) (take rows.trie.width key
 
 -- where the row with this key is, or would be
 abbrev pub IsPlace : KeyedRows → List KeyPart → Place → Type 0
-IsPlace rows key place = IsFound rows.trie.width (keys_in rows) rows.trie.links.items (take rows.trie.width key) place
+IsPlace rows key place = IsKeyFound rows.trie.width (keys_in rows) rows.trie.links.items (take rows.trie.width key) place
 
 -- where it is, or would be as long as there are no more rows than these
 abbrev pub IsPlaceAmong : KeyedRows → ℕ → List KeyPart → Place → Type 0
@@ -38,23 +38,23 @@ IsPlaceAmong rows count key (Held number) = IsHeld (keys_in rows) (take rows.tri
 IsPlaceAmong rows count key (Missing node digit) = rows.trie.len ≡ count → IsPlace rows key (Missing node digit)
 
 -- its row, where it is there, is one of these
-abbrev pub IsWithin : KeyedRows → Place → Type 0
-IsWithin rows (Held number) = number < length (entries_of rows)
-IsWithin rows (Missing node digit) = Unit {0}
+abbrev pub IsRowWithin : KeyedRows → Place → Type 0
+IsRowWithin rows (Held number) = number < length (entries_of rows)
+IsRowWithin rows (Missing node digit) = Unit {0}
 
-pub record ArePlaces (rows : KeyedRows) (keys : List (List KeyPart)) (places : List Place) : Type 0 where
+pub record ArePlacesOfKeys (rows : KeyedRows) (keys : List (List KeyPart)) (places : List Place) : Type 0 where
   pub many : length places ≡ length keys
   pub each : (index : ℕ) → index < length keys → IsPlace rows (slice_index_or keys index []) (slice_index_or places index (Held 0))
 
 -- a row of these aggregates, or of more numbers than they, fits among the rows
 pub record FitsIn (rows : KeyedRows) (gs : List Aggregate) (row : List (Option ℤ)) : Type 0 where
-  pub many : length gs ≡ rows.many
-  pub wide : rows.many ≤ length row
+  pub many : length gs ≡ rows.aggregate_count
+  pub wide : rows.aggregate_count ≤ length row
 
 -- the rows have as many keys and as many aggregates as they had
 pub record AreAsWide (old new : KeyedRows) : Type 0 where
   pub width : new.trie.width ≡ old.trie.width
-  pub many : new.many ≡ old.many
+  pub many : new.aggregate_count ≡ old.aggregate_count
 
 -- the same rows and maybe more, each with the number that it had, and no key's place changes as long as there are no more
 pub record IsGrown (old new : KeyedRows) : Type 0 where
@@ -73,4 +73,4 @@ pub record HasTrieSpace (trie : Trie) (count : ℕ) : Type 0 where
 -- and so many more rows
 pub record HasSpace (rows : KeyedRows) (count : ℕ) : Type 0 where
   pub trie : HasTrieSpace rows.trie count
-  pub cells : vec_len rows.cells + count * rows.many ≤ vec_capacity rows.cells
+  pub cells : vec_len rows.cells + count * rows.aggregate_count ≤ vec_capacity rows.cells

@@ -32,7 +32,7 @@ abbrev pub AreWithin : List ℕ → ℕ → Type 0
 AreWithin at places = (row : ℕ) → row < length at → slice_index_or at row 0 < places
 
 -- the cells of each aggregate, one after another, with one number more for each of some rows
-pub record AreTaken (gs : List Aggregate) (places : ℕ) (lanes : ℕ → List ℤ) (at : List ℕ) (old new : List ℤ) : Type 0 where
+pub record AreCellsTaken (gs : List Aggregate) (places : ℕ) (lanes : ℕ → List ℤ) (at : List ℕ) (old new : List ℤ) : Type 0 where
   pub columns : (a : ℕ) → a < length gs → slice_index_or (cut places (length gs) new) a []
       ≡ column_after (slice_index_or gs a Count) (lanes a) at (slice_index_or (cut places (length gs) old) a []) (length at)
   pub len : length new ≡ length old

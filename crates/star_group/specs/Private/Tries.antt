@@ -6,24 +6,24 @@ use Rattle.star_group.specs.declared.keyed.trie.Place.{Place}
 use Rattle.star_group.specs.declared.keyed.trie.Place.TheVariants.{Held, Missing}
 use Rattle.star_group.specs.declared.keyed.key.KeyPart.TheVariants.{All, Number, Code}
 
-abbrev pub bits_of : KeyPart → ℕ
-bits_of All = 0
-bits_of (Number x) = cast_unsigned w64 x
-bits_of (Code n) = n
+abbrev pub key_bits : KeyPart → ℕ
+key_bits All = 0
+key_bits (Number x) = cast_unsigned w64 x
+key_bits (Code n) = n
 
 -- which kind of value it is
-abbrev pub kind_of : KeyPart → ℕ
-kind_of All = 0
-kind_of (Number x) = 1
-kind_of (Code n) = 2
+abbrev pub key_kind : KeyPart → ℕ
+key_kind All = 0
+key_kind (Number x) = 1
+key_kind (Code n) = 2
 
 -- the bits from the lowest, two at a time, and then the kind
 abbrev pub part_digit : KeyPart → ℕ → ℕ
-part_digit part round = if nat_lt round 32 then bits_of part / 2 ^ (2 * round) % 4 else kind_of part
+part_digit part round = if nat_lt round 32 then key_bits part / 2 ^ (2 * round) % 4 else key_kind part
 
 -- a word and a part after it
 abbrev pub word_with : ℕ → KeyPart → ℕ
-word_with word part = (word * 31 % 2 ^ 64 + bits_of part) % 2 ^ 64
+word_with word part = (word * 31 % 2 ^ 64 + key_bits part) % 2 ^ 64
 
 -- the parts in one word, after those of a word
 unfoldable pub word_from : ℕ → List KeyPart → ℕ
@@ -79,9 +79,9 @@ pub record IsMissing (width : ℕ) (ks : List (List KeyPart)) (links : List (Lis
   pub empty : child links node digit ≡ 0
   pub none : (n : ℕ) → n < length ks → key_at ks n ≡ key → ⊥
 
-abbrev pub IsFound : ℕ → List (List KeyPart) → List (List ℕ) → List KeyPart → Place → Type 0
-IsFound width ks links key (Held n) = IsHeld ks key n
-IsFound width ks links key (Missing node digit) = IsMissing width ks links key node digit
+abbrev pub IsKeyFound : ℕ → List (List KeyPart) → List (List ℕ) → List KeyPart → Place → Type 0
+IsKeyFound width ks links key (Held n) = IsHeld ks key n
+IsKeyFound width ks links key (Missing node digit) = IsMissing width ks links key node digit
 
 abbrev pub is_missing : Place → Bool
 is_missing (Held n) = false

@@ -10,14 +10,14 @@ use crate::cell::Total;
 use crate::keyed::KeyedRows;
 use crate::keyed::key::base_key;
 use crate::keyed::merge::row_of_put;
-use crate::newest::Newest;
+use crate::row_cache::RowCache;
 use star_schema::Aggregate;
 use std::alloc::AllocError;
 
 // One more put of the row of its keys and of the total; or nothing changes.
 pub(super) fn add_put(
     rows: &mut KeyedRows,
-    newest: &mut Newest,
+    row_cache: &mut RowCache,
     total: &mut Total,
     aggregates: &[Aggregate],
     keys: &[KeyValue],
@@ -25,7 +25,7 @@ pub(super) fn add_put(
 ) -> Result<(), AllocError>
     requires values { length values.now ≡ length aggregates.now }
     requires wide { length keys.now ≤ rows.old.trie.width }
-    requires many { length aggregates.now ≡ rows.old.many }
+    requires aggregate_count { length aggregates.now ≡ rows.old.aggregate_count }
     requires room { HasRoomFor aggregates.now (entries_of rows.old) total.old
         (record { keys = keys.now; values = values.now }) }
     ensures ok { OnOk result (TakesPut aggregates.now
@@ -37,10 +37,10 @@ pub(super) fn add_put(
 {
     let row = row_of_put(aggregates, values);
     let key = base_key(keys);
-    let place = newest.place(rows, &key);
-    let count = rows.len();
+    let place = row_cache.place(rows, &key);
+    let row_count = rows.len();
     rows.merge(&key, place, aggregates, &row)?;
-    newest.set(rows, &key, place, count);
+    row_cache.set(rows, &key, place, row_count);
     total.merge(aggregates, &row);
     Ok(())
 }

@@ -16,7 +16,7 @@ use crate::GroupRows;
 use crate::cell::{Held, Total};
 use crate::given::rows_given;
 use crate::keyed::KeyedRows;
-use crate::keyed::key::{OrderedKey, hidden, is_grouping};
+use crate::keyed::key::{OrderedKey, is_grouping, with_all_at};
 use star_schema::{Aggregate, Shape};
 use std::alloc::{AllocError, Global};
 
@@ -24,21 +24,21 @@ use std::alloc::{AllocError, Global};
 fn merge_coarser(
     rows: &mut KeyedRows,
     shape: Shape,
-    count: usize,
+    key_count: usize,
     key: &OrderedKey,
     aggregates: &[Aggregate],
     more: &[Held],
 ) -> Result<(), AllocError>
-    requires count { count ≤ 6 }
+    requires key_count { key_count ≤ 6 }
     requires narrow { IsNarrow rows.old.trie.width key.now }
     requires fits { FitsIn rows.old aggregates.now more.now }
-    requires stays { groups.is_grouping shape (take count (key_view key.now)) ≡ true
+    requires stays { groups.is_grouping shape (take key_count (key_view key.now)) ≡ true
         → RowsStay aggregates.now (row_found (entries_of rows.old) (key_view key.now)) more.now }
-    ensures ok { OnOk result (IsMergedWhere shape count aggregates.now (key_view key.now) more.now
+    ensures ok { OnOk result (IsMergedWhere shape key_count aggregates.now (key_view key.now) more.now
         (entries_of rows.old) (entries_of rows.new)) }
     ensures grown { IsGrown rows.old rows.new }
 {
-    if !is_grouping(shape, count, key) {
+    if !is_grouping(shape, key_count, key) {
         return Ok(());
     }
     let found = rows.place(key);
@@ -51,49 +51,50 @@ fn add_hidden(
     alloc: Global,
     rows: &mut KeyedRows,
     shape: Shape,
-    count: usize,
+    key_count: usize,
     place: usize,
     from: usize,
     aggregates: &[Aggregate],
 ) -> Result<(), AllocError>
-    requires count { count ≤ rows.old.trie.width }
-    requires place { place < count }
-    requires many { length aggregates.now ≡ rows.old.many }
-    requires room { ∥ IsRolledUpWithRoom shape count aggregates.now (place + 1)
+    requires key_count { key_count ≤ rows.old.trie.width }
+    requires place { place < key_count }
+    requires aggregate_count { length aggregates.now ≡ rows.old.aggregate_count }
+    requires room { ∥ IsRolledUpWithRoom shape key_count aggregates.now (place + 1)
         (entries_of rows.old) ∥₁ }
     requires from { from ≤ length (entries_of rows.old) }
-    requires none { NoneCoarser shape count place from (entries_of rows.old) }
-    ensures rows { OnOk result (RollsUp shape count aggregates.now
+    requires none { NoneCoarser shape key_count place from (entries_of rows.old) }
+    ensures rows { OnOk result (RollsUp shape key_count aggregates.now
         (place + 1) (entries_of rows.old) place (entries_of rows.new)) }
     ensures grown { IsGrown rows.old rows.new }
 {
     let finer = rows.listed(alloc, from)?;
     for index in 0..finer.len() {
-        let key = hidden(&finer.key(index), place);
-        merge_coarser(rows, shape, count, &key, aggregates, finer.row(index))?;
+        let key = with_all_at(&finer.key(index), place);
+        merge_coarser(rows, shape, key_count, &key, aggregates, finer.row(index))?;
     }
     Ok(())
 }
 
 // The first key that may be ALL in a row of these groups.
-fn first_hidden(shape: Shape, count: usize) -> usize
-    ensures first { result ≡ spec.first_hidden shape count }
-    ensures within { result ≤ count }
+fn first_hidden(shape: Shape, key_count: usize) -> usize
+    ensures first { result ≡ spec.first_hidden shape key_count }
+    ensures within { result ≤ key_count }
 {
     match shape {
         Shape::Cube | Shape::Rollup => 0,
-        Shape::Plain => count,
+        Shape::Plain => key_count,
     }
 }
 
-// The first row of which a pass makes a coarser one, where there were so many before the pass before
-// it. The coarser rows of a rollup are a chain: each is made of those that were made last.
-fn first_finer(shape: Shape, many: usize) -> usize
-    ensures first { result ≡ spec.first_finer shape many }
-    ensures within { result ≤ many }
+// The first row that a pass makes a coarser one of, where there were `row_count` rows before the
+// pass before it. The coarser rows of a rollup are a chain: each is made of those that were made
+// last.
+fn first_finer(shape: Shape, row_count: usize) -> usize
+    ensures first { result ≡ spec.first_finer shape row_count }
+    ensures within { result ≤ row_count }
 {
     match shape {
-        Shape::Rollup => many,
+        Shape::Rollup => row_count,
         Shape::Cube | Shape::Plain => 0,
     }
 }
@@ -103,25 +104,25 @@ pub(super) fn add_coarser(
     alloc: Global,
     rows: &mut KeyedRows,
     shape: Shape,
-    count: usize,
+    key_count: usize,
     aggregates: &[Aggregate],
 ) -> Result<(), AllocError>
-    requires count { count ≤ rows.old.trie.width }
-    requires many { length aggregates.now ≡ rows.old.many }
-    requires room { ∥ IsRolledUpWithRoom shape count aggregates.now count
+    requires key_count { key_count ≤ rows.old.trie.width }
+    requires aggregate_count { length aggregates.now ≡ rows.old.aggregate_count }
+    requires room { ∥ IsRolledUpWithRoom shape key_count aggregates.now key_count
         (entries_of rows.old) ∥₁ }
-    ensures rows { OnOk result (RollsUp shape count aggregates.now count (entries_of rows.old)
-        (spec.first_hidden shape count) (entries_of rows.new)) }
+    ensures rows { OnOk result (RollsUp shape key_count aggregates.now key_count (entries_of rows.old)
+        (spec.first_hidden shape key_count) (entries_of rows.new)) }
     ensures widths { AreAsWide rows.old rows.new }
 {
-    let first = first_hidden(shape, count);
+    let first = first_hidden(shape, key_count);
     let mut from = 0;
-    let mut place = count;
+    let mut place = key_count;
     while place > first {
         place -= 1;
-        let many = rows.len();
-        add_hidden(alloc, rows, shape, count, place, from, aggregates)?;
-        from = first_finer(shape, many);
+        let row_count = rows.len();
+        add_hidden(alloc, rows, shape, key_count, place, from, aggregates)?;
+        from = first_finer(shape, row_count);
     }
     Ok(())
 }
@@ -132,19 +133,19 @@ pub(crate) fn rows_of_base(
     base: KeyedRows,
     total: &Total,
     shape: Shape,
-    count: usize,
+    key_count: usize,
     aggregates: &[Aggregate],
 ) -> Result<GroupRows, AllocError>
-    requires count { count ≤ base.trie.width }
-    requires many { length aggregates.now ≡ base.many }
-    requires room { HasBaseWithRoom (group_with shape count aggregates.now) (entries_of base)
+    requires key_count { key_count ≤ base.trie.width }
+    requires aggregate_count { length aggregates.now ≡ base.aggregate_count }
+    requires room { HasBaseWithRoom (group_with shape key_count aggregates.now) (entries_of base)
         total.now }
     ensures { IfOk result (λ rows. (puts : List Update)
-        → IsBase (group_with shape count aggregates.now) (entries_of base) total.now puts
-        → AreRows (group_with shape count aggregates.now) puts rows) }
+        → IsBase (group_with shape key_count aggregates.now) (entries_of base) total.now puts
+        → AreRows (group_with shape key_count aggregates.now) puts rows) }
 {
     let mut rows = base;
-    add_coarser(alloc, &mut rows, shape, count, aggregates)?;
+    add_coarser(alloc, &mut rows, shape, key_count, aggregates)?;
     let rows = rows.into_listed();
-    rows_given(alloc, &rows, total, shape, count, aggregates)
+    rows_given(alloc, &rows, total, shape, key_count, aggregates)
 }

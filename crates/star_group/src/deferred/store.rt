@@ -1,14 +1,15 @@
 // A deferred store is a store of groups.
 
-ghost use Rattle.std.specs.Prelude.{◌≡◌, List, ◌∷◌, []};
+ghost use Rattle.std.specs.Prelude.{[]};
 ghost use Rattle.star_group.specs.Deferred.{group_view, Has};
 
 use super::DeferredStore;
 use super::base::add_put;
 use super::coarser::rows_of_base;
+use crate::batch::PutBatch;
 use crate::cell::{Total, shown};
 use crate::keyed::KeyedRows;
-use crate::newest::Newest;
+use crate::row_cache::RowCache;
 use crate::store::{GroupStore, aggregates_of};
 use crate::{GroupRows, KeyValue};
 use star_program::GroupDecl;
@@ -19,17 +20,20 @@ impl GroupStore for DeferredStore {
 
     ghost has = { Has };
 
+    // No row has a place.
+    ghost has_place = { λ store keys place. ⊥ };
+
     fn new(alloc: Global, declared: &GroupDecl) -> Result<DeferredStore, AllocError> {
         let aggregates = aggregates_of(alloc, declared)?;
-        let count = declared.keys.as_slice().len();
-        let rows = KeyedRows::new(alloc, count, aggregates.len())?;
+        let key_count = declared.keys.as_slice().len();
+        let rows = KeyedRows::new(alloc, key_count, aggregates.len())?;
         Ok(DeferredStore {
             alloc,
             shape: declared.shape,
-            count,
+            key_count,
             aggregates,
             rows,
-            newest: Newest::new(alloc)?,
+            row_cache: RowCache::new(alloc)?,
             total: Total::new(),
         })
     }
@@ -37,12 +41,16 @@ impl GroupStore for DeferredStore {
     fn put(&mut self, keys: &[KeyValue], values: &[i64]) -> Result<(), AllocError> {
         add_put(
             &mut self.rows,
-            &mut self.newest,
+            &mut self.row_cache,
             &mut self.total,
             self.aggregates.as_slice(),
             keys,
             values,
         )
+    }
+
+    fn put_batch_at(&mut self, _batch: &PutBatch<'_>, _places: &[u32]) {
+        unreachable!()
     }
 
     fn total(&self, aggregate: usize) -> Option<i128> {
@@ -52,7 +60,7 @@ impl GroupStore for DeferredStore {
     fn into_rows(self) -> Result<GroupRows, AllocError> {
         let rows = self.rows;
         let aggregates = self.aggregates.as_slice();
-        let (alloc, shape, count) = (self.alloc, self.shape, self.count);
-        rows_of_base(alloc, rows, &self.total, shape, count, aggregates)
+        let (alloc, shape, key_count) = (self.alloc, self.shape, self.key_count);
+        rows_of_base(alloc, rows, &self.total, shape, key_count, aggregates)
     }
 }

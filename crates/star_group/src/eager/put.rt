@@ -9,20 +9,20 @@ ghost use Rattle.star_group.specs.OwnKeys.{is_of_put, key_eq, padded};
 ghost use Rattle.star_group.specs.Private.Numbers.{AreAsWide, FitsIn, IsNarrow};
 ghost use Rattle.star_group.specs.Private.Rows.{PutsRows, SomeLeaves, is_beside};
 
-use super::own::fill_own;
+use super::row_keys::fill_row_keys;
 use crate::KeyValue;
 use crate::cell::{Held, Row, Total};
 use crate::keyed::KeyedRows;
 use crate::keyed::key::{OrderedKey, base_key};
 use crate::keyed::trie::Place;
-use crate::newest::Newest;
+use crate::row_cache::RowCache;
 use crate::rows::{PutFault, put_rows, stays_at};
 use star_schema::{Aggregate, Shape};
 
 // A row merged into that of this key, unless an aggregate leaves its bits.
 fn put_row(
     rows: &mut KeyedRows,
-    newest: &mut Newest,
+    row_cache: &mut RowCache,
     key: &OrderedKey,
     aggregates: &[Aggregate],
     more: &[Held],
@@ -37,13 +37,13 @@ fn put_row(
         more.now)) }
     ensures widths { AreAsWide rows.old rows.new }
 {
-    let place = newest.place(rows, key);
+    let place = row_cache.place(rows, key);
     if !stays_at(rows, place, aggregates, more) {
         return Err(PutFault::Overflow);
     }
-    let count = rows.len();
+    let row_count = rows.len();
     rows.merge(key, place, aggregates, more)?;
-    newest.set(rows, key, place, count);
+    row_cache.set(rows, key, place, row_count);
     Ok(())
 }
 
@@ -54,8 +54,8 @@ fn put_row(
 #[inline(always)]
 fn put_beside(
     rows: &mut KeyedRows,
-    newest: &mut Newest,
-    own: &mut Vec<OrderedKey>,
+    row_cache: &mut RowCache,
+    row_keys: &mut Vec<OrderedKey>,
     places: &mut Vec<Place>,
     shape: Shape,
     aggregates: &[Aggregate],
@@ -76,10 +76,10 @@ fn put_beside(
         return Ok(());
     }
     match shape {
-        Shape::Plain => put_row(rows, newest, &base_key(keys), aggregates, more),
+        Shape::Plain => put_row(rows, row_cache, &base_key(keys), aggregates, more),
         Shape::Cube | Shape::Rollup => {
-            fill_own(own, shape, keys)?;
-            put_rows(rows, own.as_slice(), places, aggregates, more)
+            fill_row_keys(row_keys, shape, keys)?;
+            put_rows(rows, row_keys.as_slice(), places, aggregates, more)
         }
     }
 }
@@ -88,8 +88,8 @@ fn put_beside(
 #[inline(always)]
 pub(super) fn put_all(
     rows: &mut KeyedRows,
-    newest: &mut Newest,
-    own: &mut Vec<OrderedKey>,
+    row_cache: &mut RowCache,
+    row_keys: &mut Vec<OrderedKey>,
     places: &mut Vec<Place>,
     total: &mut Total,
     shape: Shape,
@@ -113,7 +113,9 @@ pub(super) fn put_all(
     if !total.stays(aggregates, more) {
         return Err(PutFault::Overflow);
     }
-    put_beside(rows, newest, own, places, shape, aggregates, keys, more)?;
+    put_beside(
+        rows, row_cache, row_keys, places, shape, aggregates, keys, more,
+    )?;
     total.merge(aggregates, more);
     Ok(())
 }

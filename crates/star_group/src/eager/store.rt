@@ -4,18 +4,19 @@ ghost use Rattle.star_group.specs.Eager.{group_view, Has};
 
 use super::EagerStore;
 use super::put::put_all;
+use crate::batch::PutBatch;
 use crate::cell::{Total, shown};
 use crate::given::rows_given;
 use crate::keyed::KeyedRows;
 use crate::keyed::merge::row_of_put;
-use crate::newest::Newest;
+use crate::row_cache::RowCache;
 use crate::rows::PutFault;
 use crate::store::{GroupStore, TryPut, aggregates_of};
 use crate::{GroupRows, KeyValue};
 use star_program::GroupDecl;
 use std::alloc::{AllocError, Global};
 
-// So many rows a put changes at most beside the total: those of a cube of six keys. Their room is
+// The most rows that a put changes beside the total: those of a cube of six keys. Their room is
 // reserved, so that a put into rows that are there takes no memory.
 const MOST_OWN: usize = 63;
 
@@ -24,19 +25,22 @@ impl GroupStore for EagerStore {
 
     ghost has = { Has };
 
+    // No row has a place.
+    ghost has_place = { λ store keys place. ⊥ };
+
     fn new(alloc: Global, declared: &GroupDecl) -> Result<EagerStore, AllocError> {
         let aggregates = aggregates_of(alloc, declared)?;
-        let count = declared.keys.as_slice().len();
-        let rows = KeyedRows::new(alloc, count, aggregates.len())?;
+        let key_count = declared.keys.as_slice().len();
+        let rows = KeyedRows::new(alloc, key_count, aggregates.len())?;
         Ok(EagerStore {
             alloc,
             shape: declared.shape,
-            count,
+            key_count,
             aggregates,
             rows,
-            newest: Newest::new(alloc)?,
+            row_cache: RowCache::new(alloc)?,
             total: Total::new(),
-            own: Vec::with_capacity(alloc, MOST_OWN)?,
+            row_keys: Vec::with_capacity(alloc, MOST_OWN)?,
             places: Vec::with_capacity(alloc, MOST_OWN)?,
         })
     }
@@ -49,6 +53,10 @@ impl GroupStore for EagerStore {
         }
     }
 
+    fn put_batch_at(&mut self, _batch: &PutBatch<'_>, _places: &[u32]) {
+        unreachable!()
+    }
+
     fn total(&self, aggregate: usize) -> Option<i128> {
         shown(self.aggregates[aggregate], self.total.get(aggregate))
     }
@@ -56,8 +64,8 @@ impl GroupStore for EagerStore {
     fn into_rows(self) -> Result<GroupRows, AllocError> {
         let rows = self.rows.into_listed();
         let aggregates = self.aggregates.as_slice();
-        let (alloc, shape, count) = (self.alloc, self.shape, self.count);
-        rows_given(alloc, &rows, &self.total, shape, count, aggregates)
+        let (alloc, shape, key_count) = (self.alloc, self.shape, self.key_count);
+        rows_given(alloc, &rows, &self.total, shape, key_count, aggregates)
     }
 }
 
@@ -67,8 +75,8 @@ impl TryPut for EagerStore {
         let more = row_of_put(aggregates, values);
         put_all(
             &mut self.rows,
-            &mut self.newest,
-            &mut self.own,
+            &mut self.row_cache,
+            &mut self.row_keys,
             &mut self.places,
             &mut self.total,
             self.shape,

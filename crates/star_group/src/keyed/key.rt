@@ -1,6 +1,6 @@
 // The keys of rows by their keys.
 
-ghost use Rattle.std.specs.Prelude.{◌≡◌, ◌≤◌, ◌<◌, Some, None, List, length, map, slice_set, take};
+ghost use Rattle.std.specs.Prelude.{◌≡◌, ◌≤◌, ◌<◌, Some, None, length, slice_set, take};
 ghost use Rattle.std.specs.List.{list_all, list_any};
 ghost use Rattle.std.specs.Option.{is_some};
 ghost use Rattle.star_schema.specs.declared.group.Shape.TheVariants.{Rollup};
@@ -69,7 +69,7 @@ pub(crate) fn base_key(keys: &[KeyValue]) -> OrderedKey
 }
 
 // The key with ALL at this place.
-pub(crate) fn hidden(parts: &OrderedKey, place: usize) -> OrderedKey
+pub(crate) fn with_all_at(parts: &OrderedKey, place: usize) -> OrderedKey
     requires { place < 6 }
     ensures key { key_view result ≡ slice_set (key_view parts.now) place None }
     ensures parts { result ≡ slice_set parts.now place KeyPart.All }
@@ -102,7 +102,7 @@ fn shows_some(parts: &[KeyPart]) -> bool
     parts.iter().any(is_shown)
 }
 
-// Whether no part that isn't ALL stands behind one that is.
+// Whether no part that isn't ALL stands after one that is.
 fn are_shown_first(parts: &[KeyPart]) -> bool
     ensures { result ≡ spec.is_grouping Rollup (key_view parts.now) }
 {
@@ -117,24 +117,24 @@ fn are_shown_first(parts: &[KeyPart]) -> bool
     true
 }
 
-// Whether so many keys, of which some are hidden here, are a grouping of this shape.
-pub(crate) fn is_grouping(shape: Shape, count: usize, parts: &OrderedKey) -> bool
-    requires { count ≤ 6 }
-    ensures { result ≡ spec.is_grouping shape (take count (key_view parts.now)) }
+// Whether `key_count` keys, some of them hidden here, are a grouping of this shape.
+pub(crate) fn is_grouping(shape: Shape, key_count: usize, parts: &OrderedKey) -> bool
+    requires { key_count ≤ 6 }
+    ensures { result ≡ spec.is_grouping shape (take key_count (key_view parts.now)) }
 {
     match shape {
-        Shape::Plain => are_shown(&parts[..count]),
+        Shape::Plain => are_shown(&parts[..key_count]),
         Shape::Cube => true,
-        Shape::Rollup => are_shown_first(&parts[..count]),
+        Shape::Rollup => are_shown_first(&parts[..key_count]),
     }
 }
 
 // Whether a row has this key beside that of all puts: a grouping of this shape that shows a key.
-pub(crate) fn is_row_key(shape: Shape, count: usize, parts: &OrderedKey) -> bool
-    requires { count ≤ 6 }
-    ensures { result ≡ rows.is_row_key shape count (key_view parts.now) }
+pub(crate) fn is_row_key(shape: Shape, key_count: usize, parts: &OrderedKey) -> bool
+    requires { key_count ≤ 6 }
+    ensures { result ≡ rows.is_row_key shape key_count (key_view parts.now) }
 {
-    shows_some(parts) && is_grouping(shape, count, parts)
+    shows_some(parts) && is_grouping(shape, key_count, parts)
 }
 
 // The key as a row shows it.

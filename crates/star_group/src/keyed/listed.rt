@@ -11,7 +11,7 @@ use crate::cell::Held;
 use star_program::row_of;
 use std::alloc::{AllocError, Global};
 
-// What is left of rows of so many items each behind the first ones.
+// What is left of rows of `width` items each after the first `from`.
 fn rows_from<T>(items: &[T], width: usize, from: usize) -> &[T]
     requires { from * width ≤ length items.now }
     ensures { result.now ≡ drop (from * width) items.now }
@@ -25,30 +25,37 @@ impl KeyedRows {
         requires { from ≤ length (entries_of self.now) }
         ensures rows { IfOk result (λ rows. listed_entries rows ≡ drop from (entries_of self.now)) }
         ensures width { IfOk result (λ rows. rows.width ≡ self.now.trie.width) }
-        ensures many { IfOk result (λ rows. rows.many ≡ self.now.many) }
+        ensures aggregate_count { IfOk result (λ rows. rows.aggregate_count ≡ self.now.aggregate_count) }
     {
         let width = self.trie.width;
         Ok(ListedRows {
             width,
             len: self.trie.len - from,
             keys: Vec::from_slice(alloc, rows_from(self.trie.keys.as_slice(), width, from))?,
-            many: self.many,
-            cells: Vec::from_slice(alloc, rows_from(self.cells.as_slice(), self.many, from))?,
+            aggregate_count: self.aggregate_count,
+            cells: Vec::from_slice(
+                alloc,
+                rows_from(self.cells.as_slice(), self.aggregate_count, from),
+            )?,
         })
     }
 
     // The rows themselves; the memory of what found them is free again.
     pub(crate) fn into_listed(self) -> ListedRows
         ensures rows { listed_entries result ≡ entries_of self }
-        ensures many { result.many ≡ self.many }
+        ensures aggregate_count { result.aggregate_count ≡ self.aggregate_count }
     {
-        let KeyedRows { trie, many, cells } = self;
+        let KeyedRows {
+            trie,
+            aggregate_count,
+            cells,
+        } = self;
         let (width, len) = (trie.width, trie.len);
         ListedRows {
             width,
             len,
             keys: trie.into_keys(),
-            many,
+            aggregate_count,
             cells,
         }
     }
@@ -75,8 +82,13 @@ impl ListedRows {
     pub(crate) fn row(&self, number: usize) -> &[Held]
         requires { number < length (listed_entries self.now) }
         ensures row { result.now ≡ (slice_index_or (listed_entries self.now) number ([], [])).1 }
-        ensures wide { length result.now ≡ self.now.many }
+        ensures wide { length result.now ≡ self.now.aggregate_count }
     {
-        row_of(self.cells.as_slice(), self.many, self.len, number)
+        row_of(
+            self.cells.as_slice(),
+            self.aggregate_count,
+            self.len,
+            number,
+        )
     }
 }

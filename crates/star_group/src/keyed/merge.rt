@@ -6,7 +6,7 @@ ghost use Rattle.star_schema.specs.declared.group.Aggregate.TheVariants.{Count};
 ghost use Rattle.star_interval.specs.Range.{is_i64, is_i128};
 ghost use Rattle.star_program.specs.Puts.{leaves};
 ghost use Rattle.star_group.specs.Private.Merged as spec;
-ghost use Rattle.star_group.specs.Private.Merged.{IsMerged, IsRowOf, MergeLeaves, MergeStays, merged_at};
+ghost use Rattle.star_group.specs.Private.Merged.{IsMerged, IsRowOfOnePut, MergeLeaves, MergeStays, merged_at};
 
 use crate::cell::{Held, Row};
 use star_schema::Aggregate;
@@ -127,7 +127,7 @@ pub(crate) fn row_stays(aggregates: &[Aggregate], held: Option<&[Held]>, more: &
 
 // What one put adds to an aggregate.
 fn cell_of(aggregate: Aggregate, value: i64) -> i128
-    ensures { result ≡ spec.cell_of aggregate value }
+    ensures { result ≡ spec.cell_of_one_put aggregate value }
 {
     match aggregate {
         Aggregate::Count => 1,
@@ -139,7 +139,7 @@ fn cell_of(aggregate: Aggregate, value: i64) -> i128
 pub(crate) fn row_of_put(aggregates: &[Aggregate], values: &[i64]) -> Row
     requires values { length values.now ≡ length aggregates.now }
     requires few { length aggregates.now ≤ 8 }
-    ensures { IsRowOf aggregates.now values.now result }
+    ensures { IsRowOfOnePut aggregates.now values.now result }
 {
     let mut row = [Held::new(0); 8];
     for place in 0..aggregates.len() {

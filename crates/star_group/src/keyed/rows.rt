@@ -19,17 +19,21 @@ use star_schema::Aggregate;
 use std::alloc::{AllocError, Global};
 
 impl KeyedRows {
-    // No rows of so many keys and aggregates.
-    pub(crate) fn new(alloc: Global, count: usize, many: usize) -> Result<KeyedRows, AllocError>
-        requires few_keys { count ≤ 6 }
-        requires few { many ≤ 8 }
+    // Makes no rows yet, of `key_count` keys and `aggregate_count` aggregates.
+    pub(crate) fn new(
+        alloc: Global,
+        key_count: usize,
+        aggregate_count: usize,
+    ) -> Result<KeyedRows, AllocError>
+        requires few_keys { key_count ≤ 6 }
+        requires few { aggregate_count ≤ 8 }
         ensures empty { IfOk result (λ rows. entries_of rows ≡ []) }
-        ensures keys { IfOk result (λ rows. count ≤ rows.trie.width) }
-        ensures many { IfOk result (λ rows. rows.many ≡ many) }
+        ensures keys { IfOk result (λ rows. key_count ≤ rows.trie.width) }
+        ensures aggregate_count { IfOk result (λ rows. rows.aggregate_count ≡ aggregate_count) }
     {
         Ok(KeyedRows {
-            trie: Trie::new(alloc, count.max(1))?,
-            many,
+            trie: Trie::new(alloc, key_count.max(1))?,
+            aggregate_count,
             cells: Vec::new(alloc),
         })
     }
@@ -48,7 +52,7 @@ impl KeyedRows {
         self.trie.find(&key[..self.trie.width])
     }
 
-    // The same, where this place is the answer as long as there are so many rows; where there are
+    // The same, where this place is the answer as long as there are `count` rows; where there are
     // more and the row was missing, it is looked up once more.
     pub(crate) fn place_among(&self, count: usize, key: &OrderedKey, place: Place) -> Place
         requires { IsPlaceAmong self.now count key.now place }
@@ -75,7 +79,7 @@ impl KeyedRows {
         word_of(&key[..self.trie.width])
     }
 
-    // Room for so many more rows.
+    // Makes room for `additional` more rows.
     pub(crate) fn reserve(&mut self, additional: usize) -> Result<(), AllocError>
         ensures ok { OnOk result (HasSpace self.new additional) }
         ensures keys { keys_in self.new ≡ keys_in self.old }
@@ -83,7 +87,9 @@ impl KeyedRows {
         ensures rows { entries_of self.new ≡ entries_of self.old }
         ensures widths { AreAsWide self.old self.new }
     {
-        let cells = additional.checked_mul(self.many).ok_or(AllocError)?;
+        let cells = additional
+            .checked_mul(self.aggregate_count)
+            .ok_or(AllocError)?;
         self.trie.reserve(additional)?;
         self.cells.reserve(cells)
     }
@@ -92,9 +98,14 @@ impl KeyedRows {
     pub(crate) fn row(&self, number: usize) -> &[Held]
         requires { number < length (entries_of self.now) }
         ensures row { result.now ≡ (slice_index_or (entries_of self.now) number ([], [])).1 }
-        ensures wide { length result.now ≡ self.now.many }
+        ensures wide { length result.now ≡ self.now.aggregate_count }
     {
-        row_of(self.cells.as_slice(), self.many, self.trie.len, number)
+        row_of(
+            self.cells.as_slice(),
+            self.aggregate_count,
+            self.trie.len,
+            number,
+        )
     }
 
     // One more row, for a key that no row has.
@@ -106,7 +117,7 @@ impl KeyedRows {
         row: &[Held],
     ) -> Result<(), AllocError>
         requires narrow { IsNarrow self.old.trie.width key.now }
-        requires wide { length row.now ≡ self.old.many }
+        requires wide { length row.now ≡ self.old.aggregate_count }
         requires missing { IsMissing self.old.trie.width
             (cut self.old.trie.width self.old.trie.len self.old.trie.keys.items)
             self.old.trie.links.items (take self.old.trie.width key.now) node digit }
@@ -140,7 +151,7 @@ impl KeyedRows {
             (entries_of self.old) (entries_of self.new) }
         ensures trie { self.new.trie ≡ self.old.trie }
         ensures space { (count : ℕ) → HasSpace self.old count → HasSpace self.new count }
-        ensures many { self.new.many ≡ self.old.many }
+        ensures aggregate_count { self.new.aggregate_count ≡ self.old.aggregate_count }
     {
         let count = self.trie.len;
         merge_at(self.cells.as_mut_slice(), count, number, aggregates, more);
@@ -172,8 +183,8 @@ impl KeyedRows {
                 Ok(())
             }
             Place::Missing { node, digit } => {
-                let many = self.many;
-                self.push(node, digit, key, &more[..many])
+                let aggregate_count = self.aggregate_count;
+                self.push(node, digit, key, &more[..aggregate_count])
             }
         }
     }

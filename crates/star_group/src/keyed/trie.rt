@@ -3,7 +3,7 @@
 ghost use Rattle.std.specs.Prelude.{◌≡◌, ◌≤◌, ◌<◌, ◌*◌, [], length, slice_index_or, true, IfOk, MatchBool};
 ghost use Rattle.star_program.specs.Rows.{cut};
 ghost use Rattle.star_group.specs.Private.Tries as spec;
-ghost use Rattle.star_group.specs.Private.Tries.{IsFound, IsHeld, IsTrie, child, key_at, part_digit, word_from};
+ghost use Rattle.star_group.specs.Private.Tries.{IsHeld, IsKeyFound, IsTrie, child, key_at, part_digit, word_from};
 
 mod growth;
 
@@ -13,7 +13,7 @@ use std::alloc::{AllocError, Global};
 
 // What tells a value's bits apart from those of another kind.
 fn kind_of(part: KeyPart) -> usize
-    ensures { result ≡ spec.kind_of part }
+    ensures { result ≡ spec.key_kind part }
 {
     match part {
         KeyPart::All => 0,
@@ -23,7 +23,7 @@ fn kind_of(part: KeyPart) -> usize
 }
 
 fn bits_of(part: KeyPart) -> u64
-    ensures { result ≡ spec.bits_of part }
+    ensures { result ≡ spec.key_bits part }
 {
     match part {
         KeyPart::All => 0,
@@ -156,7 +156,7 @@ fn has_key(keys: &[KeyPart], width: usize, count: usize, number: usize, key: &[K
 }
 
 impl Trie {
-    // No keys of so many parts.
+    // Makes no keys yet, of `width` parts.
     pub(crate) fn new(alloc: Global, width: usize) -> Result<Trie, AllocError>
         requires some { 0 < width }
         requires few { width ≤ 6 }
@@ -195,7 +195,7 @@ impl Trie {
     // Where this key's row is, or would be.
     pub(crate) fn find(&self, key: &[KeyPart]) -> Place
         requires { length key.now ≡ self.now.width }
-        ensures { IsFound self.now.width (cut self.now.width self.now.len self.now.keys.items)
+        ensures { IsKeyFound self.now.width (cut self.now.width self.now.len self.now.keys.items)
             self.now.links.items key.now result }
     {
         let word = word_of(key);

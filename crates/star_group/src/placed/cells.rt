@@ -5,11 +5,11 @@ ghost use Rattle.star_interval.specs.Range.{is_i64};
 ghost use Rattle.star_program.specs.Faults.{value_count};
 ghost use Rattle.star_program.specs.Puts.{aligned, leaves};
 ghost use Rattle.star_program.specs.Rows.{cut};
-ghost use Rattle.star_group.specs.Batches.{IsPutBatch, put_in, word_in};
+ghost use Rattle.star_group.specs.Batches.{HasNumbers, put_in, word_in};
 ghost use Rattle.star_group.specs.Cells.{step};
-ghost use Rattle.star_group.specs.Private.PlacedPut.{CanTakeBatch, CanTakePut, TakesBatch, TakesPut};
+ghost use Rattle.star_group.specs.Private.PlacedPut.{CanTakeBatch, CanTakePut, TakesBatch, TakesPlacedPut};
 ghost use Rattle.star_group.specs.Stores.{put_number};
-ghost use Rattle.star_group.specs.Private.Taken.{AreTaken, AreWithin, CanTake, CanTakeAll, after_rows, batch_lanes, column_after, lanes_of};
+ghost use Rattle.star_group.specs.Private.Taken.{AreCellsTaken, AreWithin, CanTake, CanTakeAll, after_rows, batch_lanes, column_after, lanes_of};
 
 use crate::batch::PutBatch;
 use crate::cell::{Held, Row};
@@ -101,27 +101,27 @@ pub(crate) fn mark(seen: &mut [bool], at: &[u32])
     }
 }
 
-// The cells of the aggregate of a number with a number more at the place of each row, among those of
-// so many aggregates, one after another.
+// The cells of the aggregate of a number with a number more at the place of each row, among those
+// of `aggregate_count` aggregates, one after another.
 pub(crate) fn take_column(
     cells: &mut [i128],
-    many: usize,
+    aggregate_count: usize,
     places: usize,
     number: usize,
     aggregate: Aggregate,
     at: &[u32],
     lane: &[i64],
 )
-    requires number { number < many }
-    requires long { length cells.old ≡ many * places }
+    requires number { number < aggregate_count }
+    requires long { length cells.old ≡ aggregate_count * places }
     requires same { length lane.now ≡ length at.now }
     requires within { AreWithin at.now places }
     requires stays { CanTake aggregate lane.now at.now
-        (slice_index_or (cut places many cells.old) number []) }
-    ensures cells { cut places many cells.new
-        ≡ slice_set (cut places many cells.old) number
+        (slice_index_or (cut places aggregate_count cells.old) number []) }
+    ensures cells { cut places aggregate_count cells.new
+        ≡ slice_set (cut places aggregate_count cells.old) number
         (column_after aggregate lane.now at.now
-        (slice_index_or (cut places many cells.old) number []) (length at.now)) }
+        (slice_index_or (cut places aggregate_count cells.old) number []) (length at.now)) }
     ensures len { length cells.new ≡ length cells.old }
 {
     let start = number * places;
@@ -142,12 +142,20 @@ pub(crate) fn take_put(
     requires long { length cells.old ≡ length aggregates.now * places }
     requires within { AreWithin at.now places }
     requires stays { CanTakeAll aggregates.now places (lanes_of values.now) at.now cells.old }
-    ensures { AreTaken aggregates.now places (lanes_of values.now) at.now cells.old cells.new }
+    ensures { AreCellsTaken aggregates.now places (lanes_of values.now) at.now cells.old cells.new }
 {
-    let many = aggregates.len();
-    for number in 0..many {
+    let aggregate_count = aggregates.len();
+    for number in 0..aggregate_count {
         let lane = &values[number..number + 1];
-        take_column(cells, many, places, number, aggregates[number], at, lane);
+        take_column(
+            cells,
+            aggregate_count,
+            places,
+            number,
+            aggregates[number],
+            at,
+            lane,
+        );
     }
 }
 
@@ -160,15 +168,15 @@ fn cell_at(cells: &[i128], at: usize) -> Held
 }
 
 // The row of one place.
-pub(crate) fn row_at(cells: &[i128], places: usize, many: usize, place: usize) -> Row
+pub(crate) fn row_at(cells: &[i128], places: usize, aggregate_count: usize, place: usize) -> Row
     requires place { place < places }
-    requires few { many ≤ 8 }
-    requires long { length cells.now ≡ many * places }
-    ensures { (a : ℕ) → a < many → slice_index_or result a None
-        ≡ Some (slice_index_or (slice_index_or (cut places many cells.now) a []) place (pos 0)) }
+    requires few { aggregate_count ≤ 8 }
+    requires long { length cells.now ≡ aggregate_count * places }
+    ensures { (a : ℕ) → a < aggregate_count → slice_index_or result a None
+        ≡ Some (slice_index_or (slice_index_or (cut places aggregate_count cells.now) a []) place (pos 0)) }
 {
     let mut row = [Held::new(0); 8];
-    for number in 0..many {
+    for number in 0..aggregate_count {
         row[number] = cell_at(cells, number * places + place);
     }
     row
@@ -187,7 +195,7 @@ pub(crate) fn take_one(
     requires place { place < length seen.old }
     requires few { length seen.old ≤ 65536 }
     requires can { CanTakePut aggregates.now values.now place seen.old cells.old }
-    ensures takes { TakesPut aggregates.now values.now place seen.old cells.old seen.new cells.new }
+    ensures takes { TakesPlacedPut aggregates.now values.now place seen.old cells.old seen.new cells.new }
     ensures seen { length seen.new ≡ length seen.old }
     ensures len { length cells.new ≡ length cells.old }
 {
@@ -255,26 +263,34 @@ fn take_lanes(
     at: &[u32],
     batch: &PutBatch<'_>,
 )
-    requires batch { IsPutBatch batch.now }
+    requires batch { HasNumbers batch.now }
     requires declared { aggregates.now ≡ batch.now.declared.now.aggregates }
     requires rows { length at.now ≡ batch.now.rows }
     requires long { length cells.old ≡ length aggregates.now * places }
     requires within { AreWithin at.now places }
     requires stays { CanTakeAll aggregates.now places (batch_lanes batch.now) at.now cells.old }
-    ensures { AreTaken aggregates.now places (batch_lanes batch.now) at.now cells.old cells.new }
+    ensures { AreCellsTaken aggregates.now places (batch_lanes batch.now) at.now cells.old cells.new }
 {
-    let many = aggregates.len();
+    let aggregate_count = aggregates.len();
     let mut left = batch.values;
-    for number in 0..many {
+    for number in 0..aggregate_count {
         let (lane, others) = next_lane(aggregates[number], batch, left);
-        take_column(cells, many, places, number, aggregates[number], at, lane);
+        take_column(
+            cells,
+            aggregate_count,
+            places,
+            number,
+            aggregates[number],
+            at,
+            lane,
+        );
         left = others;
     }
 }
 
 // That the numbers of the rows of a batch have 64 bits.
 fn lanes_are_narrow(aggregates: &[Aggregate], batch: &PutBatch<'_>)
-    requires batch { IsPutBatch batch.now }
+    requires batch { HasNumbers batch.now }
     requires declared { aggregates.now ≡ batch.now.declared.now.aggregates }
     ensures { (a : ℕ) → a < length aggregates.now → (row : ℕ) → row < batch.now.rows
         → is_i64 (put_number a (put_in batch.now row)) ≡ true }
@@ -295,7 +311,7 @@ pub(crate) fn take_batch(
     at: &[u32],
     batch: &PutBatch<'_>,
 )
-    requires batch { IsPutBatch batch.now }
+    requires batch { HasNumbers batch.now }
     requires declared { aggregates.now ≡ batch.now.declared.now.aggregates }
     requires rows { length at.now ≡ batch.now.rows }
     requires long { length cells.old ≡ length aggregates.now * length seen.old }

@@ -34,11 +34,11 @@ impl PlacedStore {
         let aggregates = self.rest.aggregates.as_slice();
         let seen = self.seen.as_slice();
         let cells = self.cells.as_slice();
-        let (places, many) = (seen.len(), aggregates.len());
+        let (places, aggregate_count) = (seen.len(), aggregates.len());
         let mut total = self.rest.total.copied();
         for place in 0..places {
             if seen[place] {
-                let row = row_at(cells, places, many, place);
+                let row = row_at(cells, places, aggregate_count, place);
                 total.merge(aggregates, &row);
             }
         }
@@ -66,7 +66,7 @@ pub(super) fn add_places(
     aggregates: &[Aggregate],
 ) -> Result<(), AllocError>
     requires keys { length spans.now ≤ rows.old.trie.width }
-    requires many { length aggregates.now ≡ rows.old.many }
+    requires aggregate_count { length aggregates.now ≡ rows.old.aggregate_count }
     requires places { length seen.now ≡ spec.places spans.now }
     requires long { length cells.now ≡ length aggregates.now * length seen.now }
     requires room { (shape : Shape) × (total : List (Option ℤ))
@@ -79,11 +79,11 @@ pub(super) fn add_places(
         (puts_with key puts) (base_row (entries_of rows.new) key)) }
     ensures widths { AreAsWide rows.old rows.new }
 {
-    let (places, many) = (seen.len(), aggregates.len());
+    let (places, aggregate_count) = (seen.len(), aggregates.len());
     for place in 0..seen.len() {
         if seen[place] {
             let key = key_at(spans, place);
-            let row = row_at(cells, places, many, place);
+            let row = row_at(cells, places, aggregate_count, place);
             let found = rows.place(&key);
             rows.merge(&key, found, aggregates, &row)?;
         }

@@ -2,8 +2,8 @@
 
 ghost use Rattle.std.specs.Prelude.{◌≡◌, ◌^◌, ◌+ℤ◌, ◌<ℤ◌, ◌≤ℤ◌, pos, true};
 
-/// The values of a key that have places: numbers, or codes of texts, of which `low` is the least, and
-/// the greatest is `last` above it.
+/// The values of a key that have places: numbers, or codes of texts. `low` is the least of them,
+/// and the greatest is `last` above it.
 #[derive(Clone, Copy)]
 pub(crate) struct Span {
     pub(crate) is_code: bool,

@@ -1,8 +1,9 @@
 // A placed store is a store of groups.
 
 ghost use Rattle.std.specs.Prelude.{◌≡◌, ◌≤◌, ℕ, List, [], IfOk, OnErr, OnOk, length};
-ghost use Rattle.star_group.specs.Batches.{HasRoomForRows, IsPutBatch, puts_after, put_in};
-ghost use Rattle.star_group.specs.Placed.{group_view, Has};
+ghost use Rattle.star_group.specs.Batches.{HasNumbers, HasRoomForRows, IsPutBatch, puts_after, put_in};
+ghost use Rattle.star_group.specs.Placed.{group_view, Has, HasPlace};
+ghost use Rattle.star_group.specs.Private.PlacedPut.{AreAtPlaces};
 ghost use Rattle.star_program.specs.Puts.{Update};
 ghost use Rattle.star_group.specs.Stores.{group_declared};
 
@@ -23,7 +24,7 @@ use std::alloc::{AllocError, Global};
 
 impl PlacedStore {
     // A store of no puts. The rows of keys in these ranges, of numbers or of codes of texts, have
-    // places, of which there are at most 65,536.
+    // places, at most 65,536.
     fn for_ranges(
         alloc: Global,
         declared: &GroupDecl,
@@ -72,10 +73,38 @@ impl PlacedStore {
     }
 }
 
+impl PlacedStore {
+    // The puts of some rows whose keys have these places, one after another in order.
+    fn put_at(&mut self, batch: &PutBatch<'_>, places: &[u32])
+        requires declared { group_declared batch.now.declared.now ≡ group_view self.old }
+        requires batch { HasNumbers batch.now }
+        requires rows { length places.now ≡ batch.now.rows }
+        requires room { (put : ℕ → Update) × (puts : List Update)
+            × AreAtPlaces self.old.spans.items batch.now places.now put × Has self.old puts
+            × HasRoomForRows (group_view self.old) put puts batch.now.rows }
+        ensures has { (put : ℕ → Update)
+            → AreAtPlaces self.old.spans.items batch.now places.now put
+            → (puts : List Update) → Has self.old puts
+            → Has self.new (puts_after put puts batch.now.rows) }
+        ensures spans { self.new.spans.items ≡ self.old.spans.items }
+        ensures group { group_view self.new ≡ group_view self.old }
+    {
+        take_batch(
+            self.cells.as_mut_slice(),
+            self.seen.as_mut_slice(),
+            self.rest.aggregates.as_slice(),
+            places,
+            batch,
+        );
+    }
+}
+
 impl GroupStore for PlacedStore {
     ghost group = { group_view };
 
     ghost has = { Has };
+
+    ghost has_place = { HasPlace };
 
     fn new(alloc: Global, declared: &GroupDecl) -> Result<PlacedStore, AllocError> {
         PlacedStore::for_ranges(alloc, declared, &[])
@@ -111,14 +140,17 @@ impl GroupStore for PlacedStore {
         if !find_places(self.spans.as_slice(), batch, at) {
             return self.put_rows(batch);
         }
-        take_batch(
-            self.cells.as_mut_slice(),
-            self.seen.as_mut_slice(),
-            self.rest.aggregates.as_slice(),
-            at,
-            batch,
-        );
+        self.put_at(batch, at);
         Ok(())
+    }
+
+    fn place_of(&self, keys: &[KeyValue]) -> Option<u32> {
+        let place = place_of(self.spans.as_slice(), keys)?;
+        Some(place as u32)
+    }
+
+    fn put_batch_at(&mut self, batch: &PutBatch<'_>, places: &[u32]) {
+        self.put_at(batch, places);
     }
 
     fn total(&self, aggregate: usize) -> Option<i128> {
@@ -145,6 +177,13 @@ impl GroupStore for PlacedStore {
             cells.as_slice(),
             aggregates,
         )?;
-        rows_of_base(rest.alloc, rows, &total, rest.shape, rest.count, aggregates)
+        rows_of_base(
+            rest.alloc,
+            rows,
+            &total,
+            rest.shape,
+            rest.key_count,
+            aggregates,
+        )
     }
 }

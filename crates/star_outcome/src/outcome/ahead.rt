@@ -4,7 +4,7 @@ use super::order::part_at;
 use star_group::{GroupRows, KeyValue};
 use std::alloc::{AllocError, Global};
 
-// So many rows are read ahead.
+// How many rows are read ahead.
 const AHEAD: usize = 16;
 
 // Rows in their order are far from each other in memory, which answers several reads in the time of
@@ -40,7 +40,7 @@ impl Ahead<'_> {
         Ok(())
     }
 
-    // The next row is wanted: where none is left of those that were read, some more are.
+    // Goes on to the next row: where none is left of those that were read, reads some more.
     pub(super) fn turn(&mut self, rows: &GroupRows) -> Result<(), AllocError> {
         if self.left == 0 {
             let (next, rest) = self.rest.split_at(self.rest.len().min(AHEAD));

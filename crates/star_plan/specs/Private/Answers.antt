@@ -1,5 +1,5 @@
 -- What the calls of this crate answer.
-use Rattle.std.specs.Prelude.{◌≡◌, List, map, Option, None, Some, Result, Ok, Err, Vec}
+use Rattle.std.specs.Prelude.{◌≡◌, ◌+◌, ◌<◌, ℕ, List, [], get_or, length, map, Option, None, Some, Result, Ok, Err, IfOk, Vec}
 use Rattle.std.specs.Global.{Global}
 use Rattle.star_common.specs.Memory.{UnlessMemory}
 use Rattle.star_schema.specs.declared.column.ColumnId.{ColumnId}
@@ -7,7 +7,9 @@ use Rattle.star_plan.specs.declared.fault.PlanFault.{PlanFault}
 use Rattle.star_plan.specs.declared.fault.PlanFault.TheVariants.{OutOfMemory}
 use Rattle.star_query.specs.declared.tree.Comparison.{Comparison}
 use Rattle.star_query.specs.declared.tree.Condition as of_query
+use Rattle.star_query.specs.Tree.{Item, aggregate, plain}
 use Rattle.star_plan.specs.Meaning.{RowCondition}
+use Rattle.star_plan.specs.Naming.{name_of_aggregate}
 use Rattle.star_plan.specs.Views.{row_condition_view}
 
 -- the answer tells the fault that there is, or want of memory
@@ -15,10 +17,15 @@ abbrev pub Tells : {X : Type 0} → Option PlanFault → Result X PlanFault → 
 Tells fault (Ok x) = fault ≡ None
 Tells fault (Err e) = UnlessMemory OutOfMemory e (fault ≡ Some e)
 
--- the answer, as it is shown, is what is there; where something is, memory alone is wanting
-abbrev pub Resolves : {X A : Type 0} → (X → A) → Option A → Result X PlanFault → Type 0
-Resolves shown there (Ok x) = Some (shown x) ≡ there
-Resolves shown there (Err e) = UnlessMemory OutOfMemory e (None ≡ there)
+-- what is answered, as it is shown, is what is there
+abbrev pub Resolves : {X A F : Type 0} → (X → A) → Option A → Result X F → Type 0
+Resolves shown there result = IfOk result (λ x. Some (shown x) ≡ there)
+
+-- an aggregate that so many come before has its name among all at that place
+abbrev pub IsNamedAt : List (List ℕ) → (before : ℕ) → Item → Type 0
+IsNamedAt names before (plain n) = Unit {0}
+IsNamedAt names before (aggregate a) =
+    (before < length names) × (get_or names before [] ≡ name_of_aggregate (before + 1) a)
 
 abbrev pub conditions_view : Vec (of_query.Condition (Comparison ColumnId)) Global → List RowCondition
 conditions_view cs = map row_condition_view cs.items

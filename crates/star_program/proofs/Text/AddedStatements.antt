@@ -3,7 +3,7 @@ use Rattle.std.proofs.Common.{◌≡◌, ◌≤◌, ◌+◌, ◌-◌, ◌∙◌,
 use Rattle.std.proofs.lemmas.List.{length_push, map_push}
 use Rattle.std.proofs.lemmas.List.Elements.{All-push}
 use Rattle.star_program.specs.Code.{Code, Stop, Then, Each, code_size, scan_depth}
-use Rattle.star_program.specs.Private.Drafts.{AreGroups, Counts, IsBody, IsClosed, begun, closed, code_says, groups_say, opens_say, whole}
+use Rattle.star_program.specs.Private.Drafts.{AreSmallGroups, Counts, IsBody, IsClosed, begun, closed, code_says, groups_say, opens_say, whole_draft}
 use Rattle.star_program.specs.Private.Followed.{followed}
 use Rattle.star_program.specs.Limits.{IsSmall}
 use Rattle.star_program.specs.declared.group.GroupDecl.{GroupDecl}
@@ -24,52 +24,74 @@ followed_says Stop d = refl
 followed_says (Then op c) d = ap (λ ss. says.Act op ∷ ss) (followed_says c d)
 followed_says (Each t r b c) d =
     ap (λ ss. says.Scan t r ∷ (code_says b ++ says.End ∷ ss)) (followed_says c d)
-    ∙ ap (λ ss. says.Scan t r ∷ ss) (sym (append_assoc (code_says b) (says.End ∷ code_says c) (code_says d)))
+    ∙ ap (λ ss. says.Scan t r ∷ ss)
+    (sym (append_assoc (code_says b) (says.End ∷ code_says c) (code_says d)))
 
 followed_size : (c d : Code) → code_size (followed c d) ≡ code_size c + code_size d
 followed_size Stop d = omega arith
 followed_size (Then op c) d = omega (arith, followed_size c d)
 followed_size (Each t r b c) d = omega (arith, followed_size c d)
 
-followed_depth : (c d : Code) (k : ℕ) → scan_depth c ≤ k → scan_depth d ≤ k → scan_depth (followed c d) ≤ k
+followed_depth : (c d : Code) (k : ℕ) → scan_depth c ≤ k → scan_depth d ≤ k
+    → scan_depth (followed c d) ≤ k
 followed_depth Stop d k h g = g
 followed_depth (Then op c) d k h g = followed_depth c d k h g
 followed_depth (Each t r b c) d k h g =
-    both_within (1 + scan_depth b) (scan_depth (followed c d)) k (left_within (1 + scan_depth b) (scan_depth c) k h)
+    both_within (1 + scan_depth b) (scan_depth (followed c d)) k
+    (left_within (1 + scan_depth b) (scan_depth c) k h)
     (followed_depth c d k (right_within (1 + scan_depth b) (scan_depth c) k h) g)
 
-depth_parts : (c d : Code) (k : ℕ) → scan_depth (followed c d) ≤ k → (scan_depth c ≤ k) × (scan_depth d ≤ k)
+depth_parts : (c d : Code) (k : ℕ) → scan_depth (followed c d) ≤ k
+    → (scan_depth c ≤ k) × (scan_depth d ≤ k)
 depth_parts Stop d k h = (omega arith, h)
 depth_parts (Then op c) d k h = depth_parts c d k h
 depth_parts (Each t r b c) d k h =
-    let rest = depth_parts c d k (right_within (1 + scan_depth b) (scan_depth (followed c d)) k h) in
-    (both_within (1 + scan_depth b) (scan_depth c) k (left_within (1 + scan_depth b) (scan_depth (followed c d)) k h) rest.0, rest.1)
+    let rest = depth_parts c d k
+    (right_within (1 + scan_depth b) (scan_depth (followed c d)) k h) in (
+      both_within (1 + scan_depth b) (scan_depth c) k
+          (left_within (1 + scan_depth b) (scan_depth (followed c d)) k h) rest.0,
+      rest.1,
+    )
 
 -- ---- the body with the closed_all scans closed
 
 abbrev around : OpenScan → Code → Code
 around o body = followed o.before (Each o.table o.target body Stop)
 
-closed_push : (os : List OpenScan) (o : OpenScan) (b : Code) → closed (os ++ o ∷ []) b ≡ closed os (around o b)
+closed_push : (os : List OpenScan) (o : OpenScan) (b : Code)
+    → closed (os ++ o ∷ []) b ≡ closed os (around o b)
 closed_push [] o b = refl
 closed_push (s ∷ os) o b = ap (around s) (closed_push os o b)
 
-around_size : (o : OpenScan) (b : Code) → code_size (around o b) ≡ code_size o.before + (1 + code_size b)
+around_size : (o : OpenScan) (b : Code)
+    → code_size (around o b) ≡ code_size o.before + (1 + code_size b)
 around_size o b = omega (arith, followed_size o.before (Each o.table o.target b Stop))
 
-closed_size : (os : List OpenScan) (b x : Code) → code_size (closed os (followed b x)) ≡ code_size (closed os b) + code_size x
+closed_size : (os : List OpenScan) (b x : Code)
+    → code_size (closed os (followed b x)) ≡ code_size (closed os b) + code_size x
 closed_size [] b x = followed_size b x
-closed_size (s ∷ os) b x = omega (arith, closed_size os b x, around_size s (closed os (followed b x)), around_size s (closed os b))
+closed_size (s ∷ os) b x =
+    omega (
+      arith,
+      closed_size os b x,
+      around_size s (closed os (followed b x)),
+      around_size s (closed os b),
+    )
 
-around_depth : (o : OpenScan) (b : Code) (k : ℕ) → scan_depth o.before ≤ k → 1 + scan_depth b ≤ k → scan_depth (around o b) ≤ k
-around_depth o b k h g = followed_depth o.before (Each o.table o.target b Stop) k h (both_within (1 + scan_depth b) 0 k g (omega arith))
+around_depth : (o : OpenScan) (b : Code) (k : ℕ) → scan_depth o.before ≤ k → 1 + scan_depth b ≤ k
+    → scan_depth (around o b) ≤ k
+around_depth o b k h g =
+    followed_depth o.before (Each o.table o.target b Stop) k h
+    (both_within (1 + scan_depth b) 0 k g (omega arith))
 
-around_parts : (o : OpenScan) (b : Code) (k : ℕ) → scan_depth (around o b) ≤ k → (scan_depth o.before ≤ k) × (1 + scan_depth b ≤ k)
+around_parts : (o : OpenScan) (b : Code) (k : ℕ) → scan_depth (around o b) ≤ k
+    → (scan_depth o.before ≤ k) × (1 + scan_depth b ≤ k)
 around_parts o b k h =
     let parts = depth_parts o.before (Each o.table o.target b Stop) k h in
     (parts.0, left_within (1 + scan_depth b) 0 k parts.1)
 
-closed_depth : (os : List OpenScan) (b x : Code) (k : ℕ) → scan_depth (closed os b) ≤ k → length os + scan_depth x ≤ k → scan_depth (closed os (followed b x)) ≤ k
+closed_depth : (os : List OpenScan) (b x : Code) (k : ℕ) → scan_depth (closed os b) ≤ k
+    → length os + scan_depth x ≤ k → scan_depth (closed os (followed b x)) ≤ k
 closed_depth [] b x k h g = followed_depth b x k h (omega arith)
 closed_depth (s ∷ os) b x k h g =
     let parts = around_parts s (closed os b) k h in
@@ -80,18 +102,22 @@ closed_depth (s ∷ os) b x k h g =
 
 -- ---- what a draft says, with a statement more
 
-groups_push : (n : ℕ) (gs : List GroupDecl) (g : GroupDecl) → groups_say n (gs ++ g ∷ []) ≡ groups_say n gs ++ says.Group (n + length gs) g ∷ []
+groups_push : (n : ℕ) (gs : List GroupDecl) (g : GroupDecl)
+    → groups_say n (gs ++ g ∷ []) ≡ groups_say n gs ++ says.Group (n + length gs) g ∷ []
 groups_push n [] g = let same : n ≡ n + 0 = omega arith in ap (λ k. says.Group k g ∷ []) same
 groups_push n (h ∷ gs) g =
     let same : n + 1 + length gs ≡ n + length (h ∷ gs) = omega arith in
     ap (λ ss. says.Group n h ∷ ss) (groups_push (n + 1) gs g)
     ∙ ap (λ k. says.Group n h ∷ (groups_say (n + 1) gs ++ says.Group k g ∷ [])) same
 
-opens_push : (os : List OpenScan) (o : OpenScan) → opens_say (os ++ o ∷ []) ≡ opens_say os ++ (code_says o.before ++ says.Scan o.table o.target ∷ [])
+opens_push : (os : List OpenScan) (o : OpenScan)
+    → opens_say (os ++ o ∷ [])
+    ≡ opens_say os ++ (code_says o.before ++ says.Scan o.table o.target ∷ [])
 opens_push [] o = refl
 opens_push (s ∷ os) o =
     ap (λ ss. code_says s.before ++ says.Scan s.table s.target ∷ ss) (opens_push os o)
-    ∙ sym (append_assoc (code_says s.before) (says.Scan s.table s.target ∷ opens_say os) (code_says o.before ++ says.Scan o.table o.target ∷ []))
+    ∙ sym (append_assoc (code_says s.before) (says.Scan s.table s.target ∷ opens_say os)
+    (code_says o.before ++ says.Scan o.table o.target ∷ []))
 
 abbrev head_of : Draft → List Statement
 head_of d = says.Header ∷ says.Registers d.registers ∷ []
@@ -100,64 +126,112 @@ head_of d = says.Header ∷ says.Registers d.registers ∷ []
 behind : (a b c x : List Statement) → a ++ (b ++ (c ++ x)) ≡ (a ++ (b ++ c)) ++ x
 behind a b c x = simp append_assoc
 
-pub begun_group : (d : Draft) (g : GroupDecl) → d.scans ≡ [] → d.body ≡ Stop → begun (record d { groups = d.groups ++ g ∷ [] }) ≡ begun d ++ says.Group (length d.groups) g ∷ []
+pub begun_group : (d : Draft) (g : GroupDecl) → d.scans ≡ [] → d.body ≡ Stop
+    → begun (record d { groups = d.groups ++ g ∷ [] })
+    ≡ begun d ++ says.Group (length d.groups) g ∷ []
 begun_group d g closed_all body =
     let same : 0 + length d.groups ≡ length d.groups = omega arith in
-    let added : groups_say 0 (d.groups ++ g ∷ []) ++ [] ≡ (groups_say 0 d.groups ++ []) ++ says.Group (length d.groups) g ∷ [] =
-    append-nil (groups_say 0 (d.groups ++ g ∷ [])) ∙ groups_push 0 d.groups g ∙ ap (λ k. groups_say 0 d.groups ++ says.Group k g ∷ []) same
-    ∙ ap (λ ss. ss ++ says.Group (length d.groups) g ∷ []) (sym (append-nil (groups_say 0 d.groups))) in
+    let added : groups_say 0 (d.groups ++ g ∷ []) ++ []
+    ≡ (groups_say 0 d.groups ++ []) ++ says.Group (length d.groups) g ∷ [] =
+    append-nil (groups_say 0 (d.groups ++ g ∷ [])) ∙ groups_push 0 d.groups g
+    ∙ ap (λ k. groups_say 0 d.groups ++ says.Group k g ∷ []) same
+    ∙ ap (λ ss. ss ++ says.Group (length d.groups) g ∷ [])
+    (sym (append-nil (groups_say 0 d.groups))) in
     rw (closed_all, body) (ap (λ ss. says.Header ∷ says.Registers d.registers ∷ ss) added)
 
-pub begun_body : (d : Draft) (x : Code) → begun (record d { body = followed d.body x }) ≡ begun d ++ code_says x
+pub begun_body : (d : Draft) (x : Code)
+    → begun (record d { body = followed d.body x }) ≡ begun d ++ code_says x
 begun_body d x =
-    ap (λ ss. says.Header ∷ says.Registers d.registers ∷ (groups_say 0 d.groups ++ (opens_say d.scans ++ ss))) (followed_says d.body x)
-    ∙ ap (λ ss. says.Header ∷ says.Registers d.registers ∷ ss) (behind (groups_say 0 d.groups) (opens_say d.scans) (code_says d.body) (code_says x))
+    ap (λ ss. says.Header ∷ says.Registers d.registers
+    ∷ (groups_say 0 d.groups ++ (opens_say d.scans ++ ss))) (followed_says d.body x)
+    ∙ ap (λ ss. says.Header ∷ says.Registers d.registers ∷ ss)
+    (behind (groups_say 0 d.groups) (opens_say d.scans) (code_says d.body) (code_says x))
 
 pub begun_scan : (d : Draft) (t : TableId) (r : ℕ)
-    → begun (record d { scans = d.scans ++ record { before = d.body; table = t; target = r } ∷ []; body = Stop }) ≡ begun d ++ says.Scan t r ∷ []
+    → begun (record d {
+      scans =
+          d.scans ++ record { before = d.body; table = t; target = r } ∷ [];
+      body = Stop;
+    })
+    ≡ begun d ++ says.Scan t r ∷ []
 begun_scan d t r =
     let o : OpenScan = record { before = d.body; table = t; target = r } in
-    let opened : opens_say (d.scans ++ o ∷ []) ++ [] ≡ opens_say d.scans ++ (code_says d.body ++ says.Scan t r ∷ []) =
+    let opened : opens_say (d.scans ++ o ∷ []) ++ []
+    ≡ opens_say d.scans ++ (code_says d.body ++ says.Scan t r ∷ []) =
     append-nil (opens_say (d.scans ++ o ∷ [])) ∙ opens_push d.scans o in
     ap (λ ss. says.Header ∷ says.Registers d.registers ∷ (groups_say 0 d.groups ++ ss)) opened
-    ∙ ap (λ ss. says.Header ∷ says.Registers d.registers ∷ ss) (behind (groups_say 0 d.groups) (opens_say d.scans) (code_says d.body) (says.Scan t r ∷ []))
+    ∙ ap (λ ss. says.Header ∷ says.Registers d.registers ∷ ss)
+    (behind (groups_say 0 d.groups) (opens_say d.scans) (code_says d.body) (says.Scan t r ∷ []))
 
-regrouped : (g o b c : List Statement) (s x : Statement) → g ++ (o ++ (b ++ s ∷ (c ++ x ∷ []))) ≡ (g ++ ((o ++ (b ++ s ∷ [])) ++ c)) ++ x ∷ []
+regrouped : (g o b c : List Statement) (s x : Statement)
+    → g ++ (o ++ (b ++ s ∷ (c ++ x ∷ []))) ≡ (g ++ ((o ++ (b ++ s ∷ [])) ++ c)) ++ x ∷ []
 regrouped g o b c s x = simp append_assoc
 
 pub begun_end : (d e : Draft) → IsClosed d e → begun e ≡ begun d ++ says.End ∷ []
 begun_end d e c =
     let o : OpenScan = c.scan in
-    let here : begun e ≡ says.Header ∷ says.Registers d.registers ∷ (groups_say 0 d.groups ++ (opens_say e.scans ++ code_says (around o d.body))) = ap begun c.body in
-    let scan : code_says (around o d.body) ≡ code_says o.before ++ says.Scan o.table o.target ∷ (code_says d.body ++ says.End ∷ []) = followed_says o.before (Each o.table o.target d.body Stop) in
-    let was : opens_say d.scans ≡ opens_say e.scans ++ (code_says o.before ++ says.Scan o.table o.target ∷ []) = ap opens_say c.scans ∙ opens_push e.scans o in
-    here ∙ ap (λ ss. says.Header ∷ says.Registers d.registers ∷ (groups_say 0 d.groups ++ (opens_say e.scans ++ ss))) scan
-    ∙ ap (λ ss. says.Header ∷ says.Registers d.registers ∷ ss) (regrouped (groups_say 0 d.groups) (opens_say e.scans) (code_says o.before) (code_says d.body) (says.Scan o.table o.target) says.End)
-    ∙ ap (λ ss. says.Header ∷ says.Registers d.registers ∷ ((groups_say 0 d.groups ++ (ss ++ code_says d.body)) ++ says.End ∷ [])) (sym was)
+    let here : begun e ≡ says.Header ∷ says.Registers d.registers
+    ∷ (groups_say 0 d.groups ++ (opens_say e.scans ++ code_says (around o d.body))) =
+    ap begun c.body in
+    let scan : code_says (around o d.body)
+    ≡ code_says o.before ++ says.Scan o.table o.target ∷ (code_says d.body ++ says.End ∷ []) =
+    followed_says o.before (Each o.table o.target d.body Stop) in
+    let was : opens_say d.scans
+    ≡ opens_say e.scans ++ (code_says o.before ++ says.Scan o.table o.target ∷ []) =
+    ap opens_say c.scans ∙ opens_push e.scans o in
+    here ∙ ap (λ ss. says.Header ∷ says.Registers d.registers
+    ∷ (groups_say 0 d.groups ++ (opens_say e.scans ++ ss))) scan
+    ∙ ap (λ ss. says.Header ∷ says.Registers d.registers ∷ ss)
+    (regrouped (groups_say 0 d.groups) (opens_say e.scans) (code_says o.before)
+    (code_says d.body) (says.Scan o.table o.target) says.End)
+    ∙ ap (λ ss. says.Header ∷ says.Registers d.registers
+    ∷ ((groups_say 0 d.groups ++ (ss ++ code_says d.body)) ++ says.End ∷ [])) (sym was)
 
-pub whole_report : (d : Draft) (g : ℕ) → d.scans ≡ [] → d.shows ≡ [] → d.sorts ≡ [] → whole (record d { report = g }) ≡ begun d ++ says.Report g ∷ []
+pub whole_report : (d : Draft) (g : ℕ) → d.scans ≡ [] → d.shows ≡ [] → d.sorts ≡ []
+    → whole_draft (record d { report = g }) ≡ begun d ++ says.Report g ∷ []
 whole_report d g closed_all shows sorts =
-    rw (closed_all, shows, sorts) (ap (λ ss. says.Header ∷ says.Registers d.registers ∷ ss) (sym (append_assoc (groups_say 0 d.groups) (code_says d.body) (says.Report g ∷ []))))
+    rw (closed_all, shows, sorts)
+    (ap (λ ss. says.Header ∷ says.Registers d.registers ∷ ss)
+    (sym (append_assoc (groups_say 0 d.groups) (code_says d.body) (says.Report g ∷ []))))
 
-shown : (g b m : List Statement) (r x : Statement) → g ++ (b ++ r ∷ (m ++ x ∷ [])) ≡ (g ++ (b ++ r ∷ m)) ++ x ∷ []
+shown : (g b m : List Statement) (r x : Statement)
+    → g ++ (b ++ r ∷ (m ++ x ∷ [])) ≡ (g ++ (b ++ r ∷ m)) ++ x ∷ []
 shown g b m r x = simp append_assoc
 
-pub whole_show : (d : Draft) (show : Show) → d.sorts ≡ [] → whole (record d { shows = d.shows ++ show ∷ [] }) ≡ whole d ++ says.Show show ∷ []
+pub whole_show : (d : Draft) (show : Show) → d.sorts ≡ []
+    → whole_draft (record d { shows = d.shows ++ show ∷ [] }) ≡ whole_draft d ++ says.Show show ∷ []
 whole_show d show sorts =
-    let added : map says.Show (d.shows ++ show ∷ []) ++ [] ≡ (map says.Show d.shows ++ []) ++ says.Show show ∷ [] =
-    append-nil (map says.Show (d.shows ++ show ∷ [])) ∙ map_push says.Show d.shows show ∙ ap (λ ss. ss ++ says.Show show ∷ []) (sym (append-nil (map says.Show d.shows))) in
-    let all : says.Header ∷ says.Registers d.registers ∷ (groups_say 0 d.groups ++ (code_says d.body ++ says.Report d.report ∷ (map says.Show (d.shows ++ show ∷ []) ++ [])))
-    ≡ says.Header ∷ says.Registers d.registers ∷ ((groups_say 0 d.groups ++ (code_says d.body ++ says.Report d.report ∷ (map says.Show d.shows ++ []))) ++ says.Show show ∷ []) =
-    ap (λ ss. says.Header ∷ says.Registers d.registers ∷ (groups_say 0 d.groups ++ (code_says d.body ++ says.Report d.report ∷ ss))) added
-    ∙ ap (λ ss. says.Header ∷ says.Registers d.registers ∷ ss) (shown (groups_say 0 d.groups) (code_says d.body) (map says.Show d.shows ++ []) (says.Report d.report) (says.Show show)) in
+    let added : map says.Show (d.shows ++ show ∷ []) ++ []
+    ≡ (map says.Show d.shows ++ []) ++ says.Show show ∷ [] =
+    append-nil (map says.Show (d.shows ++ show ∷ [])) ∙ map_push says.Show d.shows show
+    ∙ ap (λ ss. ss ++ says.Show show ∷ []) (sym (append-nil (map says.Show d.shows))) in
+    let all : says.Header ∷ says.Registers d.registers
+    ∷ (groups_say 0 d.groups
+    ++ (code_says d.body ++ says.Report d.report
+    ∷ (map says.Show (d.shows ++ show ∷ []) ++ [])))
+    ≡ says.Header ∷ says.Registers d.registers
+    ∷ ((groups_say 0 d.groups
+    ++ (code_says d.body ++ says.Report d.report ∷ (map says.Show d.shows ++ [])))
+    ++ says.Show show ∷ []) =
+    ap (λ ss. says.Header ∷ says.Registers d.registers
+    ∷ (groups_say 0 d.groups ++ (code_says d.body ++ says.Report d.report ∷ ss))) added
+    ∙ ap (λ ss. says.Header ∷ says.Registers d.registers ∷ ss)
+    (shown (groups_say 0 d.groups) (code_says d.body) (map says.Show d.shows ++ [])
+    (says.Report d.report) (says.Show show)) in
     rw sorts all
 
-pub whole_sort : (d : Draft) (key : SortKey) → whole (record d { sorts = d.sorts ++ key ∷ [] }) ≡ whole d ++ says.Sort key ∷ []
+pub whole_sort : (d : Draft) (key : SortKey)
+    → whole_draft (record d { sorts = d.sorts ++ key ∷ [] }) ≡ whole_draft d ++ says.Sort key ∷ []
 whole_sort d key =
-    let added : map says.Show d.shows ++ map says.Sort (d.sorts ++ key ∷ []) ≡ (map says.Show d.shows ++ map says.Sort d.sorts) ++ says.Sort key ∷ [] =
-    ap (λ ss. map says.Show d.shows ++ ss) (map_push says.Sort d.sorts key) ∙ sym (append_assoc (map says.Show d.shows) (map says.Sort d.sorts) (says.Sort key ∷ [])) in
-    ap (λ ss. says.Header ∷ says.Registers d.registers ∷ (groups_say 0 d.groups ++ (code_says d.body ++ says.Report d.report ∷ ss))) added
-    ∙ ap (λ ss. says.Header ∷ says.Registers d.registers ∷ ss) (shown (groups_say 0 d.groups) (code_says d.body) (map says.Show d.shows ++ map says.Sort d.sorts) (says.Report d.report) (says.Sort key))
+    let added : map says.Show d.shows ++ map says.Sort (d.sorts ++ key ∷ [])
+    ≡ (map says.Show d.shows ++ map says.Sort d.sorts) ++ says.Sort key ∷ [] =
+    ap (λ ss. map says.Show d.shows ++ ss) (map_push says.Sort d.sorts key)
+    ∙ sym (append_assoc (map says.Show d.shows) (map says.Sort d.sorts) (says.Sort key ∷ [])) in
+    ap (λ ss. says.Header ∷ says.Registers d.registers
+    ∷ (groups_say 0 d.groups ++ (code_says d.body ++ says.Report d.report ∷ ss))) added
+    ∙ ap (λ ss. says.Header ∷ says.Registers d.registers ∷ ss)
+    (shown (groups_say 0 d.groups) (code_says d.body)
+    (map says.Show d.shows ++ map says.Sort d.sorts) (says.Report d.report) (says.Sort key))
 
 -- ---- what a draft counts, with a statement more
 
@@ -169,7 +243,7 @@ pub counts_group : (g i dp sh so : ℕ) (group : GroupDecl) (d : Draft) → IsSm
     → Counts g i dp sh so d
     → Counts (g + 1) i dp sh so (record d { groups = d.groups ++ group ∷ [] })
 counts_group g i dp sh so group d small c =
-    let groups : AreGroups (g + 1) (d.groups ++ group ∷ []) = record {
+    let groups : AreSmallGroups (g + 1) (d.groups ++ group ∷ []) = record {
       many = length_push d.groups group ∙ ap (λ k. k + 1) c.1.many;
       each = All-push IsSmall d.groups group c.1.each small;
     } in

@@ -4,7 +4,7 @@ use Rattle.std.proofs.lemmas.Bool.{cases_Bool}
 use Rattle.star_program.specs.Private.Drafts.{IsAt, finished, nothing_read, told}
 use Rattle.star_program.specs.Limits.{IsWithinLimits}
 use Rattle.star_program.specs.Text.Lines.{is_blank_line, lines_of}
-use Rattle.star_program.specs.Private.Places.{advance, end_in, fault_from, reached_by, start, text_fault}
+use Rattle.star_program.specs.Private.Places.{advance, end_in, lines_fault, program_text_fault, reached_by, start}
 use Rattle.star_program.specs.Text.Said.{said, said_in}
 use Rattle.star_program.specs.Text.Spelling.{Spells}
 use Rattle.star_program.specs.declared.program.Parts.{Parts}
@@ -17,32 +17,42 @@ use Rattle.star_program.proofs.Text.PassedLines.{blank_passed, end_opened, end_s
 use Rattle.star_program.proofs.Text.FaultLemmas.{ended, refused, text_fault_is}
 use Rattle.star_program.proofs.Text.NoFault.{no_fault}
 
-reached_says : (p : Place) (line : ℕ) (o : Option Statement) (q : Place) → reached_by p line o ≡ Ok q → (s : Statement) × (o ≡ Some s)
+reached_says : (p : Place) (line : ℕ) (o : Option Statement) (q : Place)
+    → reached_by p line o ≡ Ok q → (s : Statement) × (o ≡ Some s)
 reached_says p line None q h = let bad : ⊥ = cc in absurd bad
 reached_says p line (Some s) q h = (s, refl)
 
 -- a line after which the text goes on says a statement
-pub advance_says : (p : Place) (line : ℕ) (text : List ℕ) (q : Place) → advance p line text ≡ Ok q → (s : Statement) × (said text ≡ Some s)
+pub advance_says : (p : Place) (line : ℕ) (text : List ℕ) (q : Place) → advance p line text ≡ Ok q
+    → (s : Statement) × (said text ≡ Some s)
 unfolding advance
 advance_says p line text q h = elim (cases_Bool (opens_report p text)) [
   | inl report ↦ let bad : ⊥ = let no = rw report at h in cc in absurd bad
   | inr other ↦ reached_says p line (said text) q (rw other at h)
 ]
 
-faultless_advances : (p : Place) (line : ℕ) (text : List ℕ) (texts : List (List ℕ)) → is_blank_line text ≡ false → fault_from p line (text ∷ texts) ≡ None → (q : Place) × (advance p line text ≡ Ok q)
+faultless_advances : (p : Place) (line : ℕ) (text : List ℕ) (texts : List (List ℕ))
+    → is_blank_line text ≡ false → lines_fault p line (text ∷ texts) ≡ None
+    → (q : Place) × (advance p line text ≡ Ok q)
 faultless_advances p line text texts filled h = settled (advance p line text) refl
   where
-    settled : (r : Result Place TextFault) → advance p line text ≡ r → (q : Place) × (advance p line text ≡ Ok q)
+    settled : (r : Result Place TextFault) → advance p line text ≡ r
+        → (q : Place) × (advance p line text ≡ Ok q)
     settled (Ok q) is = (q, is)
-    settled (Err f) is = let first = refused p line text texts f filled is in let bad : ⊥ = cc in absurd bad
+    settled (Err f) is = let first = refused p line text texts f filled is in let bad : ⊥ = cc in
+        absurd bad
 
 -- the texts from a place on end at another, and the draft there says them all
 abbrev Finishes : Place → Draft → List (List ℕ) → Type 0
 Finishes p d texts =
-    (q : Place) × (e : Draft) × (n : ℕ) × IsAt q e × (map Some (told p.stage d) ++ said_in texts ≡ map Some (told q.stage e)) × (end_in q.stage q.depth n ≡ None)
+    (q : Place) × (e : Draft) × (n : ℕ) × IsAt q e
+    × (map Some (told p.stage d) ++ said_in texts ≡ map Some (told q.stage e))
+    × (end_in q.stage q.depth n ≡ None)
 
-finishes : (texts : List (List ℕ)) (p : Place) (d : Draft) (line : ℕ) → IsAt p d → fault_from p line texts ≡ None → Finishes p d texts
-finishes [] p d line at h = (p, d, line, at, append-nil (map Some (told p.stage d)), sym (ended p line) ∙ h)
+finishes : (texts : List (List ℕ)) (p : Place) (d : Draft) (line : ℕ) → IsAt p d
+    → lines_fault p line texts ≡ None → Finishes p d texts
+finishes [] p d line at h =
+    (p, d, line, at, append-nil (map Some (told p.stage d)), sym (ended p line) ∙ h)
 finishes (text ∷ texts) p d line at h = elim (cases_Bool (is_blank_line text)) [
   | inl blank ↦
       let passed = blank_passed p d line text blank at in
@@ -51,17 +61,27 @@ finishes (text ∷ texts) p d line at h = elim (cases_Bool (is_blank_line text))
   | inr filled ↦
       let next = faultless_advances p line text texts filled h in
       let statement = advance_says p line text next.0 next.1 in
-      let taken = takes d statement.0 (end_opened p d line text statement.0 next.0 at statement.1 next.1) in
-      let passed = line_passed p d line text statement.0 next.0 taken.0 filled at statement.1 next.1 taken.1 in
-      let rest = finishes texts next.0 taken.0 (line + 1) passed.at (sym (passed.faults texts) ∙ h) in
+      let taken = takes d statement.0
+      (end_opened p d line text statement.0 next.0 at statement.1 next.1) in
+      let passed = line_passed p d line text statement.0 next.0 taken.0 filled at statement.1 next.1
+      taken.1 in
+      let rest = finishes texts next.0 taken.0 (line + 1) passed.at
+      (sym (passed.faults texts) ∙ h) in
       (rest.0, rest.1, rest.2, rest.3, passed.says texts ∙ rest.4, rest.5)
 ]
 
-spells_one : (text : List ℕ) → text_fault text ≡ None → (p : Parts) × Spells text p × IsWithinLimits p
+spells_one : (text : List ℕ) → program_text_fault text ≡ None
+    → (p : Parts) × Spells text p × IsWithinLimits p
 spells_one text h =
-    let end = finishes (lines_of text) start nothing_read 1 nothing_at_start (sym (text_fault_is text) ∙ h) in
-    let all : said_in (lines_of text) ≡ map Some (told end.0.stage end.1) = rw nothing_told at end.4 in
-    (finished end.1, end_spelled end.0 end.1 end.2 text end.3 end.5 all, end_within end.0 end.1 end.2 end.3 end.5)
+    let end = finishes (lines_of text) start nothing_read 1 nothing_at_start
+    (sym (text_fault_is text) ∙ h) in
+    let all : said_in (lines_of text) ≡ map Some (told end.0.stage end.1) =
+    rw nothing_told at end.4 in (
+      finished end.1,
+      end_spelled end.0 end.1 end.2 text end.3 end.5 all,
+      end_within end.0 end.1 end.2 end.3 end.5,
+    )
 
-pub faultless : (text : List ℕ) → (text_fault text ≡ None) ↔ ((p : Parts) × Spells text p × IsWithinLimits p)
+pub faultless : (text : List ℕ)
+    → (program_text_fault text ≡ None) ↔ ((p : Parts) × Spells text p × IsWithinLimits p)
 faultless text = (spells_one text, λ (p, spells, small). no_fault text p spells small)

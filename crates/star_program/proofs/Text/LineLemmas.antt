@@ -7,7 +7,8 @@ use Rattle.star_program.specs.Text.Lines.{begins_with, lines_of}
 use Rattle.star_program.specs.Private.Returns.{without_return}
 
 -- a last byte that isn't a carriage return stays
-pub without_return-push : (front : List ℕ) (b : ℕ) → without_return (front ++ b ∷ []) ≡ (if b == 13 then front else front ++ b ∷ [])
+pub without_return-push : (front : List ℕ) (b : ℕ)
+    → without_return (front ++ b ∷ []) ≡ (if b == 13 then front else front ++ b ∷ [])
 without_return-push [] b = refl
 without_return-push (a ∷ []) b = elim (cases_Bool (b == 13)) [
   | inl cr ↦ rw cr refl
@@ -15,12 +16,16 @@ without_return-push (a ∷ []) b = elim (cases_Bool (b == 13)) [
 ]
 without_return-push (a ∷ c ∷ front) b = elim (cases_Bool (b == 13)) [
   | inl cr ↦
-      let rest : without_return ((c ∷ front) ++ b ∷ []) ≡ c ∷ front = without_return-push (c ∷ front) b ∙ rw cr refl in
-      let all : without_return (a ∷ ((c ∷ front) ++ b ∷ [])) ≡ a ∷ c ∷ front = ap (λ x. a ∷ x) rest in
+      let rest : without_return ((c ∷ front) ++ b ∷ []) ≡ c ∷ front =
+      without_return-push (c ∷ front) b ∙ rw cr refl in
+      let all : without_return (a ∷ ((c ∷ front) ++ b ∷ [])) ≡ a ∷ c ∷ front =
+      ap (λ x. a ∷ x) rest in
       rw cr all
   | inr other ↦
-      let rest : without_return ((c ∷ front) ++ b ∷ []) ≡ (c ∷ front) ++ b ∷ [] = without_return-push (c ∷ front) b ∙ rw other refl in
-      let all : without_return (a ∷ ((c ∷ front) ++ b ∷ [])) ≡ a ∷ ((c ∷ front) ++ b ∷ []) = ap (λ x. a ∷ x) rest in
+      let rest : without_return ((c ∷ front) ++ b ∷ []) ≡ (c ∷ front) ++ b ∷ [] =
+      without_return-push (c ∷ front) b ∙ rw other refl in
+      let all : without_return (a ∷ ((c ∷ front) ++ b ∷ [])) ≡ a ∷ ((c ∷ front) ++ b ∷ []) =
+      ap (λ x. a ∷ x) rest in
       rw other all
 ]
 
@@ -37,25 +42,32 @@ pub ends_here : (text : List ℕ) → lines_of (10 ∷ text) ≡ [] ∷ lines_of
 unfolding lines_of
 ends_here text = refl
 
-pub goes_on : (b : ℕ) (text : List ℕ) → (b == 10) ≡ false → ((b == 13) && begins_with 10 text) ≡ false → lines_of (b ∷ text) ≡ with_first b (lines_of text)
+pub goes_on : (b : ℕ) (text : List ℕ) → (b == 10) ≡ false
+    → ((b == 13) && begins_with 10 text) ≡ false
+    → lines_of (b ∷ text) ≡ with_first b (lines_of text)
 unfolding lines_of
 goes_on b text other plain = rw (other, plain) refl
 
-pub returns_here : (b : ℕ) (text : List ℕ) → (b == 10) ≡ false → ((b == 13) && begins_with 10 text) ≡ true → lines_of (b ∷ text) ≡ lines_of text
+pub returns_here : (b : ℕ) (text : List ℕ) → (b == 10) ≡ false
+    → ((b == 13) && begins_with 10 text) ≡ true → lines_of (b ∷ text) ≡ lines_of text
 unfolding lines_of
 returns_here b text other plain = rw (other, plain) refl
 
 -- a byte before a line feed joins the line, but for a carriage return
-front_returned : (b : ℕ) (text : List ℕ) (k : ℕ) → ((b == 13) && begins_with 10 text) ≡ true → ((j : ℕ) → j < k → (get_or text j 0 == 10) ≡ false)
+front_returned : (b : ℕ) (text : List ℕ) (k : ℕ) → ((b == 13) && begins_with 10 text) ≡ true
+    → ((j : ℕ) → j < k → (get_or text j 0 == 10) ≡ false)
     → without_return (b ∷ take k text) ≡ without_return (take k text)
-front_returned b [] k returned before = let bad : false ≡ true = (and_parts (b == 13) false returned).1 in cc
-front_returned b (c ∷ text) zero returned before = let cr : (b == 13) ≡ true = (and_parts (b == 13) (c == 10) returned).0 in rw cr refl
+front_returned b [] k returned before = let bad : false ≡ true =
+    (and_parts (b == 13) false returned).1 in cc
+front_returned b (c ∷ text) zero returned before = let cr : (b == 13) ≡ true =
+    (and_parts (b == 13) (c == 10) returned).0 in rw cr refl
 front_returned b (c ∷ text) (suc k) returned before =
     let feed : (c == 10) ≡ true = (and_parts (b == 13) (c == 10) returned).1 in
     let none : (c == 10) ≡ false = before 0 (omega arith) in
     absurd (both_ways (c == 10) none feed)
 
-front_plain : (b : ℕ) (text : List ℕ) (k : ℕ) → ((b == 13) && begins_with 10 text) ≡ false → k < length text → (get_or text k 0 == 10) ≡ true
+front_plain : (b : ℕ) (text : List ℕ) (k : ℕ) → ((b == 13) && begins_with 10 text) ≡ false
+    → k < length text → (get_or text k 0 == 10) ≡ true
     → without_return (b ∷ take k text) ≡ b ∷ without_return (take k text)
 front_plain b [] k plain within at = absurd (omega arith)
 front_plain b (c ∷ text) zero plain within at =
@@ -64,30 +76,45 @@ front_plain b (c ∷ text) zero plain within at =
 front_plain b (c ∷ text) (suc k) plain within at = refl
 
 -- a text with a line feed
-pub first_line : (text : List ℕ) (k : ℕ) → k < length text → (get_or text k 0 == 10) ≡ true → ((j : ℕ) → j < k → (get_or text j 0 == 10) ≡ false)
+pub first_line : (text : List ℕ) (k : ℕ) → k < length text → (get_or text k 0 == 10) ≡ true
+    → ((j : ℕ) → j < k → (get_or text j 0 == 10) ≡ false)
     → lines_of text ≡ without_return (take k text) ∷ lines_of (drop (suc k) text)
 first_line [] k within at before = absurd (omega arith)
 first_line (b ∷ text) zero within at before = rw (eqb-true b 10 at) (ends_here text)
 first_line (b ∷ text) (suc k) within at before =
     let other : (b == 10) ≡ false = before 0 (omega arith) in
-    let later : (j : ℕ) → j < k → (get_or text j 0 == 10) ≡ false = λ j h. before (suc j) (omega arith) in
-    let rest : lines_of text ≡ without_return (take k text) ∷ lines_of (drop (suc k) text) = first_line text k (omega arith) at later in
+    let later : (j : ℕ) → j < k → (get_or text j 0 == 10) ≡ false =
+    λ j h. before (suc j) (omega arith) in
+    let rest : lines_of text ≡ without_return (take k text) ∷ lines_of (drop (suc k) text) =
+    first_line text k (omega arith) at later in
     elim (cases_Bool ((b == 13) && begins_with 10 text)) [
-      | inl returned ↦ returns_here b text other returned ∙ rest ∙ ap (λ l. l ∷ lines_of (drop (suc k) text)) (sym (front_returned b text k returned later))
-      | inr plain ↦ goes_on b text other plain ∙ ap (with_first b) rest ∙ ap (λ l. l ∷ lines_of (drop (suc k) text)) (sym (front_plain b text k plain (omega arith) at))
+      | inl returned ↦ returns_here b text other returned ∙ rest
+          ∙ ap (λ l. l ∷ lines_of (drop (suc k) text))
+          (sym (front_returned b text k returned later))
+      | inr plain ↦ goes_on b text other plain ∙ ap (with_first b) rest
+          ∙ ap (λ l. l ∷ lines_of (drop (suc k) text))
+          (sym (front_plain b text k plain (omega arith) at))
     ]
 
 pub empty_lines : (text : List ℕ) → (length text == 0) ≡ true → lines_of text ≡ []
 empty_lines [] empty = no_lines
-empty_lines (b ∷ text) empty = let none : length (b ∷ text) ≡ 0 = eqb-true (length (b ∷ text)) 0 empty in absurd (omega arith)
+empty_lines (b ∷ text) empty = let none : length (b ∷ text) ≡ 0 =
+    eqb-true (length (b ∷ text)) 0 empty in absurd (omega arith)
 
 -- a text without one
-pub only_line : (b : ℕ) (text : List ℕ) → ((j : ℕ) → j < length (b ∷ text) → (get_or (b ∷ text) j 0 == 10) ≡ false) → lines_of (b ∷ text) ≡ (b ∷ text) ∷ []
-only_line b [] before = goes_on b [] (before 0 (omega arith)) (and_right (b == 13) false refl) ∙ ap (with_first b) no_lines
+pub only_line : (b : ℕ) (text : List ℕ)
+    → ((j : ℕ) → j < length (b ∷ text) → (get_or (b ∷ text) j 0 == 10) ≡ false)
+    → lines_of (b ∷ text) ≡ (b ∷ text) ∷ []
+only_line b [] before = goes_on b [] (before 0 (omega arith)) (and_right (b == 13) false refl)
+    ∙ ap (with_first b) no_lines
 only_line b (c ∷ text) before =
-    goes_on b (c ∷ text) (before 0 (omega arith)) (and_right (b == 13) (c == 10) (before 1 (omega arith)))
+    goes_on b (c ∷ text) (before 0 (omega arith))
+    (and_right (b == 13) (c == 10) (before 1 (omega arith)))
     ∙ ap (with_first b) (only_line c text (λ j h. before (suc j) (omega arith)))
 
-pub one_line : (text : List ℕ) → (length text == 0) ≡ false → ((j : ℕ) → j < length text → (get_or text j 0 == 10) ≡ false) → lines_of text ≡ text ∷ lines_of []
+pub one_line : (text : List ℕ) → (length text == 0) ≡ false
+    → ((j : ℕ) → j < length text → (get_or text j 0 == 10) ≡ false)
+    → lines_of text ≡ text ∷ lines_of []
 one_line [] some before = let bad : true ≡ false = some in cc
-one_line (b ∷ text) some before = only_line b text before ∙ ap (λ ls. (b ∷ text) ∷ ls) (sym no_lines)
+one_line (b ∷ text) some before =
+    only_line b text before ∙ ap (λ ls. (b ∷ text) ∷ ls) (sym no_lines)

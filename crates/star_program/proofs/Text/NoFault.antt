@@ -6,15 +6,15 @@ use Rattle.std.specs.List.{list_all}
 use Rattle.std.specs.Option.{option_map}
 use Rattle.std.proofs.lemmas.Bool.{cases_Bool, eqb-true, eq-eqb, le-leb, ne_eqb}
 use Rattle.std.proofs.lemmas.List.Elements.{All-head, All-tail}
-use Rattle.star_schema.specs.Tables.{is_printable}
+use Rattle.star_common.specs.Printable.{is_printable}
 use Rattle.star_program.specs.Code.{Code, Stop, Then, Each, code_size, scan_depth}
 use Rattle.star_program.specs.Private.Drafts.{code_says, groups_say}
 use Rattle.star_program.specs.Text.Keywords.{keyword_name, keyword_of, same}
 use Rattle.star_program.specs.Limits.{IsSmall, IsWithinLimits}
 use Rattle.star_program.specs.Text.Lines.{is_blank_line, lines_of, words_of}
 use Rattle.star_program.specs.Text.Numerals.{count_of}
-use Rattle.star_program.specs.Private.Places.{advance, after, after_in, after_step, begins_report, end_in, fault_from, is_small, is_within, start, text_fault}
-use Rattle.star_program.specs.Text.Said.{by_keyword, by_words, one, said}
+use Rattle.star_program.specs.Private.Places.{advance, after_in, begins_report, end_in, is_small, is_within, lines_fault, place_after, place_after_step, program_text_fault, start}
+use Rattle.star_program.specs.Text.Said.{by_keyword, by_words, from_one_word, said}
 use Rattle.star_program.specs.Text.Spelling.{Spells, program_statements}
 use Rattle.star_program.specs.declared.group.GroupDecl.{GroupDecl}
 use Rattle.star_program.specs.declared.op.Op.{Op}
@@ -38,34 +38,39 @@ report_word : (w : List ℕ) → same w (codes "report") ≡ true → keyword_of
 unfolding keyword_of keyword_name
 report_word w h = let is : w ≡ codes "report" = (bytes_decides w (codes "report")).0 h in rw is refl
 
-reported : (o : Option ℕ) (s : Statement) → option_map says.Report o ≡ Some s → (g : ℕ) × (s ≡ says.Report g)
+reported : (o : Option ℕ) (s : Statement) → option_map says.Report o ≡ Some s
+    → (g : ℕ) × (s ≡ says.Report g)
 reported None s h = let bad : ⊥ = cc in absurd bad
 reported (Some g) s h = let is : s ≡ says.Report g = cc in (g, is)
 
-by_report : (w : List ℕ) (ws : List (List ℕ)) (s : Statement) → same w (codes "report") ≡ true → by_words (w ∷ ws) ≡ Some s → (g : ℕ) × (s ≡ says.Report g)
+by_report : (w : List ℕ) (ws : List (List ℕ)) (s : Statement) → same w (codes "report") ≡ true
+    → by_words (w ∷ ws) ≡ Some s → (g : ℕ) × (s ≡ says.Report g)
 unfolding by_words by_keyword
 by_report w ws s word h =
     let found : keyword_of w ≡ Some keyword.Report = report_word w word in
-    reported (one count_of ws) s (rw found at h)
+    reported (from_one_word count_of ws) s (rw found at h)
 
-by_words_report : (words : List (List ℕ)) (s : Statement) → begins_report words ≡ true → by_words words ≡ Some s → (g : ℕ) × (s ≡ says.Report g)
+by_words_report : (words : List (List ℕ)) (s : Statement) → begins_report words ≡ true
+    → by_words words ≡ Some s → (g : ℕ) × (s ≡ says.Report g)
 by_words_report [] s begins h = let bad : ⊥ = cc in absurd bad
 by_words_report (w ∷ ws) s begins h = by_report w ws s begins h
 
-report_said : (text : List ℕ) (s : Statement) → begins_report (words_of text) ≡ true → said text ≡ Some s → (g : ℕ) × (s ≡ says.Report g)
+report_said : (text : List ℕ) (s : Statement) → begins_report (words_of text) ≡ true
+    → said text ≡ Some s → (g : ℕ) × (s ≡ says.Report g)
 unfolding said
 report_said text s begins h = elim (cases_Bool (list_all is_printable text)) [
   | inl printable ↦ by_words_report (words_of text) s begins (rw printable at h)
   | inr other ↦ let bad : ⊥ = let none = rw other at h in cc in absurd bad
 ]
 
-step_report : (p q : Place) (g : ℕ) → after_step p (says.Report g) ≡ Some q → p.depth ≡ 0
+step_report : (p q : Place) (g : ℕ) → place_after_step p (says.Report g) ≡ Some q → p.depth ≡ 0
 step_report p q g h = elim (cases_Bool (p.depth == 0)) [
   | inl none ↦ eqb-true p.depth 0 none
   | inr some ↦ let bad : ⊥ = let no = rw some at h in cc in absurd bad
 ]
 
-report_outside : (st : Stage) (p q : Place) (g : ℕ) → after_in st p (says.Report g) ≡ Some q → p.depth ≡ 0
+report_outside : (st : Stage) (p q : Place) (g : ℕ) → after_in st p (says.Report g) ≡ Some q
+    → p.depth ≡ 0
 report_outside stage.Groups p q g h = step_report p q g h
 report_outside stage.Body p q g h = step_report p q g h
 report_outside st p q g h = let bad : ⊥ = cc in absurd bad
@@ -73,7 +78,7 @@ report_outside st p q g h = let bad : ⊥ = cc in absurd bad
 -- ---- statements that may follow one another
 
 pub record Follows (p : Place) (s : Statement) (q : Place) : Type 0 where
-  pub after : after p s ≡ Some q
+  pub after : place_after p s ≡ Some q
   pub within : is_within q ≡ true
   pub small : is_small s ≡ true
 
@@ -81,12 +86,14 @@ abbrev pub Walks : Place → List Statement → Place → Type 0
 Walks p [] q = p ≡ q
 Walks p (s ∷ ss) q = (r : Place) × Follows p s r × Walks r ss q
 
-walks_on : (p q r : Place) (ss ts : List Statement) → Walks p ss q → Walks q ts r → Walks p (ss ++ ts) r
+walks_on : (p q r : Place) (ss ts : List Statement) → Walks p ss q → Walks q ts r
+    → Walks p (ss ++ ts) r
 walks_on p q r [] ts w v = rw w v
 walks_on p q r (s ∷ ss) ts w v = (w.0, w.1, walks_on w.0 q r ss ts w.2 v)
 
-pub no_report : (p q : Place) (text : List ℕ) (s : Statement) → said text ≡ Some s → after p s ≡ Some q → (nat_lt 0 p.depth && begins_report (words_of text)) ≡ false
-unfolding after
+pub no_report : (p q : Place) (text : List ℕ) (s : Statement) → said text ≡ Some s
+    → place_after p s ≡ Some q → (nat_lt 0 p.depth && begins_report (words_of text)) ≡ false
+unfolding place_after
 no_report p q text s is goes = elim (cases_Bool (begins_report (words_of text))) [
   | inl begins ↦
       let report = report_said text s begins is in
@@ -100,7 +107,8 @@ no_report p q text s is goes = elim (cases_Bool (begins_report (words_of text)))
     no_and true = refl
     no_and false = refl
 
-pub advances : (p q : Place) (line : ℕ) (text : List ℕ) (s : Statement) → said text ≡ Some s → Follows p s q → advance p line text ≡ Ok q
+pub advances : (p q : Place) (line : ℕ) (text : List ℕ) (s : Statement) → said text ≡ Some s
+    → Follows p s q → advance p line text ≡ Ok q
 unfolding advance
 advances p q line text s is goes =
     let may = goes.after in
@@ -108,39 +116,52 @@ advances p q line text s is goes =
     let small = goes.small in
     rw (no_report p q text s is may, is, may, inside, small) refl
 
-walk_faults : (texts : List (List ℕ)) (ss : List Statement) (p q : Place) (line : ℕ) → map said (filter (λ text. not (is_blank_line text)) texts) ≡ map Some ss → Walks p ss q
-    → ((n : ℕ) → end_in q.stage q.depth n ≡ None) → fault_from p line texts ≡ None
+walk_faults : (texts : List (List ℕ)) (ss : List Statement) (p q : Place) (line : ℕ)
+    → map said (filter (λ text. not (is_blank_line text)) texts) ≡ map Some ss → Walks p ss q
+    → ((n : ℕ) → end_in q.stage q.depth n ≡ None) → lines_fault p line texts ≡ None
 walk_faults [] [] p q line says walks ends = rw walks (ended q line ∙ ends line)
 walk_faults [] (s ∷ ss) p q line says walks ends = let bad : ⊥ = cc in absurd bad
 walk_faults (text ∷ texts) [] p q line says walks ends = elim (cases_Bool (is_blank_line text)) [
-  | inl blank ↦ blank_line p line text texts blank ∙ walk_faults texts [] p q (line + 1) (rw blank at says) walks ends
+  | inl blank ↦ blank_line p line text texts blank
+      ∙ walk_faults texts [] p q (line + 1) (rw blank at says) walks ends
   | inr filled ↦ let bad : ⊥ = let none = rw filled at says in cc in absurd bad
 ]
-walk_faults (text ∷ texts) (s ∷ ss) p q line says walks ends = elim (cases_Bool (is_blank_line text)) [
-  | inl blank ↦ blank_line p line text texts blank ∙ walk_faults texts (s ∷ ss) p q (line + 1) (rw blank at says) walks ends
-  | inr filled ↦
-      let all = rw filled at says in
-      let here : said text ≡ Some s = cc in
-      let rest : map said (filter (λ t. not (is_blank_line t)) texts) ≡ map Some ss = cc in
-      advanced p line text texts walks.0 filled (advances p walks.0 line text s here walks.1) ∙ walk_faults texts ss walks.0 q (line + 1) rest walks.2 ends
-]
+walk_faults (text ∷ texts) (s ∷ ss) p q line says walks ends =
+    elim (cases_Bool (is_blank_line text)) [
+      | inl blank ↦ blank_line p line text texts blank
+          ∙ walk_faults texts (s ∷ ss) p q (line + 1) (rw blank at says) walks ends
+      | inr filled ↦
+          let all = rw filled at says in
+          let here : said text ≡ Some s = cc in
+          let rest : map said (filter (λ t. not (is_blank_line t)) texts) ≡ map Some ss = cc in
+          advanced p line text texts walks.0 filled (advances p walks.0 line text s here walks.1)
+          ∙ walk_faults texts ss walks.0 q (line + 1) rest walks.2 ends
+    ]
 
 -- ---- the statements of a program
 
-within_is : (st : Stage) (g i dp sh so : ℕ) → g ≤ 8 → i ≤ 4096 → dp ≤ 3 → sh ≤ 16 → so ≤ 16 → is_within (place st g i dp sh so) ≡ true
+within_is : (st : Stage) (g i dp sh so : ℕ) → g ≤ 8 → i ≤ 4096 → dp ≤ 3 → sh ≤ 16 → so ≤ 16
+    → is_within (place st g i dp sh so) ≡ true
 unfolding is_within
-within_is st g i dp sh so a b c d e = rw (le-leb g 8 a, le-leb i 4096 b, le-leb dp 3 c, le-leb sh 16 d, le-leb so 16 e) refl
+within_is st g i dp sh so a b c d e =
+    rw (le-leb g 8 a, le-leb i 4096 b, le-leb dp 3 c, le-leb sh 16 d, le-leb so 16 e) refl
 
 -- a group
-group_follows : (g : ℕ) (group : GroupDecl) → g + 1 ≤ 8 → IsSmall group → Follows (place stage.Groups g 0 0 0 0) (says.Group g group) (place stage.Groups (g + 1) 0 0 0 0)
-unfolding after is_small
+group_follows : (g : ℕ) (group : GroupDecl) → g + 1 ≤ 8 → IsSmall group
+    → Follows (place stage.Groups g 0 0 0 0) (says.Group g group)
+    (place stage.Groups (g + 1) 0 0 0 0)
+unfolding place_after is_small
 group_follows g group room small = record {
   after = rw (eq-eqb g g refl) refl;
   within = within_is stage.Groups (g + 1) 0 0 0 0 room (lit≤ tt) (lit≤ tt) (lit≤ tt) (lit≤ tt);
-  small = rw (le-leb (length group.keys) 6 small.keys, le-leb (length group.aggregates) 8 small.aggregates) refl;
+  small = rw (
+    le-leb (length group.keys) 6 small.keys,
+    le-leb (length group.aggregates) 8 small.aggregates,
+  ) refl;
 }
 
-walk_groups : (gs : List GroupDecl) (g m : ℕ) → g + length gs ≡ m → m ≤ 8 → All IsSmall gs → Walks (place stage.Groups g 0 0 0 0) (groups_say g gs) (place stage.Groups m 0 0 0 0)
+walk_groups : (gs : List GroupDecl) (g m : ℕ) → g + length gs ≡ m → m ≤ 8 → All IsSmall gs
+    → Walks (place stage.Groups g 0 0 0 0) (groups_say g gs) (place stage.Groups m 0 0 0 0)
 walk_groups [] g m is room small = let same : g ≡ m = omega arith in rw same refl
 walk_groups (group ∷ gs) g m is room small = (
   place stage.Groups (g + 1) 0 0 0 0,
@@ -152,25 +173,59 @@ walk_groups (group ∷ gs) g m is room small = (
 abbrev Opens : Stage → Type 0
 Opens st = (st ≡ stage.Groups) ⊎ (st ≡ stage.Body)
 
-act_follows : (st : Stage) (g i dp : ℕ) (op : Op) → Opens st → g ≤ 8 → i + 1 ≤ 4096 → dp ≤ 3 → Follows (place st g i dp 0 0) (says.Act op) (place stage.Body g (i + 1) dp 0 0)
-unfolding after is_small
-act_follows st g i dp op (inl groups) a b c = record { after = rw groups refl; within = within_is stage.Body g (i + 1) dp 0 0 a b c (lit≤ tt) (lit≤ tt); small = refl }
-act_follows st g i dp op (inr body) a b c = record { after = rw body refl; within = within_is stage.Body g (i + 1) dp 0 0 a b c (lit≤ tt) (lit≤ tt); small = refl }
+act_follows : (st : Stage) (g i dp : ℕ) (op : Op) → Opens st → g ≤ 8 → i + 1 ≤ 4096 → dp ≤ 3
+    → Follows (place st g i dp 0 0) (says.Act op) (place stage.Body g (i + 1) dp 0 0)
+unfolding place_after is_small
+act_follows st g i dp op (inl groups) a b c =
+    record {
+      after = rw groups refl;
+      within =
+          within_is stage.Body g (i + 1) dp 0 0 a b c (lit≤ tt) (lit≤ tt);
+      small = refl;
+    }
+act_follows st g i dp op (inr body) a b c =
+    record {
+      after = rw body refl;
+      within =
+          within_is stage.Body g (i + 1) dp 0 0 a b c (lit≤ tt) (lit≤ tt);
+      small = refl;
+    }
 
-scan_follows : (st : Stage) (g i dp : ℕ) (t : TableId) (r : ℕ) → Opens st → g ≤ 8 → i + 1 ≤ 4096 → dp + 1 ≤ 3 → Follows (place st g i dp 0 0) (says.Scan t r) (place stage.Body g (i + 1) (dp + 1) 0 0)
-unfolding after is_small
-scan_follows st g i dp t r (inl groups) a b c = record { after = rw groups refl; within = within_is stage.Body g (i + 1) (dp + 1) 0 0 a b c (lit≤ tt) (lit≤ tt); small = refl }
-scan_follows st g i dp t r (inr body) a b c = record { after = rw body refl; within = within_is stage.Body g (i + 1) (dp + 1) 0 0 a b c (lit≤ tt) (lit≤ tt); small = refl }
+scan_follows : (st : Stage) (g i dp : ℕ) (t : TableId) (r : ℕ) → Opens st → g ≤ 8 → i + 1 ≤ 4096
+    → dp + 1 ≤ 3 → Follows (place st g i dp 0 0) (says.Scan t r)
+    (place stage.Body g (i + 1) (dp + 1) 0 0)
+unfolding place_after is_small
+scan_follows st g i dp t r (inl groups) a b c =
+    record {
+      after = rw groups refl;
+      within =
+          within_is stage.Body g (i + 1) (dp + 1) 0 0 a b c (lit≤ tt) (lit≤ tt);
+      small = refl;
+    }
+scan_follows st g i dp t r (inr body) a b c =
+    record {
+      after = rw body refl;
+      within =
+          within_is stage.Body g (i + 1) (dp + 1) 0 0 a b c (lit≤ tt) (lit≤ tt);
+      small = refl;
+    }
 
-end_follows : (g i dp : ℕ) → g ≤ 8 → i ≤ 4096 → dp + 1 ≤ 3 → Follows (place stage.Body g i (dp + 1) 0 0) says.End (place stage.Body g i dp 0 0)
-unfolding after is_small
+end_follows : (g i dp : ℕ) → g ≤ 8 → i ≤ 4096 → dp + 1 ≤ 3
+    → Follows (place stage.Body g i (dp + 1) 0 0) says.End (place stage.Body g i dp 0 0)
+unfolding place_after is_small
 end_follows g i dp a b c =
     let some : (dp + 1 == 0) ≡ false = ne_eqb (dp + 1) 0 (λ h. absurd (omega arith)) in
     let less : dp + 1 - 1 ≡ dp = omega arith in
-    record { after = rw (some, less) refl; within = within_is stage.Body g i dp 0 0 a b (omega arith) (lit≤ tt) (lit≤ tt); small = refl }
+    record {
+      after = rw (some, less) refl;
+      within =
+          within_is stage.Body g i dp 0 0 a b (omega arith) (lit≤ tt) (lit≤ tt);
+      small = refl;
+    }
 
 -- a body after one of its steps
-walk_body : (c : Code) (g i dp m : ℕ) → i + code_size c ≡ m → m ≤ 4096 → dp + scan_depth c ≤ 3 → g ≤ 8 → Walks (place stage.Body g i dp 0 0) (code_says c) (place stage.Body g m dp 0 0)
+walk_body : (c : Code) (g i dp m : ℕ) → i + code_size c ≡ m → m ≤ 4096 → dp + scan_depth c ≤ 3
+    → g ≤ 8 → Walks (place stage.Body g i dp 0 0) (code_says c) (place stage.Body g m dp 0 0)
 walk_body Stop g i dp m is room nested few = let same : i ≡ m = omega arith in rw same refl
 walk_body (Then op rest) g i dp m is room nested few = (
   place stage.Body g (i + 1) dp 0 0,
@@ -179,94 +234,167 @@ walk_body (Then op rest) g i dp m is room nested few = (
 )
 walk_body (Each t r body rest) g i dp m is room nested few =
     let within : larger (1 + scan_depth body) (scan_depth rest) ≤ 3 - dp = omega arith in
-    let inner : dp + 1 + scan_depth body ≤ 3 = omega (arith, left_within (1 + scan_depth body) (scan_depth rest) (3 - dp) within) in
-    let outer : dp + scan_depth rest ≤ 3 = omega (arith, right_within (1 + scan_depth body) (scan_depth rest) (3 - dp) within) in
+    let inner : dp + 1 + scan_depth body ≤ 3 =
+    omega (arith, left_within (1 + scan_depth body) (scan_depth rest) (3 - dp) within) in
+    let outer : dp + scan_depth rest ≤ 3 =
+    omega (arith, right_within (1 + scan_depth body) (scan_depth rest) (3 - dp) within) in
     let n : ℕ = i + 1 + code_size body in
     let turns = walk_body body g (i + 1) (dp + 1) n refl (omega arith) inner few in
     let others = walk_body rest g n dp m (omega arith) room outer few in (
       place stage.Body g (i + 1) (dp + 1) 0 0,
       scan_follows stage.Body g i dp t r (inr refl) few (omega arith) (omega arith),
-      walks_on (place stage.Body g (i + 1) (dp + 1) 0 0) (place stage.Body g n (dp + 1) 0 0) (place stage.Body g m dp 0 0) (code_says body) (says.End ∷ code_says rest) turns
+      walks_on (place stage.Body g (i + 1) (dp + 1) 0 0) (place stage.Body g n (dp + 1) 0 0)
+          (place stage.Body g m dp 0 0) (code_says body) (says.End ∷ code_says rest) turns
           (place stage.Body g n dp 0 0, end_follows g n dp few (omega arith) (omega arith), others),
     )
 
-report_follows : (st : Stage) (g i n : ℕ) → Opens st → g ≤ 8 → i ≤ 4096 → Follows (place st g i 0 0 0) (says.Report n) (place stage.Shows g i 0 0 0)
-unfolding after is_small
-report_follows st g i n (inl groups) a b = record { after = rw groups refl; within = within_is stage.Shows g i 0 0 0 a b (lit≤ tt) (lit≤ tt) (lit≤ tt); small = refl }
-report_follows st g i n (inr body) a b = record { after = rw body refl; within = within_is stage.Shows g i 0 0 0 a b (lit≤ tt) (lit≤ tt) (lit≤ tt); small = refl }
+report_follows : (st : Stage) (g i n : ℕ) → Opens st → g ≤ 8 → i ≤ 4096
+    → Follows (place st g i 0 0 0) (says.Report n) (place stage.Shows g i 0 0 0)
+unfolding place_after is_small
+report_follows st g i n (inl groups) a b =
+    record {
+      after = rw groups refl;
+      within =
+          within_is stage.Shows g i 0 0 0 a b (lit≤ tt) (lit≤ tt) (lit≤ tt);
+      small = refl;
+    }
+report_follows st g i n (inr body) a b =
+    record {
+      after = rw body refl;
+      within =
+          within_is stage.Shows g i 0 0 0 a b (lit≤ tt) (lit≤ tt) (lit≤ tt);
+      small = refl;
+    }
 
 -- the rest of a program after a step, and its report
 walk_report : (c : Code) (g i m n : ℕ) → i + code_size c ≡ m → m ≤ 4096 → scan_depth c ≤ 3 → g ≤ 8
-    → Walks (place stage.Body g i 0 0 0) (code_says c ++ says.Report n ∷ []) (place stage.Shows g m 0 0 0)
+    → Walks (place stage.Body g i 0 0 0) (code_says c ++ says.Report n ∷ [])
+    (place stage.Shows g m 0 0 0)
 walk_report c g i m n is room nested few =
-    walks_on (place stage.Body g i 0 0 0) (place stage.Body g m 0 0 0) (place stage.Shows g m 0 0 0) (code_says c) (says.Report n ∷ [])
+    walks_on (place stage.Body g i 0 0 0) (place stage.Body g m 0 0 0) (place stage.Shows g m 0 0 0)
+    (code_says c) (says.Report n ∷ [])
     (walk_body c g i 0 m is room (omega arith) few)
     (place stage.Shows g m 0 0 0, report_follows stage.Body g m n (inr refl) few room, refl)
 
-walk_code : (c : Code) (g n : ℕ) → code_size c ≤ 4096 → scan_depth c ≤ 3 → g ≤ 8 → Walks (place stage.Groups g 0 0 0 0) (code_says c ++ says.Report n ∷ []) (place stage.Shows g (code_size c) 0 0 0)
-walk_code Stop g n room nested few = (place stage.Shows g 0 0 0 0, report_follows stage.Groups g 0 n (inl refl) few room, refl)
-walk_code (Then op rest) g n room nested few =
-    (place stage.Body g 1 0 0 0, act_follows stage.Groups g 0 0 op (inl refl) few (lit≤ tt) (lit≤ tt), walk_report rest g 1 (code_size (Then op rest)) n (omega arith) room nested few)
+walk_code : (c : Code) (g n : ℕ) → code_size c ≤ 4096 → scan_depth c ≤ 3 → g ≤ 8
+    → Walks (place stage.Groups g 0 0 0 0) (code_says c ++ says.Report n ∷ [])
+    (place stage.Shows g (code_size c) 0 0 0)
+walk_code Stop g n room nested few =
+    (place stage.Shows g 0 0 0 0, report_follows stage.Groups g 0 n (inl refl) few room, refl)
+walk_code (Then op rest) g n room nested few = (
+  place stage.Body g 1 0 0 0,
+  act_follows stage.Groups g 0 0 op (inl refl) few (lit≤ tt) (lit≤ tt),
+  walk_report rest g 1 (code_size (Then op rest)) n (omega arith) room nested few,
+)
 walk_code (Each t r body rest) g n room nested few =
-    let inner : 1 + scan_depth body ≤ 3 = left_within (1 + scan_depth body) (scan_depth rest) 3 nested in
-    let outer : scan_depth rest ≤ 3 = right_within (1 + scan_depth body) (scan_depth rest) 3 nested in
+    let inner : 1 + scan_depth body ≤ 3 =
+    left_within (1 + scan_depth body) (scan_depth rest) 3 nested in
+    let outer : scan_depth rest ≤ 3 =
+    right_within (1 + scan_depth body) (scan_depth rest) 3 nested in
     let k : ℕ = 1 + code_size body in
     let turns = walk_body body g 1 1 k (omega arith) (omega arith) inner few in
-    let others = walk_report rest g k (code_size (Each t r body rest)) n (omega arith) room outer few in
-    let parted : (code_says body ++ says.End ∷ code_says rest) ++ says.Report n ∷ [] ≡ code_says body ++ (says.End ∷ (code_says rest ++ says.Report n ∷ [])) =
+    let others = walk_report rest g k (code_size (Each t r body rest)) n (omega arith) room outer
+    few in
+    let parted : (code_says body ++ says.End ∷ code_says rest) ++ says.Report n ∷ []
+    ≡ code_says body ++ (says.End ∷ (code_says rest ++ says.Report n ∷ [])) =
     append_assoc (code_says body) (says.End ∷ code_says rest) (says.Report n ∷ []) in
     let q : Place = place stage.Shows g (code_size (Each t r body rest)) 0 0 0 in
-    let all : Walks (place stage.Body g 1 1 0 0) (code_says body ++ (says.End ∷ (code_says rest ++ says.Report n ∷ []))) q =
-    walks_on (place stage.Body g 1 1 0 0) (place stage.Body g k 1 0 0) q (code_says body) (says.End ∷ (code_says rest ++ says.Report n ∷ [])) turns
-    (place stage.Body g k 0 0 0, end_follows g k 0 few (omega arith) (lit≤ tt), others) in
-    (place stage.Body g 1 1 0 0, scan_follows stage.Groups g 0 0 t r (inl refl) few (lit≤ tt) (lit≤ tt), rw parted all)
+    let all : Walks (place stage.Body g 1 1 0 0)
+    (code_says body ++ (says.End ∷ (code_says rest ++ says.Report n ∷ []))) q =
+    walks_on (place stage.Body g 1 1 0 0) (place stage.Body g k 1 0 0) q (code_says body)
+    (says.End ∷ (code_says rest ++ says.Report n ∷ [])) turns
+    (place stage.Body g k 0 0 0, end_follows g k 0 few (omega arith) (lit≤ tt), others) in (
+      place stage.Body g 1 1 0 0,
+      scan_follows stage.Groups g 0 0 t r (inl refl) few (lit≤ tt) (lit≤ tt),
+      rw parted all,
+    )
 
 -- ---- below the report
 
-show_follows : (g i sh : ℕ) (show : Show) → g ≤ 8 → i ≤ 4096 → sh + 1 ≤ 16 → Follows (place stage.Shows g i 0 sh 0) (says.Show show) (place stage.Shows g i 0 (sh + 1) 0)
-unfolding after is_small
-show_follows g i sh show a b c = record { after = refl; within = within_is stage.Shows g i 0 (sh + 1) 0 a b (lit≤ tt) c (lit≤ tt); small = refl }
+show_follows : (g i sh : ℕ) (show : Show) → g ≤ 8 → i ≤ 4096 → sh + 1 ≤ 16
+    → Follows (place stage.Shows g i 0 sh 0) (says.Show show) (place stage.Shows g i 0 (sh + 1) 0)
+unfolding place_after is_small
+show_follows g i sh show a b c =
+    record {
+      after = refl;
+      within =
+          within_is stage.Shows g i 0 (sh + 1) 0 a b (lit≤ tt) c (lit≤ tt);
+      small = refl;
+    }
 
-walk_shows : (xs : List Show) (g i sh m : ℕ) → g ≤ 8 → i ≤ 4096 → sh + length xs ≡ m → m ≤ 16 → Walks (place stage.Shows g i 0 sh 0) (map says.Show xs) (place stage.Shows g i 0 m 0)
+walk_shows : (xs : List Show) (g i sh m : ℕ) → g ≤ 8 → i ≤ 4096 → sh + length xs ≡ m → m ≤ 16
+    → Walks (place stage.Shows g i 0 sh 0) (map says.Show xs) (place stage.Shows g i 0 m 0)
 walk_shows [] g i sh m few room is within = let same : sh ≡ m = omega arith in rw same refl
-walk_shows (x ∷ xs) g i sh m few room is within =
-    (place stage.Shows g i 0 (sh + 1) 0, show_follows g i sh x few room (omega arith), walk_shows xs g i (sh + 1) m few room (omega arith) within)
+walk_shows (x ∷ xs) g i sh m few room is within = (
+  place stage.Shows g i 0 (sh + 1) 0,
+  show_follows g i sh x few room (omega arith),
+  walk_shows xs g i (sh + 1) m few room (omega arith) within,
+)
 
-first_sort_follows : (g i sh : ℕ) (key : SortKey) → g ≤ 8 → i ≤ 4096 → sh ≤ 16 → Follows (place stage.Shows g i 0 sh 0) (says.Sort key) (place stage.Sorts g i 0 sh 1)
-unfolding after is_small
-first_sort_follows g i sh key a b c = record { after = refl; within = within_is stage.Sorts g i 0 sh 1 a b (lit≤ tt) c (lit≤ tt); small = refl }
+first_sort_follows : (g i sh : ℕ) (key : SortKey) → g ≤ 8 → i ≤ 4096 → sh ≤ 16
+    → Follows (place stage.Shows g i 0 sh 0) (says.Sort key) (place stage.Sorts g i 0 sh 1)
+unfolding place_after is_small
+first_sort_follows g i sh key a b c =
+    record {
+      after = refl;
+      within =
+          within_is stage.Sorts g i 0 sh 1 a b (lit≤ tt) c (lit≤ tt);
+      small = refl;
+    }
 
-sort_follows : (g i sh so : ℕ) (key : SortKey) → g ≤ 8 → i ≤ 4096 → sh ≤ 16 → so + 1 ≤ 16 → Follows (place stage.Sorts g i 0 sh so) (says.Sort key) (place stage.Sorts g i 0 sh (so + 1))
-unfolding after is_small
-sort_follows g i sh so key a b c d = record { after = refl; within = within_is stage.Sorts g i 0 sh (so + 1) a b (lit≤ tt) c d; small = refl }
+sort_follows : (g i sh so : ℕ) (key : SortKey) → g ≤ 8 → i ≤ 4096 → sh ≤ 16 → so + 1 ≤ 16
+    → Follows (place stage.Sorts g i 0 sh so) (says.Sort key) (place stage.Sorts g i 0 sh (so + 1))
+unfolding place_after is_small
+sort_follows g i sh so key a b c d =
+    record {
+      after = refl;
+      within =
+          within_is stage.Sorts g i 0 sh (so + 1) a b (lit≤ tt) c d;
+      small = refl;
+    }
 
-walk_sorts : (ks : List SortKey) (g i sh so m : ℕ) → g ≤ 8 → i ≤ 4096 → sh ≤ 16 → so + length ks ≡ m → m ≤ 16 → Walks (place stage.Sorts g i 0 sh so) (map says.Sort ks) (place stage.Sorts g i 0 sh m)
+walk_sorts : (ks : List SortKey) (g i sh so m : ℕ) → g ≤ 8 → i ≤ 4096 → sh ≤ 16 → so + length ks ≡ m
+    → m ≤ 16 → Walks (place stage.Sorts g i 0 sh so) (map says.Sort ks)
+    (place stage.Sorts g i 0 sh m)
 walk_sorts [] g i sh so m few room shows is within = let same : so ≡ m = omega arith in rw same refl
-walk_sorts (k ∷ ks) g i sh so m few room shows is within =
-    (place stage.Sorts g i 0 sh (so + 1), sort_follows g i sh so k few room shows (omega arith), walk_sorts ks g i sh (so + 1) m few room shows (omega arith) within)
+walk_sorts (k ∷ ks) g i sh so m few room shows is within = (
+  place stage.Sorts g i 0 sh (so + 1),
+  sort_follows g i sh so k few room shows (omega arith),
+  walk_sorts ks g i sh (so + 1) m few room shows (omega arith) within,
+)
 
 -- a text may end below the report
 abbrev pub Ends : Place → List Statement → Type 0
 Ends p ss = (q : Place) × Walks p ss q × ((n : ℕ) → end_in q.stage q.depth n ≡ None)
 
-sorts_end : (ks : List SortKey) (g i sh : ℕ) → g ≤ 8 → i ≤ 4096 → sh ≤ 16 → length ks ≤ 16 → Ends (place stage.Shows g i 0 sh 0) (map says.Sort ks)
+sorts_end : (ks : List SortKey) (g i sh : ℕ) → g ≤ 8 → i ≤ 4096 → sh ≤ 16 → length ks ≤ 16
+    → Ends (place stage.Shows g i 0 sh 0) (map says.Sort ks)
 sorts_end [] g i sh few room shows within = (place stage.Shows g i 0 sh 0, refl, λ n. refl)
 sorts_end (k ∷ ks) g i sh few room shows within =
-    let q : Place = place stage.Sorts g i 0 sh (length (k ∷ ks)) in
-    (q, (place stage.Sorts g i 0 sh 1, first_sort_follows g i sh k few room shows, walk_sorts ks g i sh 1 (length (k ∷ ks)) few room shows (omega arith) within), λ n. refl)
+    let q : Place = place stage.Sorts g i 0 sh (length (k ∷ ks)) in (
+      q,
+      (
+        place stage.Sorts g i 0 sh 1,
+        first_sort_follows g i sh k few room shows,
+        walk_sorts ks g i sh 1 (length (k ∷ ks)) few room shows (omega arith) within,
+      ),
+      λ n. refl,
+    )
 
 ends_on : (p q : Place) (ss ts : List Statement) → Walks p ss q → Ends q ts → Ends p (ss ++ ts)
 ends_on p q ss ts w e = (e.0, walks_on p q e.0 ss ts w e.1, e.2)
 
-registers_follow : (n : ℕ) → n ≤ 4096 → Follows (place stage.Registers 0 0 0 0 0) (says.Registers n) (place stage.Groups 0 0 0 0 0)
-unfolding after is_small is_within
+registers_follow : (n : ℕ) → n ≤ 4096
+    → Follows (place stage.Registers 0 0 0 0 0) (says.Registers n) (place stage.Groups 0 0 0 0 0)
+unfolding place_after is_small is_within
 registers_follow n room = record { after = refl; within = refl; small = le-leb n 4096 room }
 
 header_follows : Follows start says.Header (place stage.Registers 0 0 0 0 0)
-unfolding start after is_small is_within
+unfolding start place_after is_small is_within
 header_follows = record { after = refl; within = refl; small = refl }
 
-body_first : (gs code tail : List Statement) (r : Statement) → gs ++ (code ++ r ∷ tail) ≡ gs ++ ((code ++ r ∷ []) ++ tail)
+body_first : (gs code tail : List Statement) (r : Statement)
+    → gs ++ (code ++ r ∷ tail) ≡ gs ++ ((code ++ r ∷ []) ++ tail)
 body_first gs code tail r = ap (λ ss. gs ++ ss) (sym (append_assoc code (r ∷ []) tail))
 
 pub program_ends : (p : Parts) → IsWithinLimits p → Ends start (program_statements p)
@@ -278,19 +406,41 @@ program_ends p h =
     let body = walk_code p.body g p.report h.instructions h.scans h.groups in
     let shows = walk_shows p.shows g i 0 sh h.groups h.instructions (omega arith) h.shows in
     let sorts = sorts_end p.sorts g i sh h.groups h.instructions h.shows h.sorts in
-    let tail : Ends (place stage.Shows g i 0 0 0) (tail_of p) = ends_on (place stage.Shows g i 0 0 0) (place stage.Shows g i 0 sh 0) (map says.Show p.shows) (map says.Sort p.sorts) shows sorts in
-    let below : Ends (place stage.Groups g 0 0 0 0) ((code_says p.body ++ says.Report p.report ∷ []) ++ tail_of p) =
-    ends_on (place stage.Groups g 0 0 0 0) (place stage.Shows g i 0 0 0) (code_says p.body ++ says.Report p.report ∷ []) (tail_of p) body tail in
-    let after_head : Ends (place stage.Groups 0 0 0 0 0) (groups_say 0 p.groups ++ ((code_says p.body ++ says.Report p.report ∷ []) ++ tail_of p)) =
-    ends_on (place stage.Groups 0 0 0 0 0) (place stage.Groups g 0 0 0 0) (groups_say 0 p.groups) ((code_says p.body ++ says.Report p.report ∷ []) ++ tail_of p) groups below in
-    let all : Ends start (says.Header ∷ says.Registers p.registers ∷ (groups_say 0 p.groups ++ ((code_says p.body ++ says.Report p.report ∷ []) ++ tail_of p))) =
-    (after_head.0, (place stage.Registers 0 0 0 0 0, header_follows, (place stage.Groups 0 0 0 0 0, registers_follow p.registers h.registers, after_head.1)), after_head.2) in
-    let is : program_statements p ≡ says.Header ∷ says.Registers p.registers ∷ (groups_say 0 p.groups ++ ((code_says p.body ++ says.Report p.report ∷ []) ++ tail_of p)) =
-    program_said p ∙ ap (λ ss. says.Header ∷ says.Registers p.registers ∷ ss) (body_first (groups_say 0 p.groups) (code_says p.body) (tail_of p) (says.Report p.report)) in
+    let tail : Ends (place stage.Shows g i 0 0 0) (tail_of p) =
+    ends_on (place stage.Shows g i 0 0 0) (place stage.Shows g i 0 sh 0) (map says.Show p.shows)
+    (map says.Sort p.sorts) shows sorts in
+    let below : Ends (place stage.Groups g 0 0 0 0)
+    ((code_says p.body ++ says.Report p.report ∷ []) ++ tail_of p) =
+    ends_on (place stage.Groups g 0 0 0 0) (place stage.Shows g i 0 0 0)
+    (code_says p.body ++ says.Report p.report ∷ []) (tail_of p) body tail in
+    let after_head : Ends (place stage.Groups 0 0 0 0 0)
+    (groups_say 0 p.groups ++ ((code_says p.body ++ says.Report p.report ∷ []) ++ tail_of p)) =
+    ends_on (place stage.Groups 0 0 0 0 0) (place stage.Groups g 0 0 0 0) (groups_say 0 p.groups)
+    ((code_says p.body ++ says.Report p.report ∷ []) ++ tail_of p) groups below in
+    let all : Ends start (says.Header ∷ says.Registers p.registers
+    ∷ (groups_say 0 p.groups
+    ++ ((code_says p.body ++ says.Report p.report ∷ []) ++ tail_of p))) = (
+      after_head.0,
+      (
+        place stage.Registers 0 0 0 0 0,
+        header_follows,
+        (place stage.Groups 0 0 0 0 0, registers_follow p.registers h.registers, after_head.1),
+      ),
+      after_head.2,
+    ) in
+    let is : program_statements p
+    ≡ says.Header ∷ says.Registers p.registers
+    ∷ (groups_say 0 p.groups
+    ++ ((code_says p.body ++ says.Report p.report ∷ []) ++ tail_of p)) =
+    program_said p ∙ ap (λ ss. says.Header ∷ says.Registers p.registers ∷ ss)
+    (body_first (groups_say 0 p.groups) (code_says p.body) (tail_of p)
+    (says.Report p.report)) in
     subst (Ends start) (sym is) all
 
-pub no_fault : (text : List ℕ) (p : Parts) → Spells text p → IsWithinLimits p → text_fault text ≡ None
+pub no_fault : (text : List ℕ) (p : Parts) → Spells text p → IsWithinLimits p
+    → program_text_fault text ≡ None
 unfolding Spells
 no_fault text p spells small =
     let end = program_ends p small in
-    text_fault_is text ∙ walk_faults (lines_of text) (program_statements p) start end.0 1 spells end.1 end.2
+    text_fault_is text ∙ walk_faults (lines_of text) (program_statements p) start end.0 1 spells
+    end.1 end.2

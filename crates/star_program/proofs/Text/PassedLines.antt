@@ -4,12 +4,12 @@ use Rattle.std.proofs.Common.{◌≡◌, ◌⊎◌, ◌==◌, ◌&&◌, ◌<◌,
 use Rattle.std.proofs.lemmas.Bool.{and_parts, cases_Bool, eqb-false, eqb-true, leb-true}
 use Rattle.std.proofs.lemmas.List.{map_push, nil_from_length}
 use Rattle.star_program.specs.Code.{Stop, Then, code_size}
-use Rattle.star_program.specs.Private.Drafts.{Counts, IsAdded, IsAt, IsClosed, IsInOrder, IsPassed, IsRefused, begun, closed, finished, nothing_read, told, whole}
+use Rattle.star_program.specs.Private.Drafts.{Counts, IsAdded, IsAt, IsClosed, IsInOrder, IsLineRefused, IsPassed, begun, closed, finished, nothing_read, told, whole_draft}
 use Rattle.star_program.specs.Private.Followed.{followed}
 use Rattle.star_program.specs.Limits.{IsSmall, IsWithinLimits}
 use Rattle.star_program.specs.Text.Lines.{is_blank_line, lines_of, words_of}
-use Rattle.star_program.specs.Private.Within.{IsWithin}
-use Rattle.star_program.specs.Private.Places.{advance, after, after_in, after_step, begins_report, end_in, is_small, is_within, reached, start}
+use Rattle.star_program.specs.Private.Within.{IsWithinLargest}
+use Rattle.star_program.specs.Private.Places.{advance, after_in, begins_report, end_in, is_small, is_within, place_after, place_after_step, place_reached, start}
 use Rattle.star_program.specs.Text.Said.{said, said_in}
 use Rattle.star_program.specs.Text.Spelling.{Spells}
 use Rattle.star_program.specs.declared.group.GroupDecl.{GroupDecl}
@@ -29,11 +29,12 @@ use Rattle.star_program.proofs.Text.AddedStatements.{begun_group, begun_body, be
 
 -- ---- a statement that may stand there
 
-no_end : (b : Bool) (line : ℕ) → (if b then Some (fault.BadLine line) else Some fault.OpenScan) ≡ None → ⊥
+no_end : (b : Bool) (line : ℕ)
+    → (if b then Some (fault.BadLine line) else Some fault.OpenScan) ≡ None → ⊥
 no_end true line h = cc
 no_end false line h = cc
 
-some_depth : (p q : Place) → after_step p says.End ≡ Some q → 0 < p.depth
+some_depth : (p q : Place) → place_after_step p says.End ≡ Some q → 0 < p.depth
 some_depth p q h = elim (cases_Bool (p.depth == 0)) [
   | inl none ↦ let bad : ⊥ = let no = rw none at h in cc in absurd bad
   | inr some ↦ let other = eqb-false p.depth 0 some in omega (arith, other)
@@ -48,10 +49,12 @@ small_registers : (n : ℕ) → is_small (says.Registers n) ≡ true → n ≤ 4
 unfolding is_small
 small_registers n h = leb-true n 4096 h
 
-small_group : (place : ℕ) (group : GroupDecl) → is_small (says.Group place group) ≡ true → IsSmall group
+small_group : (place : ℕ) (group : GroupDecl) → is_small (says.Group place group) ≡ true
+    → IsSmall group
 unfolding is_small
 small_group place group h =
-    let parts : (nat_le (length group.keys) 6 ≡ true) × (nat_le (length group.aggregates) 8 ≡ true) = and_parts _ _ h in
+    let parts : (nat_le (length group.keys) 6 ≡ true)
+    × (nat_le (length group.aggregates) 8 ≡ true) = and_parts _ _ h in
     record { keys = leb-true _ _ parts.0; aggregates = leb-true _ _ parts.1 }
 
 abbrev Goes : Place → Draft → Statement → Place → Draft → Type 0
@@ -61,64 +64,132 @@ Goes p d s q e = IsAt q e × (told q.stage e ≡ told p.stage d ++ s ∷ [])
 abbrev Steps : Draft → Statement → Place → Draft → Type 0
 Steps d s q e = IsAt q e × (told q.stage e ≡ begun d ++ s ∷ [])
 
-group_goes : (g i dp sh so n : ℕ) (group : GroupDecl) (d e : Draft) (q : Place) → IsAt (place stage.Groups g i dp sh so) d → n ≡ g → place stage.Groups (g + 1) i dp sh so ≡ q
-    → IsWithin q → IsSmall group → e ≡ record d { groups = d.groups ++ group ∷ [] } → Steps d (says.Group n group) q e
+group_goes : (g i dp sh so n : ℕ) (group : GroupDecl) (d e : Draft) (q : Place)
+    → IsAt (place stage.Groups g i dp sh so) d → n ≡ g → place stage.Groups (g + 1) i dp sh so ≡ q
+    → IsWithinLargest q → IsSmall group → e ≡ record d { groups = d.groups ++ group ∷ [] }
+    → Steps d (says.Group n group) q e
 group_goes g i dp sh so n group d e q at same is within small added =
-    let told_so : begun (record d { groups = d.groups ++ group ∷ [] }) ≡ begun d ++ says.Group n group ∷ [] =
-    begun_group d group at.order.0 at.order.1 ∙ ap (λ k. begun d ++ says.Group k group ∷ []) (at.counts.1.many ∙ sym same) in
-    let there : IsWithin (place stage.Groups (g + 1) i dp sh so) = subst IsWithin (sym is) within in
-    rw (← is, added) (record { within = there; counts = counts_group g i dp sh so group d small at.counts; order = at.order }, told_so)
+    let told_so : begun (record d { groups = d.groups ++ group ∷ [] })
+    ≡ begun d ++ says.Group n group ∷ [] =
+    begun_group d group at.order.0 at.order.1
+    ∙ ap (λ k. begun d ++ says.Group k group ∷ []) (at.counts.1.many ∙ sym same) in
+    let there : IsWithinLargest (place stage.Groups (g + 1) i dp sh so) =
+    subst IsWithinLargest (sym is) within in
+    rw (← is, added) (
+      record {
+        within = there;
+        counts =
+            counts_group g i dp sh so group d small at.counts;
+        order = at.order;
+      },
+      told_so,
+    )
 
-act_goes : (g i dp sh so : ℕ) (op : Op) (d e : Draft) (q : Place) → Counts g i dp sh so d → (d.shows ≡ []) × (d.sorts ≡ []) → dp ≤ 3 → place stage.Body g (i + 1) dp sh so ≡ q
-    → IsWithin q → e ≡ record d { body = followed d.body (Then op Stop) } → Steps d (says.Act op) q e
+act_goes : (g i dp sh so : ℕ) (op : Op) (d e : Draft) (q : Place) → Counts g i dp sh so d
+    → (d.shows ≡ []) × (d.sorts ≡ []) → dp ≤ 3 → place stage.Body g (i + 1) dp sh so ≡ q
+    → IsWithinLargest q → e ≡ record d { body = followed d.body (Then op Stop) }
+    → Steps d (says.Act op) q e
 act_goes g i dp sh so op d e q counts order room is within added =
-    let there : IsWithin (place stage.Body g (i + 1) dp sh so) = subst IsWithin (sym is) within in
-    rw (← is, added) (record { within = there; counts = counts_step g i dp sh so op d room counts; order = order }, begun_body d (Then op Stop))
+    let there : IsWithinLargest (place stage.Body g (i + 1) dp sh so) =
+    subst IsWithinLargest (sym is) within in
+    rw (← is, added) (
+      record {
+        within = there;
+        counts =
+            counts_step g i dp sh so op d room counts;
+        order = order;
+      },
+      begun_body d (Then op Stop),
+    )
 
-scan_goes : (g i dp sh so : ℕ) (t : TableId) (r : ℕ) (d e : Draft) (q : Place) → Counts g i dp sh so d → (d.shows ≡ []) × (d.sorts ≡ []) → place stage.Body g (i + 1) (dp + 1) sh so ≡ q
-    → IsWithin q → e ≡ record d { scans = d.scans ++ record { before = d.body; table = t; target = r } ∷ []; body = Stop } → Steps d (says.Scan t r) q e
+scan_goes : (g i dp sh so : ℕ) (t : TableId) (r : ℕ) (d e : Draft) (q : Place)
+    → Counts g i dp sh so d → (d.shows ≡ []) × (d.sorts ≡ [])
+    → place stage.Body g (i + 1) (dp + 1) sh so ≡ q
+    → IsWithinLargest q → e ≡ record d
+    { scans = d.scans ++ record { before = d.body; table = t; target = r } ∷ []; body = Stop }
+    → Steps d (says.Scan t r) q e
 scan_goes g i dp sh so t r d e q counts order is within added =
-    let there : IsWithin (place stage.Body g (i + 1) (dp + 1) sh so) = subst IsWithin (sym is) within in
+    let there : IsWithinLargest (place stage.Body g (i + 1) (dp + 1) sh so) =
+    subst IsWithinLargest (sym is) within in
     let room : dp + 1 ≤ 3 = there.depth in
-    rw (← is, added) (record { within = there; counts = counts_scan g i dp sh so t r d room counts; order = order }, begun_scan d t r)
+    rw (← is, added) (
+      record {
+        within = there;
+        counts =
+            counts_scan g i dp sh so t r d room counts;
+        order = order;
+      },
+      begun_scan d t r,
+    )
 
-end_goes : (g i dp sh so : ℕ) (d e : Draft) (q : Place) → Counts g i dp sh so d → (d.shows ≡ []) × (d.sorts ≡ []) → place stage.Body g i (dp - 1) sh so ≡ q
-    → IsWithin q → IsClosed d e → Steps d says.End q e
+end_goes : (g i dp sh so : ℕ) (d e : Draft) (q : Place) → Counts g i dp sh so d
+    → (d.shows ≡ []) × (d.sorts ≡ []) → place stage.Body g i (dp - 1) sh so ≡ q
+    → IsWithinLargest q → IsClosed d e → Steps d says.End q e
 end_goes g i dp sh so d e q counts order is within added =
-    let there : IsWithin (place stage.Body g i (dp - 1) sh so) = subst IsWithin (sym is) within in
-    let still : (e.shows ≡ []) × (e.sorts ≡ []) = (ap (λ x. x.shows) added.body ∙ order.0, ap (λ x. x.sorts) added.body ∙ order.1) in
-    rw (← is) (record { within = there; counts = counts_end g i dp sh so d e added counts; order = still }, begun_end d e added)
+    let there : IsWithinLargest (place stage.Body g i (dp - 1) sh so) =
+    subst IsWithinLargest (sym is) within in
+    let still : (e.shows ≡ []) × (e.sorts ≡ []) =
+    (ap (λ x. x.shows) added.body ∙ order.0, ap (λ x. x.sorts) added.body ∙ order.1) in
+    rw (← is) (
+      record {
+        within = there;
+        counts = counts_end g i dp sh so d e added counts;
+        order =
+            still;
+      },
+      begun_end d e added,
+    )
 
-report_goes : (g i dp sh so n : ℕ) (d e : Draft) (q : Place) → Counts g i dp sh so d → (d.shows ≡ []) × (d.sorts ≡ []) → dp ≡ 0 → place stage.Shows g i dp sh so ≡ q
-    → IsWithin q → e ≡ record d { report = n } → Steps d (says.Report n) q e
+report_goes : (g i dp sh so n : ℕ) (d e : Draft) (q : Place) → Counts g i dp sh so d
+    → (d.shows ≡ []) × (d.sorts ≡ []) → dp ≡ 0 → place stage.Shows g i dp sh so ≡ q
+    → IsWithinLargest q → e ≡ record d { report = n } → Steps d (says.Report n) q e
 report_goes g i dp sh so n d e q counts order none is within added =
-    let there : IsWithin (place stage.Shows g i dp sh so) = subst IsWithin (sym is) within in
+    let there : IsWithinLargest (place stage.Shows g i dp sh so) =
+    subst IsWithinLargest (sym is) within in
     let closed_all : d.scans ≡ [] = nil_from_length d.scans (counts.2.open_scans ∙ none) in
-    rw (← is, added) (record { within = there; counts = counts; order = (closed_all, order.1) }, whole_report d n closed_all order.0 order.1)
+    rw (← is, added) (
+      record { within = there; counts = counts; order = (closed_all, order.1) },
+      whole_report d n closed_all order.0 order.1,
+    )
 
 -- a statement after its like, by the part of the program
-goes : (st : Stage) (g i dp sh so : ℕ) (d : Draft) (s : Statement) (q : Place) (e : Draft) → IsAt (place st g i dp sh so) d → after_in st (place st g i dp sh so) s ≡ Some q
-    → IsWithin q → is_small s ≡ true → IsAdded d s e → Goes (place st g i dp sh so) d s q e
+goes : (st : Stage) (g i dp sh so : ℕ) (d : Draft) (s : Statement) (q : Place) (e : Draft)
+    → IsAt (place st g i dp sh so) d → after_in st (place st g i dp sh so) s ≡ Some q
+    → IsWithinLargest q → is_small s ≡ true → IsAdded d s e → Goes (place st g i dp sh so) d s q e
 goes stage.Header g i dp sh so d says.Header q e at may within small added =
     let is : place stage.Registers g i dp sh so ≡ q = cc in
-    let there : IsWithin (place stage.Registers g i dp sh so) = subst IsWithin (sym is) within in
+    let there : IsWithinLargest (place stage.Registers g i dp sh so) =
+    subst IsWithinLargest (sym is) within in
     rw (← is, added) (record { within = there; counts = at.counts; order = at.order }, refl)
 goes stage.Registers g i dp sh so d (says.Registers n) q e at may within small added =
     let is : place stage.Groups g i dp sh so ≡ q = cc in
-    let there : IsWithin (place stage.Groups g i dp sh so) = subst IsWithin (sym is) within in
+    let there : IsWithinLargest (place stage.Groups g i dp sh so) =
+    subst IsWithinLargest (sym is) within in
     let order = at.order in
-    let told_so : begun (record d { registers = n }) ≡ says.Header ∷ says.Registers n ∷ [] = rw (order.0, order.1, order.2) refl in
-    rw (← is, added) (record { within = there; counts = counts_registers g i dp sh so n d (small_registers n small) at.counts; order = (order.1, order.2, order.3, order.4) }, told_so)
+    let told_so : begun (record d { registers = n }) ≡ says.Header ∷ says.Registers n ∷ [] =
+    rw (order.0, order.1, order.2) refl in
+    rw (← is, added) (
+      record {
+        within = there;
+        counts =
+            counts_registers g i dp sh so n d (small_registers n small) at.counts;
+        order =
+            (order.1, order.2, order.3, order.4);
+      },
+      told_so,
+    )
 goes stage.Groups g i dp sh so d (says.Group n group) q e at may within small added =
     elim (cases_Bool (n == g)) [
       | inl same ↦
           let there = rw same at may in
           let is : place stage.Groups (g + 1) i dp sh so ≡ q = cc in
-          group_goes g i dp sh so n group d e q at (eqb-true n g same) is within (small_group n group small) added
+          group_goes g i dp sh so n group d e q at (eqb-true n g same) is within
+          (small_group n group small) added
       | inr other ↦ let bad : ⊥ = let none = rw other at may in cc in absurd bad
     ]
 goes stage.Groups g i dp sh so d (says.Act op) q e at may within small added =
-    act_goes g i dp sh so op d e q at.counts (at.order.2, at.order.3) at.within.depth (cc) within added
+    act_goes g i dp sh so op d e q at.counts (at.order.2, at.order.3) at.within.depth (cc) within
+    added
 goes stage.Groups g i dp sh so d (says.Scan t r) q e at may within small added =
     scan_goes g i dp sh so t r d e q at.counts (at.order.2, at.order.3) (cc) within added
 goes stage.Groups g i dp sh so d says.End q e at may within small added =
@@ -132,7 +203,8 @@ goes stage.Groups g i dp sh so d (says.Report n) q e at may within small added =
     elim (cases_Bool (dp == 0)) [
       | inl none ↦
           let there = rw none at may in
-          report_goes g i dp sh so n d e q at.counts (at.order.2, at.order.3) (eqb-true dp 0 none) (cc) within added
+          report_goes g i dp sh so n d e q at.counts (at.order.2, at.order.3) (eqb-true dp 0 none)
+          (cc) within added
       | inr some ↦ let bad : ⊥ = let nowhere = rw some at may in cc in absurd bad
     ]
 goes stage.Body g i dp sh so d (says.Act op) q e at may within small added =
@@ -155,30 +227,58 @@ goes stage.Body g i dp sh so d (says.Report n) q e at may within small added =
     ]
 goes stage.Shows g i dp sh so d (says.Show show) q e at may within small added =
     let is : place stage.Shows g i dp (sh + 1) so ≡ q = cc in
-    let there : IsWithin (place stage.Shows g i dp (sh + 1) so) = subst IsWithin (sym is) within in
-    rw (← is, added) (record { within = there; counts = counts_show g i dp sh so show d at.counts; order = at.order }, whole_show d show at.order.1)
+    let there : IsWithinLargest (place stage.Shows g i dp (sh + 1) so) =
+    subst IsWithinLargest (sym is) within in
+    rw (← is, added) (
+      record {
+        within = there;
+        counts =
+            counts_show g i dp sh so show d at.counts;
+        order = at.order;
+      },
+      whole_show d show at.order.1,
+    )
 goes stage.Shows g i dp sh so d (says.Sort key) q e at may within small added =
     let is : place stage.Sorts g i dp sh 1 ≡ q = cc in
-    let there : IsWithin (place stage.Sorts g i dp sh 1) = subst IsWithin (sym is) within in
+    let there : IsWithinLargest (place stage.Sorts g i dp sh 1) =
+    subst IsWithinLargest (sym is) within in
     let none : so ≡ 0 = sym at.counts.4 ∙ ap length at.order.1 in
-    let counts : Counts g i dp sh (0 + 1) (record d { sorts = d.sorts ++ key ∷ [] }) = counts_sort g i dp sh 0 key d (rw none at at.counts) in
-    rw (← is, added) (record { within = there; counts = counts; order = at.order.0 }, whole_sort d key)
+    let counts : Counts g i dp sh (0 + 1) (record d { sorts = d.sorts ++ key ∷ [] }) =
+    counts_sort g i dp sh 0 key d (rw none at at.counts) in
+    rw (← is, added) (
+      record { within = there; counts = counts; order = at.order.0 },
+      whole_sort d key,
+    )
 goes stage.Sorts g i dp sh so d (says.Sort key) q e at may within small added =
     let is : place stage.Sorts g i dp sh (so + 1) ≡ q = cc in
-    let there : IsWithin (place stage.Sorts g i dp sh (so + 1)) = subst IsWithin (sym is) within in
-    rw (← is, added) (record { within = there; counts = counts_sort g i dp sh so key d at.counts; order = at.order }, whole_sort d key)
+    let there : IsWithinLargest (place stage.Sorts g i dp sh (so + 1)) =
+    subst IsWithinLargest (sym is) within in
+    rw (← is, added) (
+      record {
+        within = there;
+        counts =
+            counts_sort g i dp sh so key d at.counts;
+        order = at.order;
+      },
+      whole_sort d key,
+    )
 goes st g i dp sh so d s q e at may within small added = let bad : ⊥ = cc in absurd bad
 
-pub after_is : (p : Place) (s : Statement) → after p s ≡ after_in p.stage p s
-unfolding after
+pub after_is : (p : Place) (s : Statement) → place_after p s ≡ after_in p.stage p s
+unfolding place_after
 after_is p s = refl
 
-pub goes_on : (p : Place) (d : Draft) (s : Statement) (q : Place) (e : Draft) → IsAt p d → after p s ≡ Some q → IsWithin q → is_small s ≡ true → IsAdded d s e → Goes p d s q e
-goes_on p d s q e at may within small added = goes p.stage p.groups p.instructions p.depth p.shows p.sorts d s q e at (sym (after_is p s) ∙ may) within small added
+pub goes_on : (p : Place) (d : Draft) (s : Statement) (q : Place) (e : Draft) → IsAt p d
+    → place_after p s ≡ Some q → IsWithinLargest q → is_small s ≡ true → IsAdded d s e
+    → Goes p d s q e
+goes_on p d s q e at may within small added =
+    goes p.stage p.groups p.instructions p.depth p.shows p.sorts d s q e at
+    (sym (after_is p s) ∙ may) within small added
 
 -- ---- a line
 
-pub reached_ok : (p : Place) (line : ℕ) (s : Statement) (o : Option Place) (q : Place) → reached p line s o ≡ Ok q → (o ≡ Some q) × (is_within q ≡ true) × (is_small s ≡ true)
+pub reached_ok : (p : Place) (line : ℕ) (s : Statement) (o : Option Place) (q : Place)
+    → place_reached p line s o ≡ Ok q → (o ≡ Some q) × (is_within q ≡ true) × (is_small s ≡ true)
 reached_ok p line s None q h = let bad : ⊥ = cc in absurd bad
 reached_ok p line s (Some r) q h = elim (cases_Bool (is_within r && is_small s)) [
   | inl small ↦
@@ -192,24 +292,33 @@ reached_ok p line s (Some r) q h = elim (cases_Bool (is_within r && is_small s))
 abbrev pub opens_report : Place → List ℕ → Bool
 opens_report p text = nat_lt 0 p.depth && begins_report (words_of text)
 
-pub advance_ok : (p : Place) (line : ℕ) (text : List ℕ) (s : Statement) (q : Place) → said text ≡ Some s → advance p line text ≡ Ok q → reached p line s (after p s) ≡ Ok q
+pub advance_ok : (p : Place) (line : ℕ) (text : List ℕ) (s : Statement) (q : Place)
+    → said text ≡ Some s → advance p line text ≡ Ok q
+    → place_reached p line s (place_after p s) ≡ Ok q
 unfolding advance
 advance_ok p line text s q is h = elim (cases_Bool (opens_report p text)) [
   | inl report ↦ let bad : ⊥ = let no = rw report at h in cc in absurd bad
   | inr other ↦ rw (other, is) at h
 ]
 
-said_more : (p : Place) (d : Draft) (s : Statement) (q : Place) (e : Draft) (text : List ℕ) (texts : List (List ℕ)) → is_blank_line text ≡ false → said text ≡ Some s
-    → told q.stage e ≡ told p.stage d ++ s ∷ [] → map Some (told p.stage d) ++ said_in (text ∷ texts) ≡ map Some (told q.stage e) ++ said_in texts
+said_more : (p : Place) (d : Draft) (s : Statement) (q : Place) (e : Draft) (text : List ℕ)
+    (texts : List (List ℕ)) → is_blank_line text ≡ false → said text ≡ Some s
+    → told q.stage e ≡ told p.stage d ++ s ∷ []
+    → map Some (told p.stage d) ++ said_in (text ∷ texts)
+    ≡ map Some (told q.stage e) ++ said_in texts
 said_more p d s q e text texts filled is more =
-    let all : map Some (told q.stage e) ≡ map Some (told p.stage d) ++ Some s ∷ [] = ap (map Some) more ∙ map_push Some (told p.stage d) s in
-    rw (filled, is, all) (sym (append_assoc (map Some (told p.stage d)) (Some s ∷ []) (said_in texts)))
+    let all : map Some (told q.stage e) ≡ map Some (told p.stage d) ++ Some s ∷ [] =
+    ap (map Some) more ∙ map_push Some (told p.stage d) s in
+    rw (filled, is, all) (sym
+    (append_assoc (map Some (told p.stage d)) (Some s ∷ []) (said_in texts)))
 
 -- a line whose statement was added
-pub line_passed : (p : Place) (d : Draft) (line : ℕ) (text : List ℕ) (s : Statement) (q : Place) (e : Draft) → is_blank_line text ≡ false → IsAt p d → said text ≡ Some s
+pub line_passed : (p : Place) (d : Draft) (line : ℕ) (text : List ℕ) (s : Statement) (q : Place)
+    (e : Draft) → is_blank_line text ≡ false → IsAt p d → said text ≡ Some s
     → advance p line text ≡ Ok q → IsAdded d s e → IsPassed p d line text q e
 line_passed p d line text s q e filled at is goes_there added =
-    let reaches = reached_ok p line s (after p s) q (advance_ok p line text s q is goes_there) in
+    let reaches = reached_ok p line s (place_after p s) q
+    (advance_ok p line text s q is goes_there) in
     let next = goes_on p d s q e at reaches.0 (within_from q reaches.1) reaches.2 added in
     record {
       at = next.0;
@@ -217,7 +326,8 @@ line_passed p d line text s q e filled at is goes_there added =
       says = λ texts. said_more p d s q e text texts filled is next.1;
     }
 
-pub blank_passed : (p : Place) (d : Draft) (line : ℕ) (text : List ℕ) → is_blank_line text ≡ true → IsAt p d → IsPassed p d line text p d
+pub blank_passed : (p : Place) (d : Draft) (line : ℕ) (text : List ℕ) → is_blank_line text ≡ true
+    → IsAt p d → IsPassed p d line text p d
 blank_passed p d line text blank at = record {
   at = at;
   faults = λ texts. blank_line p line text texts blank;
@@ -225,10 +335,13 @@ blank_passed p d line text blank at = record {
 }
 
 -- the end of a scan is reached in one alone
-pub end_opened : (p : Place) (d : Draft) (line : ℕ) (text : List ℕ) (s : Statement) (q : Place) → IsAt p d → said text ≡ Some s → advance p line text ≡ Ok q → s ≡ says.End → 0 < length d.scans
+pub end_opened : (p : Place) (d : Draft) (line : ℕ) (text : List ℕ) (s : Statement) (q : Place)
+    → IsAt p d → said text ≡ Some s → advance p line text ≡ Ok q → s ≡ says.End → 0 < length d.scans
 end_opened p d line text s q at is goes_there end =
-    let reaches = reached_ok p line s (after p s) q (advance_ok p line text s q is goes_there) in
-    let may : after_in p.stage p says.End ≡ Some q = sym (after_is p says.End) ∙ ap (after p) (sym end) ∙ reaches.0 in
+    let reaches = reached_ok p line s (place_after p s) q
+    (advance_ok p line text s q is goes_there) in
+    let may : after_in p.stage p says.End ≡ Some q =
+    sym (after_is p says.End) ∙ ap (place_after p) (sym end) ∙ reaches.0 in
     let some : 0 < p.depth = ends_some p.stage p q may in
     omega (arith, at.counts.2.open_scans, some)
 
@@ -253,7 +366,8 @@ unfolding start
 nothing_told = refl
 
 -- only the parts below the report end a text
-ended_in : (st : Stage) (depth line : ℕ) (d : Draft) → IsInOrder st d → end_in st depth line ≡ None → (d.scans ≡ []) × (told st d ≡ whole d)
+ended_in : (st : Stage) (depth line : ℕ) (d : Draft) → IsInOrder st d → end_in st depth line ≡ None
+    → (d.scans ≡ []) × (told st d ≡ whole_draft d)
 ended_in stage.Header depth line d order h = let bad : ⊥ = cc in absurd bad
 ended_in stage.Registers depth line d order h = let bad : ⊥ = cc in absurd bad
 ended_in stage.Groups depth line d order h = let bad : ⊥ = no_end (depth == 0) line h in absurd bad
@@ -261,7 +375,8 @@ ended_in stage.Body depth line d order h = let bad : ⊥ = no_end (depth == 0) l
 ended_in stage.Shows depth line d order h = (order.0, refl)
 ended_in stage.Sorts depth line d order h = (order, refl)
 
-pub end_within : (p : Place) (d : Draft) (line : ℕ) → IsAt p d → end_in p.stage p.depth line ≡ None → IsWithinLimits (finished d)
+pub end_within : (p : Place) (d : Draft) (line : ℕ) → IsAt p d → end_in p.stage p.depth line ≡ None
+    → IsWithinLimits (finished d)
 end_within p d line at h =
     let last = ended_in p.stage p.depth line d at.order h in
     let counts = at.counts in
@@ -277,13 +392,18 @@ end_within p d line at h =
       sorts = omega (arith, counts.4, at.within.sorts);
     }
 
-pub end_spelled : (p : Place) (d : Draft) (line : ℕ) (text : List ℕ) → IsAt p d → end_in p.stage p.depth line ≡ None → said_in (lines_of text) ≡ map Some (told p.stage d) → Spells text (finished d)
+pub end_spelled : (p : Place) (d : Draft) (line : ℕ) (text : List ℕ) → IsAt p d
+    → end_in p.stage p.depth line ≡ None → said_in (lines_of text) ≡ map Some (told p.stage d)
+    → Spells text (finished d)
 unfolding Spells
 end_spelled p d line text at h all =
     let last = ended_in p.stage p.depth line d at.order h in
     all ∙ ap (map Some) (last.1 ∙ sym (program_said (finished d)))
 
 -- a line that was refused
-pub line_refused : (p : Place) (line : ℕ) (text : List ℕ) (f : TextFault) → is_blank_line text ≡ false → (f ≡ fault.OutOfMemory) ⊎ (advance p line text ≡ Err f) → IsRefused f p line text
+pub line_refused : (p : Place) (line : ℕ) (text : List ℕ) (f : TextFault)
+    → is_blank_line text ≡ false → (f ≡ fault.OutOfMemory) ⊎ (advance p line text ≡ Err f)
+    → IsLineRefused f p line text
 line_refused p line text f filled (inl memory) = inl memory
-line_refused p line text f filled (inr refusal) = inr (λ texts. refused p line text texts f filled refusal)
+line_refused p line text f filled (inr refusal) =
+    inr (λ texts. refused p line text texts f filled refusal)

@@ -6,8 +6,10 @@ use Rattle.std.proofs.lemmas.List.Sums.{fails_before_first}
 use Rattle.std.proofs.Common.{inl, inr}
 
 -- where no place passes, each fails
-pub position-None : (p : ℕ → Bool) (xs : List ℕ) (d : ℕ) → position p xs ≡ None → (k : ℕ) → k < length xs → p (get_or xs k d) ≡ false
+pub position-None : (p : ℕ → Bool) (xs : List ℕ) (d : ℕ) → position p xs ≡ None → (k : ℕ)
+    → k < length xs → p (get_or xs k d) ≡ false
 position-None p xs d none k within = elim (cases_Bool (ltb (position_or_len p xs) (length xs))) [
   | inl there ↦ let bad : Some (position_or_len p xs) ≡ None = rw there at none in cc
-  | inr past ↦ let all : length xs ≤ position_or_len p xs = ltb-false _ _ past in fails_before_first p xs k d (omega arith)
+  | inr past ↦ let all : length xs ≤ position_or_len p xs = ltb-false _ _ past in
+      fails_before_first p xs k d (omega arith)
 ]

@@ -1,5 +1,5 @@
 -- The words of a written line, and what each is read as.
-use Rattle.std.specs.Prelude.{decimal, filter, nat_le, not, ℤ, pos, negsuc}
+use Rattle.std.specs.Prelude.{decimal, filter, nat_le, nat_lt, not, ℤ, pos, negsuc}
 use Rattle.std.proofs.Common.{◌≡◌, ◌==◌, ◌&&◌, ◌||◌, ◌<◌, ◌≤◌, ◌^◌, ◌∙◌, ◌∷◌, ◌++◌, [], ℕ, suc, Bool, true, false, List, Some, None, append_assoc, append-nil, length, arith, ap, refl, sym, inl, inr, lit<, lit≤}
 use Rattle.std.specs.Cmp.Lexicographic.{bytes_decides}
 use Rattle.std.specs.Char.{is_ascii_digit}
@@ -7,13 +7,14 @@ use Rattle.std.specs.Fmt.{signed_decimal}
 use Rattle.std.specs.List.{flat_map, list_all}
 use Rattle.std.specs.Option.{option_map}
 use Rattle.std.specs.Str.Parse.{AllDigits, starts_with_minus}
-use Rattle.std.proofs.lemmas.Bool.{and_parts, cases_Bool, eqb-false, eqb-true, le-leb, leb-true, ne_eqb}
+use Rattle.std.proofs.lemmas.Bool.{and_parts, cases_Bool, eqb-false, eqb-true, le-leb, leb-true, ltb-true, ne_eqb}
 use Rattle.std.proofs.lemmas.Fmt.{decimal_is_IsNumeral, length-decimal-le}
 use Rattle.std.proofs.lemmas.List.Folds.{list_all-append}
 use Rattle.std.proofs.lemmas.Str.Parse.{digit_at}
+use Rattle.star_interval.specs.Range.{is_i64}
 use Rattle.star_schema.specs.Records.{is_filled, with_first}
 use Rattle.star_schema.specs.Schema.{column_name, column_of as schema_column, table_name}
-use Rattle.star_schema.specs.Tables.{is_printable}
+use Rattle.star_common.specs.Printable.{is_printable}
 use Rattle.star_schema.specs.declared.column.ColumnId.{ColumnId}
 use Rattle.star_schema.specs.declared.column.ColumnId.TheVariants.{DDatekey}
 use Rattle.star_schema.specs.declared.table.TableId.{TableId}
@@ -30,7 +31,7 @@ use Rattle.star_program.specs.Text.Lines.{pieces_of, words_of}
 use Rattle.star_common.specs.Numerals.{numeral_of}
 use Rattle.star_program.specs.Text.Numerals.{constant_of, count_of, is_show_name, is_name_byte, register_of}
 use Rattle.star_program.specs.Text.Said.{quoted_text_of, unquoted}
-use Rattle.star_program.specs.Text.Spellable.{IsConstant, IsPrinted, HasFourDigits}
+use Rattle.star_program.specs.Text.Spellable.{IsPrinted, HasFourDigits}
 use Rattle.star_common.specs.Quotes.{doubled, quoted}
 use Rattle.star_program.specs.declared.op.Edge.TheVariants as edge
 use Rattle.star_program.specs.declared.op.Operator.TheVariants as operator
@@ -65,7 +66,8 @@ word_byte_plain b h =
 
 word_byte_printable : (b : ℕ) → is_word_byte b ≡ true → is_printable b ≡ true
 word_byte_printable b h =
-    let parts = and_parts (nat_le 33 b) (nat_le b 126) (and_parts (nat_le 33 b && nat_le b 126) (not (b == 39)) h).0 in
+    let parts = and_parts (nat_le 33 b) (nat_le b 126)
+    (and_parts (nat_le 33 b && nat_le b 126) (not (b == 39)) h).0 in
     let low : 33 ≤ b = leb-true 33 b parts.0 in
     rw (le-leb 32 b (omega arith), parts.1) refl
 
@@ -75,14 +77,17 @@ bytes_printable (b ∷ w) h =
     let parts = and_parts (is_word_byte b) (list_all is_word_byte w) h in
     rw (word_byte_printable b parts.0) (bytes_printable w parts.1)
 
-word_parts : (w : List ℕ) → is_word w ≡ true → (is_filled w ≡ true) × (list_all is_word_byte w ≡ true)
+word_parts : (w : List ℕ) → is_word w ≡ true
+    → (is_filled w ≡ true) × (list_all is_word_byte w ≡ true)
 word_parts w h = and_parts (is_filled w) (list_all is_word_byte w) h
 
-piece_cut : (w rest : List ℕ) → list_all is_word_byte w ≡ true → pieces_of (w ++ 32 ∷ rest) ≡ w ∷ pieces_of rest
+piece_cut : (w rest : List ℕ) → list_all is_word_byte w ≡ true
+    → pieces_of (w ++ 32 ∷ rest) ≡ w ∷ pieces_of rest
 piece_cut [] rest h = piece_ends rest
 piece_cut (b ∷ w) rest h =
     let parts = and_parts (is_word_byte b) (list_all is_word_byte w) h in
-    piece_on b (w ++ 32 ∷ rest) (word_byte_plain b parts.0) ∙ ap (with_first b) (piece_cut w rest parts.1)
+    piece_on b (w ++ 32 ∷ rest) (word_byte_plain b parts.0)
+    ∙ ap (with_first b) (piece_cut w rest parts.1)
 
 piece_whole : (w : List ℕ) → list_all is_word_byte w ≡ true → pieces_of w ≡ w ∷ []
 piece_whole [] h = no_pieces
@@ -93,14 +98,16 @@ piece_whole (b ∷ w) h =
 word_cut : (w rest : List ℕ) → is_word w ≡ true → words_of (w ++ 32 ∷ rest) ≡ w ∷ words_of rest
 word_cut w rest h =
     let parts = word_parts w h in
-    words_are (w ++ 32 ∷ rest) ∙ ap (filter is_filled) (piece_cut w rest parts.1) ∙ filtered_first w (pieces_of rest) parts.0 ∙ ap (λ ws. w ∷ ws) (sym (words_are rest))
+    words_are (w ++ 32 ∷ rest) ∙ ap (filter is_filled) (piece_cut w rest parts.1)
+    ∙ filtered_first w (pieces_of rest) parts.0 ∙ ap (λ ws. w ∷ ws) (sym (words_are rest))
 
 word_whole : (w : List ℕ) → is_word w ≡ true → words_of w ≡ w ∷ []
 word_whole w h =
     let parts = word_parts w h in
     words_are w ∙ ap (filter is_filled) (piece_whole w parts.1) ∙ filtered_first w [] parts.0
 
-pub words_behind : (w : List ℕ) (ws : List (List ℕ)) → is_word w ≡ true → list_all is_word ws ≡ true → words_of (w ++ behind ws) ≡ w ∷ ws
+pub words_behind : (w : List ℕ) (ws : List (List ℕ)) → is_word w ≡ true → list_all is_word ws ≡ true
+    → words_of (w ++ behind ws) ≡ w ∷ ws
 words_behind w [] h all = rw append-nil (word_whole w h)
 words_behind w (v ∷ ws) h all =
     let parts = and_parts (is_word v) (list_all is_word ws) all in
@@ -110,22 +117,31 @@ quoted_words : (q : List ℕ) → words_of (39 ∷ q) ≡ (39 ∷ q) ∷ []
 quoted_words q = words_are (39 ∷ q) ∙ ap (filter is_filled) (piece_quoted q)
 
 -- the last word is a text in quotes
-pub words_before_quote : (w : List ℕ) (ws : List (List ℕ)) (q : List ℕ) → is_word w ≡ true → list_all is_word ws ≡ true
+pub words_before_quote : (w : List ℕ) (ws : List (List ℕ)) (q : List ℕ) → is_word w ≡ true
+    → list_all is_word ws ≡ true
     → words_of (w ++ (behind ws ++ 32 ∷ 39 ∷ q)) ≡ w ∷ (ws ++ (39 ∷ q) ∷ [])
 words_before_quote w [] q h all = word_cut w (39 ∷ q) h ∙ ap (λ vs. w ∷ vs) (quoted_words q)
 words_before_quote w (v ∷ ws) q h all =
     let parts = and_parts (is_word v) (list_all is_word ws) all in
-    let regrouped : w ++ (behind (v ∷ ws) ++ 32 ∷ 39 ∷ q) ≡ w ++ 32 ∷ (v ++ (behind ws ++ 32 ∷ 39 ∷ q)) = ap (λ t. w ++ 32 ∷ t) (append_assoc v (behind ws) (32 ∷ 39 ∷ q)) in
-    ap words_of regrouped ∙ word_cut w (v ++ (behind ws ++ 32 ∷ 39 ∷ q)) h ∙ ap (λ vs. w ∷ vs) (words_before_quote v ws q parts.0 parts.1)
+    let regrouped : w ++ (behind (v ∷ ws) ++ 32 ∷ 39 ∷ q)
+    ≡ w ++ 32 ∷ (v ++ (behind ws ++ 32 ∷ 39 ∷ q)) =
+    ap (λ t. w ++ 32 ∷ t) (append_assoc v (behind ws) (32 ∷ 39 ∷ q)) in
+    ap words_of regrouped ∙ word_cut w (v ++ (behind ws ++ 32 ∷ 39 ∷ q)) h
+    ∙ ap (λ vs. w ∷ vs) (words_before_quote v ws q parts.0 parts.1)
 
-behind_printable : (ws : List (List ℕ)) → list_all is_word ws ≡ true → list_all is_printable (behind ws) ≡ true
+behind_printable : (ws : List (List ℕ)) → list_all is_word ws ≡ true
+    → list_all is_printable (behind ws) ≡ true
 behind_printable [] h = refl
 behind_printable (w ∷ ws) h =
     let parts = and_parts (is_word w) (list_all is_word ws) h in
-    rw (list_all-append is_printable w (behind ws), bytes_printable w (word_parts w parts.0).1) (behind_printable ws parts.1)
+    rw (list_all-append is_printable w (behind ws), bytes_printable w (word_parts w parts.0).1)
+    (behind_printable ws parts.1)
 
-pub words_printable : (w : List ℕ) (ws : List (List ℕ)) → is_word w ≡ true → list_all is_word ws ≡ true → list_all is_printable (w ++ behind ws) ≡ true
-words_printable w ws h all = rw (list_all-append is_printable w (behind ws), bytes_printable w (word_parts w h).1) (behind_printable ws all)
+pub words_printable : (w : List ℕ) (ws : List (List ℕ)) → is_word w ≡ true
+    → list_all is_word ws ≡ true → list_all is_printable (w ++ behind ws) ≡ true
+words_printable w ws h all =
+    rw (list_all-append is_printable w (behind ws), bytes_printable w (word_parts w h).1)
+    (behind_printable ws all)
 
 -- ---- numbers
 
@@ -140,9 +156,14 @@ digit_word_byte d h =
     let parts = and_parts (nat_le 48 d) (nat_le d 57) h in
     let low : 48 ≤ d = leb-true 48 d parts.0 in
     let high : d ≤ 57 = leb-true d 57 parts.1 in
-    rw (le-leb 33 d (omega arith), le-leb d 126 (omega arith), ne_eqb d 39 (λ e. absurd (omega arith))) refl
+    rw (
+      le-leb 33 d (omega arith),
+      le-leb d 126 (omega arith),
+      ne_eqb d 39 (λ e. absurd (omega arith)),
+    ) refl
 
-digits_word_bytes : (ds : List ℕ) → list_all is_ascii_digit ds ≡ true → list_all is_word_byte ds ≡ true
+digits_word_bytes : (ds : List ℕ) → list_all is_ascii_digit ds ≡ true
+    → list_all is_word_byte ds ≡ true
 digits_word_bytes [] h = refl
 digits_word_bytes (d ∷ ds) h =
     let parts = and_parts (is_ascii_digit d) (list_all is_ascii_digit ds) h in
@@ -152,13 +173,19 @@ decimal_digits : (n : ℕ) → n < 2 ^ 64 → list_all is_ascii_digit (decimal n
 decimal_digits n small = digits_all (decimal n) (decimal_is_IsNumeral n small).0.1
 
 pub decimal_word : (n : ℕ) → n < 2 ^ 64 → is_word (decimal n) ≡ true
-decimal_word n small = rw (filled_whole (decimal n) (decimal_is_IsNumeral n small).0.0, digits_word_bytes (decimal n) (decimal_digits n small)) refl
+decimal_word n small = rw (
+  filled_whole (decimal n) (decimal_is_IsNumeral n small).0.0,
+  digits_word_bytes (decimal n) (decimal_digits n small),
+) refl
 
-numeral_decimal : (places n : ℕ) → 0 < places → n < 10 ^ places → n < 2 ^ 64 → numeral_of places (decimal n) ≡ Some n
+numeral_decimal : (places n : ℕ) → 0 < places → n < 10 ^ places → n < 2 ^ 64
+    → numeral_of places (decimal n) ≡ Some n
 numeral_decimal places n some short small =
     let numeral = decimal_is_IsNumeral n small in
-    let least : nat_le 1 (length (decimal n)) ≡ true = le-leb 1 (length (decimal n)) (omega (arith, numeral.0.0)) in
-    let most : nat_le (length (decimal n)) places ≡ true = le-leb (length (decimal n)) places (length-decimal-le places n some short small) in
+    let least : nat_le 1 (length (decimal n)) ≡ true =
+    le-leb 1 (length (decimal n)) (omega (arith, numeral.0.0)) in
+    let most : nat_le (length (decimal n)) places ≡ true =
+    le-leb (length (decimal n)) places (length-decimal-le places n some short small) in
     let digits : list_all is_ascii_digit (decimal n) ≡ true = decimal_digits n small in
     rw (least, most, digits) (ap Some numeral.1)
 
@@ -167,7 +194,8 @@ short_below n h = let big : 9999 < 2 ^ 64 = lit< tt in omega arith
 
 pub count_decimal : (n : ℕ) → HasFourDigits n → count_of (decimal n) ≡ Some n
 unfolding count_of
-count_decimal n h = let big : 9999 < 10 ^ 4 = lit< tt in numeral_decimal 4 n (lit< tt) (omega arith) (short_below n h)
+count_decimal n h = let big : 9999 < 10 ^ 4 = lit< tt in
+    numeral_decimal 4 n (lit< tt) (omega arith) (short_below n h)
 
 pub count_word : (n : ℕ) → HasFourDigits n → is_word (decimal n) ≡ true
 count_word n h = decimal_word n (short_below n h)
@@ -188,7 +216,9 @@ keyword_none : (ds : List ℕ) → list_all is_ascii_digit ds ≡ true → keywo
 unfolding keyword_of keyword_name
 keyword_none [] h = refl
 keyword_none (d ∷ ds) h =
-    let high : d ≤ 57 = leb-true d 57 (and_parts (nat_le 48 d) (nat_le d 57) (and_parts (is_ascii_digit d) (list_all is_ascii_digit ds) h).0).1 in
+    let high : d ≤ 57 = leb-true d 57
+    (and_parts (nat_le 48 d) (nat_le d 57)
+    (and_parts (is_ascii_digit d) (list_all is_ascii_digit ds) h).0).1 in
     let other : (101 == d) ≡ false = ne_eqb 101 d (λ e. absurd (omega arith)) in
     rw other refl
 
@@ -198,7 +228,9 @@ register_no_keyword r h = keyword_none (decimal r) (decimal_digits r (short_belo
 first_digit : (ds : List ℕ) → list_all is_ascii_digit ds ≡ true → starts_with_minus ds ≡ false
 first_digit [] h = refl
 first_digit (d ∷ ds) h =
-    let low : 48 ≤ d = leb-true 48 d (and_parts (nat_le 48 d) (nat_le d 57) (and_parts (is_ascii_digit d) (list_all is_ascii_digit ds) h).0).0 in
+    let low : 48 ≤ d = leb-true 48 d
+    (and_parts (nat_le 48 d) (nat_le d 57)
+    (and_parts (is_ascii_digit d) (list_all is_ascii_digit ds) h).0).0 in
     ne_eqb d 45 (λ e. absurd (omega arith))
 
 constant_below : (n : ℕ) → n ≤ 9223372036854775808 → (n < 10 ^ 19) × (n < 2 ^ 64)
@@ -207,26 +239,40 @@ constant_below n h =
     let b : 9223372036854775808 < 2 ^ 64 = lit< tt in
     (omega (arith, a), omega (arith, b))
 
-pub constant_decimal : (z : ℤ) → IsConstant z → constant_of (signed_decimal z) ≡ Some z
-unfolding constant_of
-constant_decimal (pos n) h =
+-- how far a number of 64 bits lies from zero
+below_i64 : (n : ℕ) → nat_lt n (2 ^ 63) ≡ true → n ≤ 9223372036854775807
+below_i64 n i = let below = ltb-true n (2 ^ 63) i in omega (arith, below)
+
+pub constant_decimal : (z : ℤ) → is_i64 z ≡ true → constant_of (signed_decimal z) ≡ Some z
+unfolding constant_of is_i64
+constant_decimal (pos n) i =
+    let h : n ≤ 9223372036854775807 = below_i64 n i in
     let top : 9223372036854775807 ≤ 9223372036854775808 = lit≤ tt in
     let small = constant_below n (omega (arith, top, h)) in
-    let plain : starts_with_minus (decimal n) ≡ false = first_digit (decimal n) (decimal_digits n small.1) in
-    let number : numeral_of 19 (decimal n) ≡ Some n = numeral_decimal 19 n (lit< tt) small.0 small.1 in
+    let plain : starts_with_minus (decimal n) ≡ false =
+    first_digit (decimal n) (decimal_digits n small.1) in
+    let number : numeral_of 19 (decimal n) ≡ Some n =
+    numeral_decimal 19 n (lit< tt) small.0 small.1 in
     let fits : nat_le n 9223372036854775807 ≡ true = le-leb n 9223372036854775807 h in
     rw (plain, number, fits) refl
-constant_decimal (negsuc n) h =
+constant_decimal (negsuc n) i =
+    let h : n ≤ 9223372036854775807 = below_i64 n i in
     let top : 9223372036854775808 ≡ suc 9223372036854775807 = refl in
     let within : suc n ≤ 9223372036854775808 = omega (arith, h) in
     let small = constant_below (suc n) within in
-    let number : numeral_of 19 (decimal (suc n)) ≡ Some (suc n) = numeral_decimal 19 (suc n) (lit< tt) small.0 small.1 in
-    let fits : nat_le (suc n) 9223372036854775808 ≡ true = le-leb (suc n) 9223372036854775808 within in
+    let number : numeral_of 19 (decimal (suc n)) ≡ Some (suc n) =
+    numeral_decimal 19 (suc n) (lit< tt) small.0 small.1 in
+    let fits : nat_le (suc n) 9223372036854775808 ≡ true =
+    le-leb (suc n) 9223372036854775808 within in
     rw (number, fits) refl
 
-pub constant_word : (z : ℤ) → IsConstant z → is_word (signed_decimal z) ≡ true
-constant_word (pos n) h = let top : 9223372036854775807 ≤ 9223372036854775808 = lit≤ tt in decimal_word n (constant_below n (omega (arith, top, h))).1
-constant_word (negsuc n) h =
+pub constant_word : (z : ℤ) → is_i64 z ≡ true → is_word (signed_decimal z) ≡ true
+unfolding is_i64
+constant_word (pos n) i = let h : n ≤ 9223372036854775807 = below_i64 n i in
+    let top : 9223372036854775807 ≤ 9223372036854775808 = lit≤ tt in
+    decimal_word n (constant_below n (omega (arith, top, h))).1
+constant_word (negsuc n) i =
+    let h : n ≤ 9223372036854775807 = below_i64 n i in
     let within : suc n ≤ 9223372036854775808 = omega (arith, h) in
     digits_word_bytes (decimal (suc n)) (decimal_digits (suc n) (constant_below (suc n) within).1)
 
@@ -242,9 +288,11 @@ column_word DDatekey = refl
 column_word _ = refl
 
 -- no column has a fixed word's name
-pub column_apart : (c : ColumnId) (word : List ℕ) → column_of_word word ≡ None → same (column_name c) word ≡ false
+pub column_apart : (c : ColumnId) (word : List ℕ) → column_of_word word ≡ None
+    → same (column_name c) word ≡ false
 column_apart c word none = elim (cases_Bool (same (column_name c) word)) [
-  | inl is ↦ let found : column_of_word word ≡ Some c = rw (same_word (column_name c) word is) at (column_read c) in let bad : ⊥ = cc in absurd bad
+  | inl is ↦ let found : column_of_word word ≡ Some c =
+      rw (same_word (column_name c) word is) at (column_read c) in let bad : ⊥ = cc in absurd bad
   | inr other ↦ other
 ]
   where
@@ -337,11 +385,14 @@ doubled_read [] = last_quote_read
 doubled_read (b ∷ text) = elim (cases_Bool (b == 39)) [
   | inl quote ↦
       let is : b ≡ 39 = eqb-true b 39 quote in
-      let rest : unquoted (39 ∷ 39 ∷ (flat_map doubled text ++ 39 ∷ [])) ≡ Some (39 ∷ text) = two_quotes (flat_map doubled text ++ 39 ∷ []) ∙ ap (option_map (λ t. 39 ∷ t)) (doubled_read text) in
+      let rest : unquoted (39 ∷ 39 ∷ (flat_map doubled text ++ 39 ∷ [])) ≡ Some (39 ∷ text) =
+      two_quotes (flat_map doubled text ++ 39 ∷ [])
+      ∙ ap (option_map (λ t. 39 ∷ t)) (doubled_read text) in
       rw is rest
   | inr plain ↦
       let rest : unquoted (b ∷ (flat_map doubled text ++ 39 ∷ [])) ≡ Some (b ∷ text) =
-      plain_byte b (flat_map doubled text ++ 39 ∷ []) (eqb-false b 39 plain) ∙ ap (option_map (λ t. b ∷ t)) (doubled_read text) in
+      plain_byte b (flat_map doubled text ++ 39 ∷ []) (eqb-false b 39 plain)
+      ∙ ap (option_map (λ t. b ∷ t)) (doubled_read text) in
       rw plain rest
 ]
 
@@ -349,7 +400,8 @@ pub quoted_read : (text : List ℕ) → quoted_text_of (quoted text) ≡ Some te
 unfolding quoted
 quoted_read text = doubled_read text
 
-doubled_printable : (text : List ℕ) → IsPrinted text → list_all is_printable (flat_map doubled text ++ 39 ∷ []) ≡ true
+doubled_printable : (text : List ℕ) → IsPrinted text
+    → list_all is_printable (flat_map doubled text ++ 39 ∷ []) ≡ true
 doubled_printable [] h = refl
 doubled_printable (b ∷ text) h =
     let parts = and_parts (is_printable b) (list_all is_printable text) h in
@@ -363,7 +415,13 @@ pub quoted_printable : (text : List ℕ) → IsPrinted text → list_all is_prin
 unfolding quoted
 quoted_printable text h = doubled_printable text h
 
-pub quote_printable : (w : List ℕ) (ws : List (List ℕ)) (q : List ℕ) → is_word w ≡ true → list_all is_word ws ≡ true → list_all is_printable q ≡ true
+pub quote_printable : (w : List ℕ) (ws : List (List ℕ)) (q : List ℕ) → is_word w ≡ true
+    → list_all is_word ws ≡ true → list_all is_printable q ≡ true
     → list_all is_printable (w ++ (behind ws ++ 32 ∷ q)) ≡ true
 quote_printable w ws q h all printable =
-    rw (list_all-append is_printable w (behind ws ++ 32 ∷ q), list_all-append is_printable (behind ws) (32 ∷ q), bytes_printable w (word_parts w h).1, behind_printable ws all) printable
+    rw (
+      list_all-append is_printable w (behind ws ++ 32 ∷ q),
+      list_all-append is_printable (behind ws) (32 ∷ q),
+      bytes_printable w (word_parts w h).1,
+      behind_printable ws all,
+    ) printable

@@ -23,19 +23,23 @@ unfolding words_of pieces_of
 space_first line = refl
 
 -- a line of spaces has no word
-pub spaces_alone : (line : List ℕ) → ((j : ℕ) → j < length line → not (get_or line j 0 == 32) ≡ false) → words_of line ≡ []
+pub spaces_alone : (line : List ℕ)
+    → ((j : ℕ) → j < length line → not (get_or line j 0 == 32) ≡ false) → words_of line ≡ []
 spaces_alone [] spaces = no_words
 spaces_alone (b ∷ line) spaces =
     let space : b ≡ 32 = eqb-true b 32 (not-false (b == 32) (spaces 0 (omega arith))) in
     rw space (space_first line ∙ spaces_alone line (λ j h. spaces (suc j) (omega arith)))
 
 -- spaces before the first word don't count
-pub after_spaces : (line : List ℕ) (k : ℕ) → k < length line → ((j : ℕ) → j < k → not (get_or line j 0 == 32) ≡ false) → words_of line ≡ words_of (drop k line)
+pub after_spaces : (line : List ℕ) (k : ℕ) → k < length line
+    → ((j : ℕ) → j < k → not (get_or line j 0 == 32) ≡ false)
+    → words_of line ≡ words_of (drop k line)
 after_spaces [] k within spaces = absurd (omega arith)
 after_spaces (b ∷ line) zero within spaces = refl
 after_spaces (b ∷ line) (suc k) within spaces =
     let space : b ≡ 32 = eqb-true b 32 (not-false (b == 32) (spaces 0 (omega arith))) in
-    rw space (space_first line ∙ after_spaces line k (omega arith) (λ j h. spaces (suc j) (omega arith)))
+    rw space (space_first line
+    ∙ after_spaces line k (omega arith) (λ j h. spaces (suc j) (omega arith)))
 
 pub no_pieces : pieces_of [] ≡ [] ∷ []
 unfolding pieces_of
@@ -53,29 +57,40 @@ second : (x y : Bool) → x ≡ false → (x || y) ≡ true → y ≡ true
 second true y h either = let bad : true ≡ false = h in cc
 second false y h either = either
 
-pub piece_on : (b : ℕ) (line : List ℕ) → ((b == 32) || (b == 39)) ≡ false → pieces_of (b ∷ line) ≡ with_first b (pieces_of line)
+pub piece_on : (b : ℕ) (line : List ℕ) → ((b == 32) || (b == 39)) ≡ false
+    → pieces_of (b ∷ line) ≡ with_first b (pieces_of line)
 unfolding pieces_of
 piece_on b line plain =
     let both = or_parts (b == 32) (b == 39) plain in
     rw (both.1, both.0) refl
 
-cut_piece : (line : List ℕ) (k : ℕ) → k < length line → (get_or line k 0 == 32) ≡ true → ((j : ℕ) → j < k → ((get_or line j 0 == 32) || (get_or line j 0 == 39)) ≡ false)
+cut_piece : (line : List ℕ) (k : ℕ) → k < length line → (get_or line k 0 == 32) ≡ true
+    → ((j : ℕ) → j < k → ((get_or line j 0 == 32) || (get_or line j 0 == 39)) ≡ false)
     → pieces_of line ≡ take k line ∷ pieces_of (drop (suc k) line)
 cut_piece [] k within at before = absurd (omega arith)
 cut_piece (b ∷ line) zero within at before = rw (eqb-true b 32 at) (piece_ends line)
 cut_piece (b ∷ line) (suc k) within at before =
-    piece_on b line (before 0 (omega arith)) ∙ ap (with_first b) (cut_piece line k (omega arith) at (λ j h. before (suc j) (omega arith)))
+    piece_on b line (before 0 (omega arith))
+    ∙ ap (with_first b) (cut_piece line k (omega arith) at
+    (λ j h. before (suc j) (omega arith)))
 
-quoted_piece : (line : List ℕ) (k : ℕ) → k < length line → (get_or line k 0 == 39) ≡ true → ((j : ℕ) → j < k → ((get_or line j 0 == 32) || (get_or line j 0 == 39)) ≡ false)
+quoted_piece : (line : List ℕ) (k : ℕ) → k < length line → (get_or line k 0 == 39) ≡ true
+    → ((j : ℕ) → j < k → ((get_or line j 0 == 32) || (get_or line j 0 == 39)) ≡ false)
     → pieces_of line ≡ line ∷ []
 quoted_piece [] k within at before = absurd (omega arith)
 quoted_piece (b ∷ line) zero within at before = rw (eqb-true b 39 at) (piece_quoted line)
 quoted_piece (b ∷ line) (suc k) within at before =
-    piece_on b line (before 0 (omega arith)) ∙ ap (with_first b) (quoted_piece line k (omega arith) at (λ j h. before (suc j) (omega arith)))
+    piece_on b line (before 0 (omega arith))
+    ∙ ap (with_first b) (quoted_piece line k (omega arith) at
+    (λ j h. before (suc j) (omega arith)))
 
-open_piece : (line : List ℕ) → ((j : ℕ) → j < length line → ((get_or line j 0 == 32) || (get_or line j 0 == 39)) ≡ false) → pieces_of line ≡ line ∷ []
+open_piece : (line : List ℕ)
+    → ((j : ℕ) → j < length line → ((get_or line j 0 == 32) || (get_or line j 0 == 39)) ≡ false)
+    → pieces_of line ≡ line ∷ []
 open_piece [] before = no_pieces
-open_piece (b ∷ line) before = piece_on b line (before 0 (omega arith)) ∙ ap (with_first b) (open_piece line (λ j h. before (suc j) (omega arith)))
+open_piece (b ∷ line) before =
+    piece_on b line (before 0 (omega arith))
+    ∙ ap (with_first b) (open_piece line (λ j h. before (suc j) (omega arith)))
 
 filled_front : (line : List ℕ) (k : ℕ) → 0 < k → k < length line → is_filled (take k line) ≡ true
 filled_front [] k some within = absurd (omega arith)
@@ -86,26 +101,35 @@ pub filled_whole : (line : List ℕ) → 0 < length line → is_filled line ≡ 
 filled_whole [] some = absurd (omega arith)
 filled_whole (b ∷ line) some = refl
 
-pub filtered_first : (word : List ℕ) (others : List (List ℕ)) → is_filled word ≡ true → filter is_filled (word ∷ others) ≡ word ∷ filter is_filled others
+pub filtered_first : (word : List ℕ) (others : List (List ℕ)) → is_filled word ≡ true
+    → filter is_filled (word ∷ others) ≡ word ∷ filter is_filled others
 filtered_first word others filled = rw filled refl
 
 -- a word that a space ends
-pub cut_word : (line : List ℕ) (k : ℕ) → 0 < k → k < length line → (get_or line k 0 == 32) ≡ true → ((j : ℕ) → j < k → ((get_or line j 0 == 32) || (get_or line j 0 == 39)) ≡ false)
+pub cut_word : (line : List ℕ) (k : ℕ) → 0 < k → k < length line → (get_or line k 0 == 32) ≡ true
+    → ((j : ℕ) → j < k → ((get_or line j 0 == 32) || (get_or line j 0 == 39)) ≡ false)
     → words_of line ≡ take k line ∷ words_of (drop (suc k) line)
 cut_word line k some within at before =
-    words_are line ∙ ap (filter is_filled) (cut_piece line k within at before) ∙ filtered_first (take k line) (pieces_of (drop (suc k) line)) (filled_front line k some within)
+    words_are line ∙ ap (filter is_filled) (cut_piece line k within at before)
+    ∙ filtered_first (take k line) (pieces_of (drop (suc k) line))
+    (filled_front line k some within)
     ∙ ap (λ ws. take k line ∷ ws) (sym (words_are (drop (suc k) line)))
 
 -- a word that has a quote
-pub quoted_word : (line : List ℕ) (k : ℕ) → k < length line → (get_or line k 0 == 39) ≡ true → ((j : ℕ) → j < k → ((get_or line j 0 == 32) || (get_or line j 0 == 39)) ≡ false)
+pub quoted_word : (line : List ℕ) (k : ℕ) → k < length line → (get_or line k 0 == 39) ≡ true
+    → ((j : ℕ) → j < k → ((get_or line j 0 == 32) || (get_or line j 0 == 39)) ≡ false)
     → words_of line ≡ line ∷ []
 quoted_word line k within at before =
-    words_are line ∙ ap (filter is_filled) (quoted_piece line k within at before) ∙ filtered_first line [] (filled_whole line (omega arith))
+    words_are line ∙ ap (filter is_filled) (quoted_piece line k within at before)
+    ∙ filtered_first line [] (filled_whole line (omega arith))
 
 -- a word that ends the line
-pub last_word : (line : List ℕ) → 0 < length line → ((j : ℕ) → j < length line → ((get_or line j 0 == 32) || (get_or line j 0 == 39)) ≡ false) → words_of line ≡ line ∷ []
+pub last_word : (line : List ℕ) → 0 < length line
+    → ((j : ℕ) → j < length line → ((get_or line j 0 == 32) || (get_or line j 0 == 39)) ≡ false)
+    → words_of line ≡ line ∷ []
 last_word line some before =
-    words_are line ∙ ap (filter is_filled) (open_piece line before) ∙ filtered_first line [] (filled_whole line some)
+    words_are line ∙ ap (filter is_filled) (open_piece line before)
+    ∙ filtered_first line [] (filled_whole line some)
 
 -- ---- the first word of a line, by where it starts and where it ends
 
@@ -116,34 +140,48 @@ abbrev stops_word : ℕ → Bool
 stops_word b = (b == 32) || (b == 39)
 
 -- the first byte of the rest is no space
-first_byte : (line : List ℕ) (start : ℕ) (rest : List ℕ) → position starts_word line ≡ Some start → rest ≡ drop start line
+first_byte : (line : List ℕ) (start : ℕ) (rest : List ℕ) → position starts_word line ≡ Some start
+    → rest ≡ drop start line
     → (words_of line ≡ words_of rest) × (0 < length rest) × ((get_or rest 0 0 == 32) ≡ false)
 first_byte line start rest found is =
     let at = position-Some starts_word line start 0 found in
-    let there : get_or rest 0 0 ≡ get_or line start 0 = ap (λ l. get_or l 0 0) is ∙ get_or-drop start line 0 0 ∙ ap (λ k. get_or line k 0) (add-zero start) in (
+    let there : get_or rest 0 0 ≡ get_or line start 0 =
+    ap (λ l. get_or l 0 0) is ∙ get_or-drop start line 0 0
+    ∙ ap (λ k. get_or line k 0) (add-zero start) in (
       after_spaces line start at.0 at.2 ∙ ap words_of (sym is),
       omega (arith, ap length is, length-drop start line, at.0),
       not-true (get_or rest 0 0 == 32) (ap starts_word there ∙ at.1),
     )
 
-pub first_last : (line : List ℕ) (start : ℕ) (rest : List ℕ) → position starts_word line ≡ Some start → rest ≡ drop start line → position stops_word rest ≡ None
+pub first_last : (line : List ℕ) (start : ℕ) (rest : List ℕ)
+    → position starts_word line ≡ Some start → rest ≡ drop start line
+    → position stops_word rest ≡ None
     → words_of line ≡ rest ∷ words_of []
 first_last line start rest found is none =
     let first = first_byte line start rest found is in
-    first.0 ∙ last_word rest first.1 (position-None stops_word rest 0 none) ∙ ap (λ ws. rest ∷ ws) (sym no_words)
+    first.0 ∙ last_word rest first.1 (position-None stops_word rest 0 none)
+    ∙ ap (λ ws. rest ∷ ws) (sym no_words)
 
-pub first_cut : (line : List ℕ) (start : ℕ) (rest : List ℕ) (end : ℕ) → position starts_word line ≡ Some start → rest ≡ drop start line → position stops_word rest ≡ Some end
+pub first_cut : (line : List ℕ) (start : ℕ) (rest : List ℕ) (end : ℕ)
+    → position starts_word line ≡ Some start → rest ≡ drop start line
+    → position stops_word rest ≡ Some end
     → get_or rest end 0 ≡ 32 → words_of line ≡ take end rest ∷ words_of (drop (suc end) rest)
-first_cut line start rest zero found is stop space = absurd (eqb-false (get_or rest 0 0) 32 (first_byte line start rest found is).2 space)
+first_cut line start rest zero found is stop space =
+    absurd (eqb-false (get_or rest 0 0) 32 (first_byte line start rest found is).2 space)
 first_cut line start rest (suc end) found is stop space =
     let first = first_byte line start rest found is in
     let at = position-Some stops_word rest (suc end) 0 stop in
-    first.0 ∙ cut_word rest (suc end) (omega arith) at.0 (eq-eqb (get_or rest (suc end) 0) 32 space) at.2
+    first.0 ∙ cut_word rest (suc end) (omega arith) at.0 (eq-eqb (get_or rest (suc end) 0) 32 space)
+    at.2
 
-pub first_quoted : (line : List ℕ) (start : ℕ) (rest : List ℕ) (end : ℕ) → position starts_word line ≡ Some start → rest ≡ drop start line → position stops_word rest ≡ Some end
+pub first_quoted : (line : List ℕ) (start : ℕ) (rest : List ℕ) (end : ℕ)
+    → position starts_word line ≡ Some start → rest ≡ drop start line
+    → position stops_word rest ≡ Some end
     → get_or rest end 0 ≢ 32 → words_of line ≡ rest ∷ words_of []
 first_quoted line start rest end found is stop other =
     let first = first_byte line start rest found is in
     let at = position-Some stops_word rest end 0 stop in
-    let quote : (get_or rest end 0 == 39) ≡ true = second (get_or rest end 0 == 32) (get_or rest end 0 == 39) (ne_eqb (get_or rest end 0) 32 other) at.1 in
+    let quote : (get_or rest end 0 == 39) ≡ true =
+    second (get_or rest end 0 == 32) (get_or rest end 0 == 39)
+    (ne_eqb (get_or rest end 0) 32 other) at.1 in
     first.0 ∙ quoted_word rest end at.0 quote at.2 ∙ ap (λ ws. rest ∷ ws) (sym no_words)

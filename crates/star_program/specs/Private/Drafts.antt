@@ -4,8 +4,8 @@ use Rattle.star_common.specs.Memory.{UnlessMemory}
 use Rattle.star_program.specs.Code.{Code, Stop, Then, Each, code_size, scan_depth}
 use Rattle.star_program.specs.Private.Followed.{followed}
 use Rattle.star_program.specs.Limits.{IsSmall}
-use Rattle.star_program.specs.Private.Within.{IsWithin}
-use Rattle.star_program.specs.Private.Places.{fault_from}
+use Rattle.star_program.specs.Private.Within.{IsWithinLargest}
+use Rattle.star_program.specs.Private.Places.{lines_fault}
 use Rattle.star_program.specs.Text.Said.{said_in}
 use Rattle.star_program.specs.declared.group.GroupDecl.{GroupDecl}
 use Rattle.star_program.specs.declared.program.Parts.{Parts}
@@ -43,8 +43,8 @@ abbrev pub begun : Draft → List Statement
 begun d = says.Header ∷ says.Registers d.registers ∷ (groups_say 0 d.groups ++ (opens_say d.scans ++ code_says d.body))
 
 -- up to the end
-abbrev pub whole : Draft → List Statement
-whole d =
+abbrev pub whole_draft : Draft → List Statement
+whole_draft d =
     says.Header ∷ says.Registers d.registers
     ∷ (groups_say 0 d.groups ++ (code_says d.body ++ says.Report d.report ∷ (map says.Show d.shows ++ map says.Sort d.sorts)))
 
@@ -53,8 +53,8 @@ told stage.Header d = []
 told stage.Registers d = says.Header ∷ []
 told stage.Groups d = begun d
 told stage.Body d = begun d
-told stage.Shows d = whole d
-told stage.Sorts d = whole d
+told stage.Shows d = whole_draft d
+told stage.Sorts d = whole_draft d
 
 -- ---- one statement more
 
@@ -96,7 +96,7 @@ IsInOrder stage.Shows d = (d.scans ≡ []) × (d.sorts ≡ [])
 IsInOrder stage.Sorts d = d.scans ≡ []
 
 -- so many groups, each of them small
-pub record AreGroups (count : ℕ) (groups : List GroupDecl) : Type 0 where
+pub record AreSmallGroups (count : ℕ) (groups : List GroupDecl) : Type 0 where
   pub many : length groups ≡ count
   pub each : All IsSmall groups
 
@@ -109,23 +109,23 @@ pub record IsBody (instructions depth : ℕ) (scans : List OpenScan) (body : Cod
 -- how many of each kind the draft has, and that they are small
 abbrev pub Counts : ℕ → ℕ → ℕ → ℕ → ℕ → Draft → Type 0
 Counts groups instructions depth shows sorts d =
-    (d.registers ≤ 4096) × AreGroups groups d.groups × IsBody instructions depth d.scans d.body
+    (d.registers ≤ 4096) × AreSmallGroups groups d.groups × IsBody instructions depth d.scans d.body
     × (length d.shows ≡ shows) × (length d.sorts ≡ sorts)
 
 pub record IsAt (p : Place) (d : Draft) : Type 0 where
-  pub within : IsWithin p
+  pub within : IsWithinLargest p
   pub counts : Counts p.groups p.instructions p.depth p.shows p.sorts d
   pub order : IsInOrder p.stage d
 
 -- a line was read: the place and the draft after it
 pub record IsPassed (p : Place) (d : Draft) (line : ℕ) (text : List ℕ) (q : Place) (e : Draft) : Type 0 where
   pub at : IsAt q e
-  pub faults : (texts : List (List ℕ)) → fault_from p line (text ∷ texts) ≡ fault_from q (line + 1) texts
+  pub faults : (texts : List (List ℕ)) → lines_fault p line (text ∷ texts) ≡ lines_fault q (line + 1) texts
   pub says : (texts : List (List ℕ)) → map Some (told p.stage d) ++ said_in (text ∷ texts) ≡ map Some (told q.stage e) ++ said_in texts
 
 -- a line was refused: there was no memory, or whatever follows it, its fault is the first of the text
-abbrev pub IsRefused : TextFault → Place → ℕ → List ℕ → Type 0
-IsRefused f p line text = UnlessMemory fault.OutOfMemory f ((texts : List (List ℕ)) → fault_from p line (text ∷ texts) ≡ Some f)
+abbrev pub IsLineRefused : TextFault → Place → ℕ → List ℕ → Type 0
+IsLineRefused f p line text = UnlessMemory fault.OutOfMemory f ((texts : List (List ℕ)) → lines_fault p line (text ∷ texts) ≡ Some f)
 
 -- the program that a draft is when its text has ended
 abbrev pub finished : Draft → Parts

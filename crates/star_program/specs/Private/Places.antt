@@ -17,27 +17,27 @@ unfoldable pub start : Place
 start = record { stage = stage.Header; groups = 0; instructions = 0; depth = 0; shows = 0; sorts = 0 }
 
 -- after an instruction, the line or the end of a scan, or the report after the last scan
-abbrev pub after_step : Place → Statement → Option Place
-after_step p (says.Act op) = Some (record p { stage = stage.Body; instructions = p.instructions + 1 })
-after_step p (says.Scan table t) = Some (record p { stage = stage.Body; instructions = p.instructions + 1; depth = p.depth + 1 })
-after_step p says.End = if p.depth == 0 then None else Some (record p { depth = p.depth - 1 })
-after_step p (says.Report g) = if p.depth == 0 then Some (record p { stage = stage.Shows }) else None
-after_step p s = None
+abbrev pub place_after_step : Place → Statement → Option Place
+place_after_step p (says.Act op) = Some (record p { stage = stage.Body; instructions = p.instructions + 1 })
+place_after_step p (says.Scan table t) = Some (record p { stage = stage.Body; instructions = p.instructions + 1; depth = p.depth + 1 })
+place_after_step p says.End = if p.depth == 0 then None else Some (record p { depth = p.depth - 1 })
+place_after_step p (says.Report g) = if p.depth == 0 then Some (record p { stage = stage.Shows }) else None
+place_after_step p s = None
 
 -- after a statement in a part of the program, if it may stand there: groups are numbered in order
 abbrev pub after_in : Stage → Place → Statement → Option Place
 after_in stage.Header p says.Header = Some (record p { stage = stage.Registers })
 after_in stage.Registers p (says.Registers n) = Some (record p { stage = stage.Groups })
 after_in stage.Groups p (says.Group place group) = if place == p.groups then Some (record p { groups = p.groups + 1 }) else None
-after_in stage.Groups p s = after_step p s
-after_in stage.Body p s = after_step p s
+after_in stage.Groups p s = place_after_step p s
+after_in stage.Body p s = place_after_step p s
 after_in stage.Shows p (says.Show show) = Some (record p { shows = p.shows + 1 })
 after_in stage.Shows p (says.Sort key) = Some (record p { stage = stage.Sorts; sorts = 1 })
 after_in stage.Sorts p (says.Sort key) = Some (record p { sorts = p.sorts + 1 })
 after_in s p t = None
 
-unfoldable pub after : Place → Statement → Option Place
-after p s = after_in p.stage p s
+unfoldable pub place_after : Place → Statement → Option Place
+place_after p s = after_in p.stage p s
 
 -- the limits of a program, as far as a place tells them
 unfoldable pub is_within : Place → Bool
@@ -58,13 +58,13 @@ abbrev pub begins_report : List (List ℕ) → Bool
 begins_report [] = false
 begins_report (w ∷ ws) = same w (codes "report")
 
-abbrev pub reached : Place → ℕ → Statement → Option Place → Result Place TextFault
-reached p line s None = Err (bad_in p.stage line)
-reached p line s (Some q) = if is_within q && is_small s then Ok q else Err (fault.TooLarge line)
+abbrev pub place_reached : Place → ℕ → Statement → Option Place → Result Place TextFault
+place_reached p line s None = Err (bad_in p.stage line)
+place_reached p line s (Some q) = if is_within q && is_small s then Ok q else Err (fault.TooLarge line)
 
 abbrev pub reached_by : Place → ℕ → Option Statement → Result Place TextFault
 reached_by p line None = Err (bad_in p.stage line)
-reached_by p line (Some s) = reached p line s (after p s)
+reached_by p line (Some s) = place_reached p line s (place_after p s)
 
 -- the place after a line of this number, or its fault: a report in a scan, then a line that may not stand there, then a limit
 unfoldable pub advance : Place → ℕ → List ℕ → Result Place TextFault
@@ -83,16 +83,16 @@ then_from (Err f) go = Some f
 then_from (Ok p) go = go p
 
 -- the first fault of lines that count from a number; blank ones count and are skipped
-unfoldable pub fault_from : Place → ℕ → List (List ℕ) → Option TextFault
-fault_from p line [] = end_in p.stage p.depth line
-fault_from p line (text ∷ texts) =
-    if is_blank_line text then fault_from p (line + 1) texts
-    else then_from (advance p line text) (λ q. fault_from q (line + 1) texts)
+unfoldable pub lines_fault : Place → ℕ → List (List ℕ) → Option TextFault
+lines_fault p line [] = end_in p.stage p.depth line
+lines_fault p line (text ∷ texts) =
+    if is_blank_line text then lines_fault p (line + 1) texts
+    else then_from (advance p line text) (λ q. lines_fault q (line + 1) texts)
 
 -- the first fault of a text that spells no program within the limits
-unfoldable pub text_fault : List ℕ → Option TextFault
-text_fault text = fault_from start 1 (lines_of text)
+unfoldable pub program_text_fault : List ℕ → Option TextFault
+program_text_fault text = lines_fault start 1 (lines_of text)
 
 -- there was no memory, or this is the first fault of the text
 abbrev pub IsRefusedText : List ℕ → TextFault → Type 0
-IsRefusedText text f = UnlessMemory fault.OutOfMemory f (text_fault text ≡ Some f)
+IsRefusedText text f = UnlessMemory fault.OutOfMemory f (program_text_fault text ≡ Some f)

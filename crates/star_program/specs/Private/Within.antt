@@ -2,7 +2,7 @@
 use Rattle.std.specs.Prelude.{◌≤◌}
 use Rattle.star_program.specs.declared.spelling.place.Place.{Place}
 
-pub record IsWithin (p : Place) : Type 0 where
+pub record IsWithinLargest (p : Place) : Type 0 where
   pub groups : p.groups ≤ 8
   pub instructions : p.instructions ≤ 4096
   pub depth : p.depth ≤ 3

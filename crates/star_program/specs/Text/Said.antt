@@ -2,7 +2,7 @@
 use Rattle.std.specs.Prelude.{ℕ, ◌==◌, ◌&&◌, if◌then◌else◌, List, [], ◌∷◌, Option, Some, None, codes, filter, map, not}
 use Rattle.std.specs.List.{list_all}
 use Rattle.std.specs.Option.{option_and_then, option_map}
-use Rattle.star_schema.specs.Tables.{is_printable}
+use Rattle.star_common.specs.Printable.{is_printable}
 use Rattle.star_schema.specs.declared.column.ColumnId.{ColumnId}
 use Rattle.star_schema.specs.declared.group.GroupColumn.{GroupColumn}
 use Rattle.star_schema.specs.declared.group.GroupColumn.TheVariants as column
@@ -39,16 +39,16 @@ only_word [] = None
 only_word (w ∷ []) = Some w
 only_word (w ∷ v ∷ ws) = None
 
-abbrev pub one : {A : Type 0} → (List ℕ → Option A) → List (List ℕ) → Option A
-one f ws = option_and_then f (only_word ws)
+abbrev pub from_one_word : {A : Type 0} → (List ℕ → Option A) → List (List ℕ) → Option A
+from_one_word f ws = option_and_then f (only_word ws)
 
-abbrev pub two : {A B : Type 0} → (List ℕ → Option A) → (List ℕ → Option B) → List (List ℕ) → Option (A × B)
-two f g [] = None
-two f g (w ∷ ws) = both (f w) (one g ws)
+abbrev pub from_two_words : {A B : Type 0} → (List ℕ → Option A) → (List ℕ → Option B) → List (List ℕ) → Option (A × B)
+from_two_words f g [] = None
+from_two_words f g (w ∷ ws) = both (f w) (from_one_word g ws)
 
-abbrev pub three : {A B C : Type 0} → (List ℕ → Option A) → (List ℕ → Option B) → (List ℕ → Option C) → List (List ℕ) → Option (A × (B × C))
-three f g h [] = None
-three f g h (w ∷ ws) = both (f w) (two g h ws)
+abbrev pub from_three_words : {A B C : Type 0} → (List ℕ → Option A) → (List ℕ → Option B) → (List ℕ → Option C) → List (List ℕ) → Option (A × (B × C))
+from_three_words f g h [] = None
+from_three_words f g h (w ∷ ws) = both (f w) (from_two_words g h ws)
 
 -- each word
 abbrev pub each : {A : Type 0} → (List ℕ → Option A) → List (List ℕ) → Option (List A)
@@ -86,14 +86,14 @@ quoted_text_of (b ∷ rest) = if b == 39 then unquoted rest else None
 
 -- an operation, by the words behind its own
 unfoldable pub operation_of : Mnemonic → List (List ℕ) → Option Operation
-operation_of mnemonic.Const ws = option_map operation.Const (one constant_of ws)
-operation_of (mnemonic.Edge e) ws = option_map (λ (c, text). operation.Edge e c text) (two column_of_word quoted_text_of ws)
-operation_of mnemonic.Load ws = option_map (λ (c, row). operation.Load c row) (two column_of_word register_of ws)
-operation_of mnemonic.Find ws = option_map (λ (table, k). operation.Find table k) (two table_of_word register_of ws)
-operation_of (mnemonic.Binary o) ws = option_map (λ (a, b). operation.Binary o a b) (two register_of register_of ws)
-operation_of mnemonic.Within ws = option_map (λ (x, (a, b)). operation.Within x a b) (three register_of register_of register_of ws)
-operation_of mnemonic.Not ws = option_map operation.Not (one register_of ws)
-operation_of mnemonic.Read ws = option_map (λ (g, (a, n)). operation.Read g a n) (three count_of count_of constant_of ws)
+operation_of mnemonic.Const ws = option_map operation.Const (from_one_word constant_of ws)
+operation_of (mnemonic.Edge e) ws = option_map (λ (c, text). operation.Edge e c text) (from_two_words column_of_word quoted_text_of ws)
+operation_of mnemonic.Load ws = option_map (λ (c, row). operation.Load c row) (from_two_words column_of_word register_of ws)
+operation_of mnemonic.Find ws = option_map (λ (table, k). operation.Find table k) (from_two_words table_of_word register_of ws)
+operation_of (mnemonic.Binary o) ws = option_map (λ (a, b). operation.Binary o a b) (from_two_words register_of register_of ws)
+operation_of mnemonic.Within ws = option_map (λ (x, (a, b)). operation.Within x a b) (from_three_words register_of register_of register_of ws)
+operation_of mnemonic.Not ws = option_map operation.Not (from_one_word register_of ws)
+operation_of mnemonic.Read ws = option_map (λ (g, (a, n)). operation.Read g a n) (from_three_words count_of count_of constant_of ws)
 
 -- what follows the register that an instruction writes: an equals sign, an operation's word, operands
 abbrev pub assigned : ℕ → List (List ℕ) → Option Op
@@ -145,7 +145,7 @@ show_of (name ∷ word ∷ ws) = option_map (λ (n, c). record { name = n; colum
 abbrev pub sort_of : List (List ℕ) → Option SortKey
 sort_of [] = None
 sort_of (word ∷ []) = None
-sort_of (word ∷ place ∷ ws) = option_map (λ (c, d). record { column = c; direction = d }) (both (group_column_of word place) (one direction_of ws))
+sort_of (word ∷ place ∷ ws) = option_map (λ (c, d). record { column = c; direction = d }) (both (group_column_of word place) (from_one_word direction_of ws))
 
 abbrev pub header_of : List (List ℕ) → Option Statement
 header_of [] = None
@@ -158,13 +158,13 @@ end_of (w ∷ ws) = None
 -- what follows a keyword
 unfoldable pub by_keyword : Keyword → List (List ℕ) → Option Statement
 by_keyword keyword.Star ws = header_of ws
-by_keyword keyword.Registers ws = option_map says.Registers (one count_of ws)
+by_keyword keyword.Registers ws = option_map says.Registers (from_one_word count_of ws)
 by_keyword keyword.Group ws = group_of ws
-by_keyword keyword.Keep ws = option_map (λ f. says.Act (op.Keep f)) (one register_of ws)
+by_keyword keyword.Keep ws = option_map (λ f. says.Act (op.Keep f)) (from_one_word register_of ws)
 by_keyword keyword.Put ws = option_map says.Act (put_of ws)
-by_keyword keyword.Scan ws = option_map (λ (table, t). says.Scan table t) (two table_of_word register_of ws)
+by_keyword keyword.Scan ws = option_map (λ (table, t). says.Scan table t) (from_two_words table_of_word register_of ws)
 by_keyword keyword.End ws = end_of ws
-by_keyword keyword.Report ws = option_map says.Report (one count_of ws)
+by_keyword keyword.Report ws = option_map says.Report (from_one_word count_of ws)
 by_keyword keyword.Show ws = option_map says.Show (show_of ws)
 by_keyword keyword.Sort ws = option_map says.Sort (sort_of ws)
 

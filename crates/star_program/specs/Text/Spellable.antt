@@ -1,7 +1,8 @@
 -- Which programs a text can spell.
-use Rattle.std.specs.Prelude.{◌≡◌, ◌≤◌, ℕ, ℤ, List, All, negsuc, pos, true}
+use Rattle.std.specs.Prelude.{◌≡◌, ◌≤◌, ℕ, List, All, true}
 use Rattle.std.specs.List.{list_all}
-use Rattle.star_schema.specs.Tables.{is_printable}
+use Rattle.star_common.specs.Printable.{is_printable}
+use Rattle.star_interval.specs.Range.{is_i64}
 use Rattle.star_schema.specs.declared.group.GroupColumn.{GroupColumn}
 use Rattle.star_schema.specs.declared.group.GroupColumn.TheVariants as column
 use Rattle.star_program.specs.World.{is_text}
@@ -22,11 +23,6 @@ use Rattle.star_program.specs.declared.spelling.statement.Statement.TheVariants 
 abbrev pub HasFourDigits : ℕ → Type 0
 HasFourDigits n = n ≤ 9999
 
--- a constant has 64 bits
-abbrev pub IsConstant : ℤ → Type 0
-IsConstant (pos n) = n ≤ 9223372036854775807
-IsConstant (negsuc n) = n ≤ 9223372036854775807
-
 -- a text has printable bytes alone
 abbrev pub IsPrinted : List ℕ → Type 0
 IsPrinted text = list_all is_printable text ≡ true
@@ -41,14 +37,14 @@ IsKey key.Number = Unit {0}
 IsKey (key.Text c) = is_text c ≡ true
 
 abbrev pub IsSpellableOperation : Operation → Type 0
-IsSpellableOperation (operation.Const n) = IsConstant n
+IsSpellableOperation (operation.Const n) = is_i64 n ≡ true
 IsSpellableOperation (operation.Edge e c text) = IsPrinted text
 IsSpellableOperation (operation.Load c row) = HasFourDigits row
 IsSpellableOperation (operation.Find table k) = HasFourDigits k
 IsSpellableOperation (operation.Binary o a b) = HasFourDigits a × HasFourDigits b
 IsSpellableOperation (operation.Within x a b) = HasFourDigits x × HasFourDigits a × HasFourDigits b
 IsSpellableOperation (operation.Not f) = HasFourDigits f
-IsSpellableOperation (operation.Read g a n) = HasFourDigits g × HasFourDigits a × IsConstant n
+IsSpellableOperation (operation.Read g a n) = HasFourDigits g × HasFourDigits a × (is_i64 n ≡ true)
 
 abbrev pub IsSpellableOp : Op → Type 0
 IsSpellableOp (op.Assign t o) = HasFourDigits t × IsSpellableOperation o

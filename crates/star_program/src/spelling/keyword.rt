@@ -1,7 +1,6 @@
 // The fixed words of a program.
 
-ghost use Rattle.std.specs.Prelude.{◌≡◌, ℕ, List, Some, find, nat_eq};
-ghost use Rattle.std.specs.Cmp.Lexicographic.{pointwise};
+ghost use Rattle.std.specs.Prelude.{◌≡◌, Some, find};
 ghost use Rattle.star_program.specs.Text.Keywords as spec;
 
 use crate::op::{Edge, Operator};

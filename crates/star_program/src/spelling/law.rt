@@ -1,7 +1,7 @@
 // What holds of all texts.
 
 ghost use Rattle.std.specs.Prelude.{◌≡◌, ◌↔◌, ℕ, List, Some};
-ghost use Rattle.star_program.specs.Private.Places.{text_fault};
+ghost use Rattle.star_program.specs.Private.Places.{program_text_fault};
 ghost use Rattle.star_program.specs.declared.spelling.fault.TextFault.{TextFault};
 ghost use Rattle.star_program.specs.Text.Spellable.{OnlySpellable, Written, WrittenBack};
 ghost use Rattle.star_program.specs.Text.FirstFaults.{FaultOrProgram, FirstTextFault, NeverBoth, OneFault};
@@ -23,7 +23,7 @@ pub fn texts_without_a_fault_spell_programs()
 /// The parser's own account of a text, from line to line, tells just its first fault.
 fn lines_tell_the_first_fault()
     ensures { (text : List ℕ) (fault : TextFault)
-        → (text_fault text ≡ Some fault) ↔ FirstTextFault text fault }
+        → (program_text_fault text ≡ Some fault) ↔ FirstTextFault text fault }
 {}
 
 /// The text of a program spells it where some text does: where each of its statements can be said.

@@ -8,7 +8,7 @@ ghost use Rattle.star_program.specs.Text.Numerals as spec;
 
 use star_common::numeral_value;
 
-// The number that 1 to so many digits write.
+// The number that 1 to `places` digits write.
 fn numeral(places: usize, word: &[u8]) -> Option<u64>
     requires { places ≤ 19 }
     ensures value { result ≡ numeral_of places word.now }

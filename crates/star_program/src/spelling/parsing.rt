@@ -25,7 +25,7 @@ fn take_statement(
     requires at { spec.IsAt place draft.old }
     requires filled { blank text.now ≡ false }
     ensures { MatchResult result (λ next. spec.IsPassed place draft.old line text.now next
-        draft.new) (λ fault. spec.IsRefused fault place line text.now) }
+        draft.new) (λ fault. spec.IsLineRefused fault place line text.now) }
 {
     match advance(alloc, place, line, text) {
         Ok((next, statement)) => {
@@ -46,7 +46,7 @@ fn take_line(
 ) -> Result<Place, TextFault>
     requires { spec.IsAt place draft.old }
     ensures { MatchResult result (λ next. spec.IsPassed place draft.old line text.now next
-        draft.new) (λ fault. spec.IsRefused fault place line text.now) }
+        draft.new) (λ fault. spec.IsLineRefused fault place line text.now) }
 {
     if is_blank(text) {
         Ok(place)

@@ -2,7 +2,7 @@
 
 ghost use Rattle.std.specs.Prelude.{◌≡◌, Ok, Err, Some, MatchResult};
 ghost use Rattle.star_common.specs.Memory.{UnlessMemory};
-ghost use Rattle.star_program.specs.Private.Within.{IsWithin};
+ghost use Rattle.star_program.specs.Private.Within.{IsWithinLargest};
 ghost use Rattle.star_program.specs.Text.Lines.{words_of};
 ghost use Rattle.star_program.specs.Text.Said.{said};
 ghost use Rattle.star_program.specs.Private.Places as spec;
@@ -60,8 +60,8 @@ impl Place {
 
     // The place after a line of the body.
     fn after_step(self, statement: &Statement) -> Option<Place>
-        requires { IsWithin self }
-        ensures { result ≡ spec.after_step self statement.now }
+        requires { IsWithinLargest self }
+        ensures { result ≡ spec.place_after_step self statement.now }
     {
         match statement {
             Statement::Act(_) => Some(Place {
@@ -88,10 +88,10 @@ impl Place {
     }
 
     // The place after a line, if it may stand here: groups are numbered in order.
-    #[tactic(auto, unfolding(crate::specs::Private::Places::after))]
+    #[tactic(auto, unfolding(crate::specs::Private::Places::place_after))]
     fn after(self, statement: &Statement) -> Option<Place>
-        requires { IsWithin self }
-        ensures { result ≡ spec.after self statement.now }
+        requires { IsWithinLargest self }
+        ensures { result ≡ spec.place_after self statement.now }
     {
         match (self.stage, statement) {
             (Stage::Header, Statement::Header) => Some(Place {
@@ -193,8 +193,8 @@ fn begins_report(line: &[u8]) -> bool
 
 // The place after a statement, or its fault.
 fn reach(place: Place, line: usize, statement: &Statement) -> Result<Place, TextFault>
-    requires { IsWithin place }
-    ensures { result ≡ spec.reached place line statement.now (spec.after place statement.now) }
+    requires { IsWithinLargest place }
+    ensures { result ≡ spec.place_reached place line statement.now (spec.place_after place statement.now) }
 {
     match place.after(statement) {
         Some(next) => {
@@ -216,7 +216,7 @@ pub(crate) fn advance(
     line: usize,
     text: &[u8],
 ) -> Result<(Place, Statement), TextFault>
-    requires { IsWithin place }
+    requires { IsWithinLargest place }
     ensures { MatchResult result
         (λ (next, statement). (said text.now ≡ Some statement)
         × (spec.advance place line text.now ≡ Ok next))

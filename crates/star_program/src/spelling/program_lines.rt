@@ -17,7 +17,7 @@ use crate::spelling::writing::{
 use star_schema::{SortKey, TableId};
 use std::alloc::{AllocError, Global};
 
-// Adds two spaces for each scan round a line.
+// Adds two spaces for each scan around a line.
 fn push_indent(out: &mut Vec<u8>, depth: u8) -> Result<(), AllocError>
     ensures { OnOk result (out.new.items ≡ out.old.items ++ replicate (2 * depth) 32) }
 {

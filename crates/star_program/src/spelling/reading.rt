@@ -1,9 +1,7 @@
 // What a line of a program says, read word by word.
 
 ghost use Rattle.std.specs.Prelude.{◌≡◌, ◌≢◌, ◌∷◌, [], None, Some, MatchOption, MatchResult, length};
-ghost use Rattle.std.specs.List.{list_all};
 ghost use Rattle.std.specs.Option.{option_copied, option_map};
-ghost use Rattle.star_schema.specs.Tables.{is_printable as printable};
 ghost use Rattle.star_program.specs.Private.Reading.{Reads};
 ghost use Rattle.star_program.specs.Text.Keywords as words;
 ghost use Rattle.star_program.specs.Text.Lines.{words_of};
@@ -22,7 +20,7 @@ use crate::spelling::lines::split_word;
 use crate::spelling::listed::{read_column, read_lists, read_quoted, read_table};
 use crate::spelling::numerals::{is_name, read_constant, read_count, read_register};
 use crate::spelling::statement::Statement;
-use star_common::Items;
+use star_common::{Items, are_printable};
 use star_schema::{GroupColumn, Shape, SortKey};
 use std::alloc::Global;
 
@@ -59,7 +57,7 @@ fn three_words(line: &[u8]) -> Option<(&[u8], &[u8], &[u8])>
 
 fn constant(operands: &[u8]) -> Option<Operation>
     ensures { result ≡ option_map operation.Const
-        (spec.one numerals.constant_of (words_of operands.now)) }
+        (spec.from_one_word numerals.constant_of (words_of operands.now)) }
 {
     let number = read_constant(only_word(operands)?)?;
     Some(Operation::Const { number })
@@ -67,7 +65,7 @@ fn constant(operands: &[u8]) -> Option<Operation>
 
 fn load(operands: &[u8]) -> Option<Operation>
     ensures { result ≡ option_map (λ (c, row). operation.Load c row)
-        (spec.two words.column_of_word numerals.register_of (words_of operands.now)) }
+        (spec.from_two_words words.column_of_word numerals.register_of (words_of operands.now)) }
 {
     let (column, row) = two_words(operands)?;
     Some(Operation::Load {
@@ -78,7 +76,7 @@ fn load(operands: &[u8]) -> Option<Operation>
 
 fn find(operands: &[u8]) -> Option<Operation>
     ensures { result ≡ option_map (λ (table, k). operation.Find table k)
-        (spec.two words.table_of_word numerals.register_of (words_of operands.now)) }
+        (spec.from_two_words words.table_of_word numerals.register_of (words_of operands.now)) }
 {
     let (table, key) = two_words(operands)?;
     Some(Operation::Find {
@@ -89,7 +87,7 @@ fn find(operands: &[u8]) -> Option<Operation>
 
 fn binary(operator: Operator, operands: &[u8]) -> Option<Operation>
     ensures { result ≡ option_map (λ (a, b). operation.Binary operator a b)
-        (spec.two numerals.register_of numerals.register_of (words_of operands.now)) }
+        (spec.from_two_words numerals.register_of numerals.register_of (words_of operands.now)) }
 {
     let (left, right) = two_words(operands)?;
     Some(Operation::Binary {
@@ -101,7 +99,7 @@ fn binary(operator: Operator, operands: &[u8]) -> Option<Operation>
 
 fn within(operands: &[u8]) -> Option<Operation>
     ensures { result ≡ option_map (λ (x, (a, b)). operation.Within x a b)
-        (spec.three numerals.register_of numerals.register_of numerals.register_of
+        (spec.from_three_words numerals.register_of numerals.register_of numerals.register_of
         (words_of operands.now)) }
 {
     let (value, from, below) = three_words(operands)?;
@@ -114,7 +112,7 @@ fn within(operands: &[u8]) -> Option<Operation>
 
 fn not(operands: &[u8]) -> Option<Operation>
     ensures { result ≡ option_map operation.Not
-        (spec.one numerals.register_of (words_of operands.now)) }
+        (spec.from_one_word numerals.register_of (words_of operands.now)) }
 {
     let flag = read_register(only_word(operands)?)?;
     Some(Operation::Not { flag })
@@ -122,7 +120,7 @@ fn not(operands: &[u8]) -> Option<Operation>
 
 fn read(operands: &[u8]) -> Option<Operation>
     ensures { result ≡ option_map (λ (g, (a, n)). operation.Read g a n)
-        (spec.three numerals.count_of numerals.count_of numerals.constant_of
+        (spec.from_three_words numerals.count_of numerals.count_of numerals.constant_of
         (words_of operands.now)) }
 {
     let (group, aggregate, default) = three_words(operands)?;
@@ -155,7 +153,7 @@ fn read_first(line: &[u8]) -> Result<(&[u8], &[u8]), LineFault>
 
 fn read_edge(alloc: Global, edge: Edge, operands: &[u8]) -> Result<Operation, LineFault>
     ensures { Reads result (option_map (λ (c, text). operation.Edge edge c text)
-        (spec.two words.column_of_word spec.quoted_text_of (words_of operands.now))) }
+        (spec.from_two_words words.column_of_word spec.quoted_text_of (words_of operands.now))) }
 {
     let (column, text) = readable(two_words(operands))?;
     let column = readable(read_column(column))?;
@@ -310,20 +308,20 @@ fn read_end(line: &[u8]) -> Option<Statement>
 }
 
 fn read_registers(line: &[u8]) -> Option<Statement>
-    ensures { result ≡ option_map says.Registers (spec.one numerals.count_of (words_of line.now)) }
+    ensures { result ≡ option_map says.Registers (spec.from_one_word numerals.count_of (words_of line.now)) }
 {
     Some(Statement::Registers(read_count(only_word(line)?)?))
 }
 
 fn read_report(line: &[u8]) -> Option<Statement>
-    ensures { result ≡ option_map says.Report (spec.one numerals.count_of (words_of line.now)) }
+    ensures { result ≡ option_map says.Report (spec.from_one_word numerals.count_of (words_of line.now)) }
 {
     Some(Statement::Report(read_count(only_word(line)?)?))
 }
 
 fn read_keep(line: &[u8]) -> Option<Statement>
     ensures { result ≡ option_map (λ f. says.Act (op.Keep f))
-        (spec.one numerals.register_of (words_of line.now)) }
+        (spec.from_one_word numerals.register_of (words_of line.now)) }
 {
     let flag = read_register(only_word(line)?)?;
     Some(Statement::Act(Op::Keep { flag }))
@@ -331,7 +329,7 @@ fn read_keep(line: &[u8]) -> Option<Statement>
 
 fn read_scan(line: &[u8]) -> Option<Statement>
     ensures { result ≡ option_map (λ (table, t). says.Scan table t)
-        (spec.two words.table_of_word numerals.register_of (words_of line.now)) }
+        (spec.from_two_words words.table_of_word numerals.register_of (words_of line.now)) }
 {
     let (table, target) = two_words(line)?;
     Some(Statement::Scan {
@@ -384,18 +382,12 @@ fn read_words(alloc: Global, line: &[u8]) -> Result<Statement, LineFault>
     }
 }
 
-fn is_printable(line: &[u8]) -> bool
-    ensures { result ≡ list_all printable line.now }
-{
-    line.iter().all(|&b| b >= b' ' && b <= b'~')
-}
-
 /// What a line says, if it says something.
 #[tactic(auto, unfolding(crate::specs::Text::Said::said))]
 pub(crate) fn read_line(alloc: Global, line: &[u8]) -> Result<Statement, LineFault>
     ensures { Reads result (spec.said line.now) }
 {
-    if is_printable(line) {
+    if are_printable(line) {
         read_words(alloc, line)
     } else {
         Err(LineFault::Unreadable)

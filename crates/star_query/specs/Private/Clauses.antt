@@ -24,8 +24,8 @@ use Rattle.star_query.specs.Symbols.{Symbol, fold, count, sign}
 use Rattle.star_query.specs.Tree as tree
 use Rattle.star_query.specs.Grammar as grammar
 use Rattle.star_query.specs.Grammar.{Several, Expr, Agg, folded, counted, Key, Hiding, Groups, hiding, Query, expr_tree, cond_tree, agg_tree, item_tree, key_tree, listed, names, groups_tree, keys_tree, query_tree}
-use Rattle.star_query.specs.Private.Machine.{extended, Filtered, Grouped, filtered_by, grouped_by, query_of, State, begin, item_wanted, fold_named, count_named, agg_had, items_had, table_wanted, tables_had, filtered_had, by_had, hiding_had, column_wanted, columns_had, grouped_had, key_wanted, keys_had, done, Whole}
-use Rattle.star_query.specs.Views.{name_view, condition_view, measure_view, aggregate_view, item_view, grouping_view, key_view, tree_view}
+use Rattle.star_query.specs.Private.Machine.{extended, Filtered, Grouped, filtered_by, grouped_by, query_of, ParserState, begin, item_wanted, fold_named, count_named, agg_had, items_had, table_wanted, tables_had, filtered_had, by_had, hiding_had, column_wanted, columns_had, grouped_had, key_wanted, keys_had, done, Whole}
+use Rattle.star_query.specs.Views.{name_view, condition_view, measure_view, aggregate_view, item_view, grouping_view, sort_key_view, tree_view}
 use Rattle.star_query.specs.Private.Reads.{Spot, No, verdict, EndsBad, Takes, IsBeyond, ReadsPhrase}
 
 abbrev pub function_symbol : Function → Symbol
@@ -55,10 +55,10 @@ ReadsFunction old new (Err (errors.Fault TooMany)) = IsBeyond function_parts old
 ReadsFunction old new (Err e) = ⊥
 
 -- the word of a function was read
-abbrev pub function_named : Option (Several grammar.Item) → Function → State
+abbrev pub function_named : Option (Several grammar.Item) → Function → ParserState
 function_named b f = by_fold f.fold
   where
-    by_fold : Option Fold → State
+    by_fold : Option Fold → ParserState
     by_fold (Some q) = fold_named b q f.place
     by_fold None = count_named b f.place
 
@@ -134,15 +134,15 @@ ReadsGrouping =
 
 abbrev pub ReadsKey : Spot → Spot → Result SortKey ParseError → Type 0
 ReadsKey =
-    ReadsPhrase {P = Key} {H = Grouped × Option (Several Key)} key_view key_tree Anywhere (λ h. key_wanted h.0 h.1) (λ k h. keys_had h.0 (extended h.1 k))
+    ReadsPhrase {P = Key} {H = Grouped × Option (Several Key)} sort_key_view key_tree Anywhere (λ h. key_wanted h.0 h.1) (λ k h. keys_had h.0 (extended h.1 k))
 
 abbrev pub ReadsKeyList : Spot → Spot → Result (Vec SortKey Global) ParseError → Type 0
 ReadsKeyList =
-    ReadsPhrase {P = Several Key} {H = Grouped} (λ v. map key_view v.items) (listed key_tree) Anywhere (λ g. key_wanted g None) (λ ks g. keys_had g ks)
+    ReadsPhrase {P = Several Key} {H = Grouped} (λ v. map sort_key_view v.items) (listed key_tree) Anywhere (λ g. key_wanted g None) (λ ks g. keys_had g ks)
 
 abbrev pub ReadsKeys : Spot → Spot → Result (Vec SortKey Global) ParseError → Type 0
 ReadsKeys =
-    ReadsPhrase {P = Option (Several Key)} {H = Grouped} (λ v. map key_view v.items) keys_tree Anywhere grouped_had (λ ks g. done g ks)
+    ReadsPhrase {P = Option (Several Key)} {H = Grouped} (λ v. map sort_key_view v.items) keys_tree Anywhere grouped_had (λ ks g. done g ks)
 
 abbrev pub ReadsEnd : {A : Type 0} → Spot → Spot → Result A ParseError → Type 0
 ReadsEnd old new (Ok u) = (end : Bool) × ((g : Grouped) (ks : Option (Several Key)) → verdict old (done g ks) ≡ Whole (query_of g ks end))

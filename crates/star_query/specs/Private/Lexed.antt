@@ -13,7 +13,7 @@ use Rattle.star_query.specs.declared.fault.QueryFault.TheVariants.{OutOfMemory, 
 use Rattle.star_query.specs.Cut as spec
 use Rattle.star_query.specs.Symbols.{Symbol, Placed, keyword, fold, count, relation, sign, additive, name, number, text, lowered}
 use Rattle.star_query.specs.Private.Quoted as quoted
-use Rattle.star_query.specs.Private.Quoted.{unquoted}
+use Rattle.star_query.specs.Private.Quoted.{undoubled}
 
 abbrev pub symbol_of : Kind → ℕ → Symbol
 symbol_of (kinds.Keyword w) place = keyword w
@@ -24,7 +24,7 @@ symbol_of (kinds.Sign s) place = sign s
 symbol_of (kinds.Additive s) place = additive s
 symbol_of (kinds.Name word) place = name (lowered word.now) place
 symbol_of (kinds.Number digits) place = number digits.value
-symbol_of (kinds.Text inside) place = text (unquoted inside.now)
+symbol_of (kinds.Text inside) place = text (undoubled inside.now)
 
 abbrev pub placed : Token → Placed
 placed t = record { symbol = symbol_of t.kind t.place; place = t.place }
@@ -44,10 +44,10 @@ begins_with_digit [] = false
 begins_with_digit (b ∷ bs) = is_ascii_digit b
 
 -- within so many bytes
-abbrev pub EndsWithin : Ending → ℕ → Type 0
-EndsWithin (endings.Closed n) size = (1 ≤ n) × (n ≤ size)
-EndsWithin (endings.Stopped n) size = n < size
-EndsWithin endings.Open size = Unit {0}
+abbrev pub IsEndingWithin : Ending → ℕ → Type 0
+IsEndingWithin (endings.Closed n) size = (1 ≤ n) × (n ≤ size)
+IsEndingWithin (endings.Stopped n) size = n < size
+IsEndingWithin endings.Open size = Unit {0}
 
 abbrev pub piece_of : ℕ → Piece → spec.Piece
 piece_of place pieces.Blank = spec.blank
@@ -63,15 +63,15 @@ IsLexical (OpenText place) = Unit {0}
 IsLexical _ = ⊥
 
 -- a token within so many bytes, or a fault of the cut
-abbrev pub IsWithin : ℕ → Piece → Type 0
-IsWithin size pieces.Blank = Unit {0}
-IsWithin size (pieces.Token kind width) = (1 ≤ width) × (width ≤ size)
-IsWithin size (pieces.Bad fault) = IsLexical fault
+abbrev pub IsPieceWithin : ℕ → Piece → Type 0
+IsPieceWithin size pieces.Blank = Unit {0}
+IsPieceWithin size (pieces.Token kind width) = (1 ≤ width) × (width ≤ size)
+IsPieceWithin size (pieces.Bad fault) = IsLexical fault
 
 -- what was found at a place, within so many bytes, is this piece of the cut
 pub record IsPiece (place : ℕ) (piece : spec.Piece) (size : ℕ) (found : Piece) : Type 0 where
   pub same : piece_of place found ≡ piece
-  pub within : IsWithin size found
+  pub within : IsPieceWithin size found
 
 -- the first fault of the cut, or want of memory
 abbrev pub IsCutFault : List ℕ → QueryFault → Type 0

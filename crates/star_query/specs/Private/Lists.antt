@@ -9,14 +9,14 @@ use Rattle.star_query.specs.declared.fault.ParseError.{ParseError}
 use Rattle.star_query.specs.declared.fault.ParseError.TheVariants as errors
 use Rattle.star_query.specs.Symbols.{sign}
 use Rattle.star_query.specs.Grammar.{Several, one, more, first, Hiding, item_tree, key_tree, listed}
-use Rattle.star_query.specs.Private.Machine.{Filtered, Grouped, State, Verdict, columns_had, column_wanted, extended, item_wanted, items_had, key_wanted, keys_had, step, table_wanted, tables_had, to}
-use Rattle.star_query.specs.Views.{item_view, key_view, name_view}
+use Rattle.star_query.specs.Private.Machine.{Filtered, Grouped, ParserState, Verdict, columns_had, column_wanted, extended, item_wanted, items_had, key_wanted, keys_had, next_step, table_wanted, tables_had, to}
+use Rattle.star_query.specs.Views.{item_view, name_view, sort_key_view}
 use Rattle.star_query.specs.Private.Reads.{EndsBad, ReadsPhrase, Spot, verdict}
 use Rattle.star_query.specs.Private.Clauses.{Anywhere, ReadsColumn, ReadsColumns, ReadsItem, ReadsItems, ReadsKey, ReadsKeyList, ReadsTable, ReadsTables}
 
 -- the machine goes from the one spot to the other by a comma
 abbrev pub PassesComma : Spot → Spot → Type 0
-PassesComma here mid = (from next : State) → step from (sign s.Comma) ≡ to next (first [] 0 (sign s.Comma)) → verdict here from ≡ verdict mid next
+PassesComma here mid = (from next : ParserState) → next_step from (sign s.Comma) ≡ to next (first [] 0 (sign s.Comma)) → verdict here from ≡ verdict mid next
 
 -- what reads a list reads its elements from the left, with a comma before each but the first
 pub record IsListOf {A : Type 0} (One : Spot → Spot → Result A ParseError → Type 0) (All : Spot → Spot → Result (Vec A Global) ParseError → Type 0) : Type 0 where
@@ -39,9 +39,9 @@ more_listed f g xs x y so_far v e before same =
 
 -- so it is where a phrase that is read there goes to the end of the list so far, and a comma from there to the next
 module _ {A T P H G : Type 0} (view : A → T) (tree : P → T) (at : G → Option (Several P) → H)
-    (wanted : H → State) (given : P → H → State) (had : Several P → G → State) where
+    (wanted : H → ParserState) (given : P → H → ParserState) (had : Several P → G → ParserState) where
   listing : ((g : G) (b : Option (Several P)) (p : P) → given p (at g b) ≡ had (extended b p) g)
-      → ((g : G) (ps : Several P) → step (had ps g) (sign s.Comma) ≡ to (wanted (at g (Some ps))) (first [] 0 (sign s.Comma)))
+      → ((g : G) (ps : Several P) → next_step (had ps g) (sign s.Comma) ≡ to (wanted (at g (Some ps))) (first [] 0 (sign s.Comma)))
       → IsListOf (ReadsPhrase view tree Anywhere wanted given) (ReadsPhrase (λ (v : Vec A Global). map view v.items) (listed tree) Anywhere (λ g. wanted (at g None)) had)
   listing gives comma = record {
     no_memory = λ old new g u. tt;
@@ -71,4 +71,4 @@ pub columns_listed : IsListOf ReadsColumn ReadsColumns
 columns_listed = listing name_view (λ n. n) (λ (g : Filtered × Option Hiding) b. (g, b)) (λ h. column_wanted h.0.0 h.0.1 h.1) (λ n h. columns_had h.0.0 h.0.1 (extended h.1 n)) (λ is g. columns_had g.0 g.1 is) (λ g b p. refl) (λ g ps. refl)
 
 pub keys_listed : IsListOf ReadsKey ReadsKeyList
-keys_listed = listing key_view key_tree (λ (g : Grouped) b. (g, b)) (λ h. key_wanted h.0 h.1) (λ k h. keys_had h.0 (extended h.1 k)) (λ ks g. keys_had g ks) (λ g b p. refl) (λ g ps. refl)
+keys_listed = listing sort_key_view key_tree (λ (g : Grouped) b. (g, b)) (λ h. key_wanted h.0 h.1) (λ k h. keys_had h.0 (extended h.1 k)) (λ ks g. keys_had g ks) (λ g b p. refl) (λ g ps. refl)

@@ -14,7 +14,7 @@ use Rattle.star_query.specs.declared.fault.Fault.{Fault}
 use Rattle.star_query.specs.declared.fault.Fault.TheVariants.{Unexpected, TooDeep, TooMany}
 use Rattle.star_query.specs.Symbols.{Symbol, keyword, fold, count, relation, sign, additive, name, number, text}
 use Rattle.star_query.specs.Tree.{Name}
-use Rattle.star_query.specs.Grammar.{Several, one, more, Expr, lone_term, joined, Term, lone_factor, times, Factor, column, constant, negative, parens, Lit, whole, negated, quoted, Cond, lone_conj, or_conj, Conj, lone_unit, and_unit, Unary, not_unit, group, pair, compare, between, Agg, folded, counted, Item, plain, aggregate, Key, unmarked, ascending, descending, Groups, ungrouped, grouped, Hiding, cube, rollup, hiding, Query, Mark, at, first, function}
+use Rattle.star_query.specs.Grammar.{Several, one, more, Expr, lone_term, plus_or_minus, Term, lone_factor, times, Factor, column, constant, negative, parens, Lit, unsigned_literal, negative_literal, string_literal, Cond, lone_conj, or_conj, Conj, lone_unit, and_unit, Unary, not_unit, group, pair, compare, between, Agg, folded, counted, Item, plain, aggregate, Key, unmarked, ascending, descending, Groups, ungrouped, grouped, Hiding, cube, rollup, hiding, Query, Mark, at, first, function}
 use Rattle.star_query.specs.Maxima.{limit, most_name_bytes, most_nestings}
 
 -- one more behind these, if there are any
@@ -109,60 +109,60 @@ lit_depth (low h i) = unit_depth h
 lit_depth (high h i l) = unit_depth h
 
 -- what was read last, or is to be read next
-pub data State : Type 0 where
-  begin : State
-  item_wanted : Option (Several Item) → State
-  fold_named : Option (Several Item) → Fold → (place : ℕ) → State
-  count_named count_opened count_starred : Option (Several Item) → (place : ℕ) → State
-  factor_wanted factor_negative : FactorHole → State
-  term_had : Term → TermHole → State
-  agg_had alias_wanted : Option (Several Item) → Agg → State
-  items_had : Several Item → State
-  table_wanted : Several Item → Option (Several Name) → State
-  tables_had : Several Item → Several Name → State
-  unit_wanted : UnitHole → State
-  unit_named equal_had : UnitHole → Name → State
-  lit_wanted lit_negative : LitHole → State
-  low_had : UnitHole → Name → Lit → State
-  conj_had : Conj → ConjHole → State
-  filtered_had group_had by_had : Filtered → State
-  hiding_had : Filtered → Hiding → State
-  column_wanted : Filtered → Option Hiding → Option (Several Name) → State
-  columns_had : Filtered → Option Hiding → Several Name → State
-  grouped_had order_had : Grouped → State
-  key_wanted : Grouped → Option (Several Key) → State
-  key_named : Grouped → Option (Several Key) → Name → State
-  keys_had : Grouped → Several Key → State
-  done ended : Grouped → Option (Several Key) → State
+pub data ParserState : Type 0 where
+  begin : ParserState
+  item_wanted : Option (Several Item) → ParserState
+  fold_named : Option (Several Item) → Fold → (place : ℕ) → ParserState
+  count_named count_opened count_starred : Option (Several Item) → (place : ℕ) → ParserState
+  factor_wanted factor_negative : FactorHole → ParserState
+  term_had : Term → TermHole → ParserState
+  agg_had alias_wanted : Option (Several Item) → Agg → ParserState
+  items_had : Several Item → ParserState
+  table_wanted : Several Item → Option (Several Name) → ParserState
+  tables_had : Several Item → Several Name → ParserState
+  unit_wanted : UnitHole → ParserState
+  unit_named equal_had : UnitHole → Name → ParserState
+  lit_wanted lit_negative : LitHole → ParserState
+  low_had : UnitHole → Name → Lit → ParserState
+  conj_had : Conj → ConjHole → ParserState
+  filtered_had group_had by_had : Filtered → ParserState
+  hiding_had : Filtered → Hiding → ParserState
+  column_wanted : Filtered → Option Hiding → Option (Several Name) → ParserState
+  columns_had : Filtered → Option Hiding → Several Name → ParserState
+  grouped_had order_had : Grouped → ParserState
+  key_wanted : Grouped → Option (Several Key) → ParserState
+  key_named : Grouped → Option (Several Key) → Name → ParserState
+  keys_had : Grouped → Several Key → ParserState
+  done ended : Grouped → Option (Several Key) → ParserState
 
 pub record Step : Type 0 where
-  pub next : State
+  pub next : ParserState
   pub at : Mark
 
-abbrev pub to : State → Mark → Option Step
+abbrev pub to : ParserState → Mark → Option Step
 to next m = Some (record { next = next; at = m })
 
 abbrev pub named : List ℕ → ℕ → Name
 named t p = record { text = t; place = p }
 
-abbrev pub give_factor : Factor → FactorHole → State
+abbrev pub give_factor : Factor → FactorHole → ParserState
 give_factor f (first_factor h) = term_had (lone_factor f) h
 give_factor f (next_factor t h) = term_had (times t f) h
 
 abbrev pub joined_expr : Term → TermHole → Expr
 joined_expr t (first_term h) = lone_term t
-joined_expr t (next_term e q h) = joined e q t
+joined_expr t (next_term e q h) = plus_or_minus e q t
 
 abbrev pub around_term : TermHole → ExprHole
 around_term (first_term h) = h
 around_term (next_term e q h) = h
 
 -- an expression was read
-abbrev pub expr_had : Expr → ExprHole → State
+abbrev pub expr_had : Expr → ExprHole → ParserState
 expr_had (lone_term t) h = term_had t (first_term h)
-expr_had (joined e q t) h = term_had t (next_term e q h)
+expr_had (plus_or_minus e q t) h = term_had t (next_term e q h)
 
-abbrev pub give_unit : Unary → UnitHole → State
+abbrev pub give_unit : Unary → UnitHole → ParserState
 give_unit u (first_unit h) = conj_had (lone_unit u) h
 give_unit u (next_unit c h) = conj_had (and_unit c u) h
 give_unit u (under_not h) = give_unit (not_unit u) h
@@ -176,11 +176,11 @@ around_conj (first_conj h) = h
 around_conj (next_conj a h) = h
 
 -- a condition was read
-abbrev pub cond_had : Cond → CondHole → State
+abbrev pub cond_had : Cond → CondHole → ParserState
 cond_had (lone_conj c) h = conj_had c (first_conj h)
 cond_had (or_conj a c) h = conj_had c (next_conj a h)
 
-abbrev pub give_lit : Lit → LitHole → State
+abbrev pub give_lit : Lit → LitHole → ParserState
 give_lit l (compared h i q) = give_unit (compare i q l) h
 give_lit l (low h i) = low_had h i l
 give_lit l (high h i m) = give_unit (between i m l) h
@@ -273,7 +273,7 @@ on_unit h (sign s.Open) = to (unit_wanted (first_unit (first_conj (in_group h)))
 on_unit h x = None
 
 -- an equals sign may stand before a name too
-abbrev pub behind_relation : UnitHole → Name → Relation → State
+abbrev pub behind_relation : UnitHole → Name → Relation → ParserState
 behind_relation h i r.Equal = equal_had h i
 behind_relation h i q = lit_wanted (compared h i q)
 
@@ -283,8 +283,8 @@ on_named h i (keyword k.Between) = to (lit_wanted (low h i)) (at (unit_depth h) 
 on_named h i x = None
 
 abbrev pub on_lit : LitHole → Symbol → Option Step
-on_lit h (number n) = to (give_lit (whole n) h) (at (lit_depth h) (number n))
-on_lit h (text t) = to (give_lit (quoted t) h) (at (lit_depth h) (text t))
+on_lit h (number n) = to (give_lit (unsigned_literal n) h) (at (lit_depth h) (number n))
+on_lit h (text t) = to (give_lit (string_literal t) h) (at (lit_depth h) (text t))
 on_lit h (additive Minus) = to (lit_negative h) (at (lit_depth h) (additive Minus))
 on_lit h x = None
 
@@ -293,7 +293,7 @@ on_equal h i (name t p) = to (give_unit (pair i (named t p)) h) (at (unit_depth 
 on_equal h i x = on_lit (compared h i r.Equal) x
 
 abbrev pub on_lit_negative : LitHole → Symbol → Option Step
-on_lit_negative h (number n) = to (give_lit (negated n) h) (at (lit_depth h) (number n))
+on_lit_negative h (number n) = to (give_lit (negative_literal n) h) (at (lit_depth h) (number n))
 on_lit_negative h x = None
 
 abbrev pub on_low : UnitHole → Name → Lit → Symbol → Option Step
@@ -356,70 +356,70 @@ on_key_named g b i (keyword k.Asc) = to (keys_had g (extended b (ascending i))) 
 on_key_named g b i (keyword k.Desc) = to (keys_had g (extended b (descending i))) (at 0 (keyword k.Desc))
 on_key_named g b i x = on_keys g (extended b (unmarked i)) x
 
-abbrev pub step : State → Symbol → Option Step
-step begin x = on_begin x
-step (item_wanted b) x = on_item b x
-step (fold_named b f p) x = on_fold b f p x
-step (count_named b p) x = on_count b p x
-step (count_opened b p) x = on_count_opened b p x
-step (count_starred b p) x = on_count_starred b p x
-step (factor_wanted h) x = on_factor h x
-step (factor_negative h) x = on_negative h x
-step (term_had t h) x = on_term t h x
-step (agg_had b a) x = on_agg b a x
-step (alias_wanted b a) x = on_alias b a x
-step (items_had is) x = on_items is x
-step (table_wanted is b) x = on_table is b x
-step (tables_had is ts) x = on_tables is ts x
-step (unit_wanted h) x = on_unit h x
-step (unit_named h i) x = on_named h i x
-step (equal_had h i) x = on_equal h i x
-step (lit_wanted h) x = on_lit h x
-step (lit_negative h) x = on_lit_negative h x
-step (low_had h i l) x = on_low h i l x
-step (conj_had c h) x = on_conj c h x
-step (filtered_had f) x = on_filtered f x
-step (group_had f) x = on_group f x
-step (by_had f) x = on_by f x
-step (hiding_had f h) x = on_hiding f h x
-step (column_wanted f h b) x = on_column f h b x
-step (columns_had f h is) x = on_columns f h is x
-step (grouped_had g) x = on_grouped g x
-step (order_had g) x = on_order g x
-step (key_wanted g b) x = on_key g b x
-step (key_named g b i) x = on_key_named g b i x
-step (keys_had g ks) x = on_keys g ks x
-step (done g ks) x = on_done g ks x
-step (ended g ks) x = None
+abbrev pub next_step : ParserState → Symbol → Option Step
+next_step begin x = on_begin x
+next_step (item_wanted b) x = on_item b x
+next_step (fold_named b f p) x = on_fold b f p x
+next_step (count_named b p) x = on_count b p x
+next_step (count_opened b p) x = on_count_opened b p x
+next_step (count_starred b p) x = on_count_starred b p x
+next_step (factor_wanted h) x = on_factor h x
+next_step (factor_negative h) x = on_negative h x
+next_step (term_had t h) x = on_term t h x
+next_step (agg_had b a) x = on_agg b a x
+next_step (alias_wanted b a) x = on_alias b a x
+next_step (items_had is) x = on_items is x
+next_step (table_wanted is b) x = on_table is b x
+next_step (tables_had is ts) x = on_tables is ts x
+next_step (unit_wanted h) x = on_unit h x
+next_step (unit_named h i) x = on_named h i x
+next_step (equal_had h i) x = on_equal h i x
+next_step (lit_wanted h) x = on_lit h x
+next_step (lit_negative h) x = on_lit_negative h x
+next_step (low_had h i l) x = on_low h i l x
+next_step (conj_had c h) x = on_conj c h x
+next_step (filtered_had f) x = on_filtered f x
+next_step (group_had f) x = on_group f x
+next_step (by_had f) x = on_by f x
+next_step (hiding_had f h) x = on_hiding f h x
+next_step (column_wanted f h b) x = on_column f h b x
+next_step (columns_had f h is) x = on_columns f h is x
+next_step (grouped_had g) x = on_grouped g x
+next_step (order_had g) x = on_order g x
+next_step (key_wanted g b) x = on_key g b x
+next_step (key_named g b i) x = on_key_named g b i x
+next_step (keys_had g ks) x = on_keys g ks x
+next_step (done g ks) x = on_done g ks x
+next_step (ended g ks) x = None
 
 -- the query that was read, where one may end
 abbrev pub cond_end : Cond → CondHole → Option Query
 cond_end a (in_where is ts) = Some (query_of (grouped_by (filtered_by is ts (Some a)) ungrouped) None false)
 cond_end a (in_group h) = None
 
-abbrev pub at_end : State → Option Query
-at_end (tables_had is ts) = Some (query_of (grouped_by (filtered_by is ts None) ungrouped) None false)
-at_end (conj_had c h) = cond_end (joined_cond c h) (around_conj h)
-at_end (filtered_had f) = Some (query_of (grouped_by f ungrouped) None false)
-at_end (columns_had f None is) = Some (query_of (grouped_by f (grouped is)) None false)
-at_end (grouped_had g) = Some (query_of g None false)
-at_end (key_named g b i) = Some (query_of g (Some (extended b (unmarked i))) false)
-at_end (keys_had g ks) = Some (query_of g (Some ks) false)
-at_end (done g ks) = Some (query_of g ks false)
-at_end (ended g ks) = Some (query_of g ks true)
-at_end _ = None
+abbrev pub query_at_end : ParserState → Option Query
+query_at_end (tables_had is ts) = Some (query_of (grouped_by (filtered_by is ts None) ungrouped) None false)
+query_at_end (conj_had c h) = cond_end (joined_cond c h) (around_conj h)
+query_at_end (filtered_had f) = Some (query_of (grouped_by f ungrouped) None false)
+query_at_end (columns_had f None is) = Some (query_of (grouped_by f (grouped is)) None false)
+query_at_end (grouped_had g) = Some (query_of g None false)
+query_at_end (key_named g b i) = Some (query_of g (Some (extended b (unmarked i))) false)
+query_at_end (keys_had g ks) = Some (query_of g (Some ks) false)
+query_at_end (done g ks) = Some (query_of g ks false)
+query_at_end (ended g ks) = Some (query_of g ks true)
+query_at_end _ = None
 
 pub data Verdict : Type 0 where
   Whole : Query → Verdict
   Bad : Fault → List Symbol → Verdict
 
-abbrev pub number_of : Counts → Part → ℕ
-number_of n part.Item = n.items
-number_of n part.Aggregate = n.aggregates
-number_of n part.GroupColumn = n.columns
-number_of n part.SortKey = n.keys
-number_of n part.Comparison = n.comparisons
-number_of n part.Operand = n.operands
+abbrev pub count_of_part : Counts → Part → ℕ
+count_of_part n part.Item = n.items
+count_of_part n part.Aggregate = n.aggregates
+count_of_part n part.GroupColumn = n.columns
+count_of_part n part.SortKey = n.keys
+count_of_part n part.Comparison = n.comparisons
+count_of_part n part.Operand = n.operands
 
 -- one more of a part
 abbrev pub bump : Part → Counts → Counts
@@ -436,7 +436,7 @@ plus n (p ∷ ps) = plus (bump p n) ps
 
 abbrev pub is_over : Counts → List Part → Bool
 is_over n [] = false
-is_over n (p ∷ ps) = nat_lt (limit p) (number_of n p) || is_over n ps
+is_over n (p ∷ ps) = nat_lt (limit p) (count_of_part n p) || is_over n ps
 
 abbrev pub is_long : Symbol → Bool
 is_long (name t p) = nat_lt most_name_bytes (length t)
@@ -451,17 +451,17 @@ checked n m left go =
     then Bad TooMany left
     else go (plus n m.parts)
 
-abbrev pub after : Option Step → Counts → List Symbol → (State → Counts → Verdict) → Verdict
-after None n left go = Bad Unexpected left
-after (Some x) n left go = checked n x.at left (go x.next)
+abbrev pub verdict_after : Option Step → Counts → List Symbol → (ParserState → Counts → Verdict) → Verdict
+verdict_after None n left go = Bad Unexpected left
+verdict_after (Some x) n left go = checked n x.at left (go x.next)
 
 abbrev pub ends : Option Query → Verdict
 ends None = Bad Unexpected []
 ends (Some q) = Whole q
 
-abbrev pub run : List Symbol → State → Counts → Verdict
-run [] at n = ends (at_end at)
-run (x ∷ xs) at n = after (step at x) n (x ∷ xs) (run xs)
+abbrev pub run : List Symbol → ParserState → Counts → Verdict
+run [] at n = ends (query_at_end at)
+run (x ∷ xs) at n = verdict_after (next_step at x) n (x ∷ xs) (run xs)
 
 abbrev pub nothing_counted : Counts
 nothing_counted = record { items = 0; aggregates = 0; columns = 0; keys = 0; comparisons = 0; operands = 0 }

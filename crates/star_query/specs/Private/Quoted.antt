@@ -1,6 +1,6 @@
 -- How the lexer finds the end of a text in quotes, and tells a sign by its first byte and the next.
 use Rattle.std.specs.Prelude.{ℕ, ◌+◌, ◌-◌, Bool, true, false, ◌==◌, if◌then◌else◌, List, [], ◌∷◌, take, Option, Some, None}
-use Rattle.star_schema.specs.Tables.{is_printable}
+use Rattle.star_common.specs.Printable.{is_printable}
 use Rattle.star_query.specs.declared.token.Relation.TheVariants as r
 use Rattle.star_query.specs.declared.token.Sign.TheVariants as s
 use Rattle.star_query.specs.declared.token.Additive.TheVariants as q
@@ -20,14 +20,14 @@ farther (stopped n) = stopped (n + 1)
 farther open_ended = open_ended
 
 -- whether a text goes on with a byte, and whether that byte is then a quote that closes the text unless another follows
-abbrev pub goes_on : (a_quote : Bool) → ℕ → Option Bool
-goes_on true b = if b == 39 then Some false else None
-goes_on false b = if b == 39 then Some true else if is_printable b then Some false else None
+abbrev pub text_goes_on : (a_quote : Bool) → ℕ → Option Bool
+text_goes_on true b = if b == 39 then Some false else None
+text_goes_on false b = if b == 39 then Some true else if is_printable b then Some false else None
 
 -- the end of a text, behind a quote that closes it unless another one follows, or behind any other byte
 abbrev pub ending_after : (a_quote : Bool) → List ℕ → Ending
 ending_after q [] = if q then closed 0 else open_ended
-ending_after q (b ∷ bs) = behind (goes_on q b) (λ p. ending_after p bs)
+ending_after q (b ∷ bs) = behind (text_goes_on q b) (λ p. ending_after p bs)
   where
     behind : Option Bool → (Bool → Ending) → Ending
     behind None rest = if q then closed 0 else stopped 0
@@ -40,15 +40,15 @@ unquoted_after true (b ∷ bs) = unquoted_after false bs
 unquoted_after false (b ∷ bs) = b ∷ unquoted_after (b == 39) bs
 
 -- what a text says, of whose quotes each is doubled
-abbrev pub unquoted : List ℕ → List ℕ
-unquoted inside = unquoted_after false inside
+abbrev pub undoubled : List ℕ → List ℕ
+undoubled inside = unquoted_after false inside
 
 -- a text, from behind its opening quote
-abbrev pub text_piece : ℕ → List ℕ → Piece
-text_piece place bytes = ended (ending_after false bytes)
+abbrev pub text_by_bytes : ℕ → List ℕ → Piece
+text_by_bytes place bytes = ended (ending_after false bytes)
   where
     ended : Ending → Piece
-    ended (closed n) = token (text (unquoted (take (n - 1) bytes))) (n + 1)
+    ended (closed n) = token (text (undoubled (take (n - 1) bytes))) (n + 1)
     ended (stopped n) = bad (BadCharacter (place + 1 + n))
     ended open_ended = bad (OpenText place)
 
@@ -62,8 +62,8 @@ greater_piece None = token (relation r.Greater) 1
 greater_piece (Some b) = if b == 61 then token (relation r.AtLeast) 2 else token (relation r.Greater) 1
 
 -- a sign, the longest that fits
-abbrev pub sign_piece : ℕ → ℕ → Option ℕ → Piece
-sign_piece place b next =
+abbrev pub sign_by_bytes : ℕ → ℕ → Option ℕ → Piece
+sign_by_bytes place b next =
     if b == 44
     then token (sign s.Comma) 1
     else if b == 40

@@ -23,7 +23,7 @@ use Rattle.star_query.specs.Symbols.{Symbol, keyword, sign, additive, name, numb
 use Rattle.star_query.specs.Private.Lexed.{symbol_of}
 use Rattle.star_query.specs.Maxima.{limit, most_nestings}
 use Rattle.star_query.specs.Grammar.{ident, factor_tree, term_tree, expr_tree, lit_tree, unit_tree, conj_tree, cond_tree}
-use Rattle.star_query.specs.Private.Machine.{UnitHole, factor_depth, term_depth, expr_depth, lit_depth, unit_depth, conj_depth, cond_depth, first_factor, first_term, first_unit, first_conj, State, factor_wanted, give_factor, term_had, expr_had, lit_wanted, give_lit, unit_wanted, give_unit, conj_had, cond_had, Verdict, Bad, number_of, bump, plus, is_over, is_long, run}
+use Rattle.star_query.specs.Private.Machine.{UnitHole, factor_depth, term_depth, expr_depth, lit_depth, unit_depth, conj_depth, cond_depth, first_factor, first_term, first_unit, first_conj, ParserState, factor_wanted, give_factor, term_had, expr_had, lit_wanted, give_lit, unit_wanted, give_unit, conj_had, cond_had, Verdict, Bad, count_of_part, bump, plus, is_over, is_long, run}
 use Rattle.star_query.specs.Views.{name_view, expression_view, literal_view, condition_view}
 
 -- where the parser is: what is left, and how much was counted
@@ -48,7 +48,7 @@ abbrev pub No : Symbol → Spot → Type 0
 No x spot = head_of spot.left ≡ Some x → ⊥
 
 -- the machine's verdict from a spot
-abbrev pub verdict : Spot → State → Verdict
+abbrev pub verdict : Spot → ParserState → Verdict
 verdict spot from = run spot.left from spot.counts
 
 -- the machine ends with this fault here
@@ -70,8 +70,8 @@ Expects x old new (Err e) = (e ≡ errors.Fault Unexpected) × No x old × (new 
 
 -- one more of a part
 abbrev pub Counted : {A : Type 0} → Part → Spot → Spot → Result A ParseError → Type 0
-Counted p old new (Ok u) = (number_of old.counts p < limit p) × (new ≡ record old { counts = bump p old.counts })
-Counted p old new (Err e) = (e ≡ errors.Fault TooMany) × (limit p ≤ number_of old.counts p) × (new ≡ old)
+Counted p old new (Ok u) = (count_of_part old.counts p < limit p) × (new ≡ record old { counts = bump p old.counts })
+Counted p old new (Err e) = (e ≡ errors.Fault TooMany) × (limit p ≤ count_of_part old.counts p) × (new ≡ old)
 
 -- no name is next
 abbrev pub NoName : List Symbol → Type 0
@@ -131,7 +131,7 @@ Nests x ps d old new (Err (errors.Fault TooDeep)) = (most_nestings ≤ d) × (he
 Nests x ps d old new (Err (errors.Fault TooMany)) = (d < most_nestings) × (head_of old.left ≡ Some x) × IsBeyond ps old.counts old.left × (new ≡ old)
 
 -- a phrase is read wherever one is wanted, or the machine ends with the fault
-abbrev pub ReadsPhrase : {A T P H : Type 0} → (A → T) → (P → T) → (H → Type 0) → (H → State) → (P → H → State) → Spot → Spot → Result A ParseError → Type 0
+abbrev pub ReadsPhrase : {A T P H : Type 0} → (A → T) → (P → T) → (H → Type 0) → (H → ParserState) → (P → H → ParserState) → Spot → Spot → Result A ParseError → Type 0
 ReadsPhrase {A} {T} {P} {H} view tree IsHole wanted given old new (Ok x) =
     (p : P) × (tree p ≡ view x) × ((h : H) → IsHole h → verdict old (wanted h) ≡ verdict new (given p h))
 ReadsPhrase {A} {T} {P} {H} view tree IsHole wanted given old new (Err e) = (h : H) → IsHole h → EndsBad e new (verdict old (wanted h))
@@ -162,7 +162,7 @@ abbrev pub ReadsUnit : ℕ → Spot → Spot → Result (Condition Test) ParseEr
 ReadsUnit d = ReadsPhrase condition_view unit_tree (λ h. unit_depth h ≡ d) unit_wanted give_unit
 
 -- a comparison from behind its column, from behind BETWEEN, and from behind its relation
-abbrev pub ReadsNamed : (UnitHole → State) → Spot → Spot → Result (Condition Test) ParseError → Type 0
+abbrev pub ReadsNamed : (UnitHole → ParserState) → Spot → Spot → Result (Condition Test) ParseError → Type 0
 ReadsNamed wanted = ReadsPhrase condition_view unit_tree (λ h. unit_depth h ≤ most_nestings) wanted give_unit
 
 abbrev pub ReadsConj : ℕ → Spot → Spot → Result (Condition Test) ParseError → Type 0

@@ -15,17 +15,17 @@ pub record IsBegun (text : List ℕ) : Type 0 where
   pub is : text ≡ byte ∷ rest
 
 -- a text ends with a line end
-pub record IsEnded (text : List ℕ) : Type 0 where
+pub record EndsInLineEnd (text : List ℕ) : Type 0 where
   pub front : List ℕ
   pub byte : ℕ
   pub ends : ends_line byte ≡ true
   pub is : text ≡ front ++ byte ∷ []
 
 -- the lines of a piece: from its first line end to behind its last
-pub record IsCut (piece : List ℕ) (first behind : ℕ) : Type 0 where
+pub record AreLinesOf (piece : List ℕ) (first behind : ℕ) : Type 0 where
   pub order : first < behind
   pub within : behind ≤ length piece
   pub head : list_all is_inner (take first piece) ≡ true
   pub begun : IsBegun (take (behind - first) (drop first piece))
-  pub ended : IsEnded (take (behind - first) (drop first piece))
+  pub ended : EndsInLineEnd (take (behind - first) (drop first piece))
   pub tail : list_all is_inner (drop behind piece) ≡ true

@@ -8,7 +8,7 @@ use Rattle.csv.specs.declared.parser.State.TheVariants as st
 use Rattle.csv.specs.declared.reader.Reader.{Reader}
 use Rattle.csv.specs.declared.reader.Trim.TheVariants as trim
 use Rattle.star_schema.specs.Records.{records_of}
-use Rattle.star_reader.specs.Private.Zeros.{pieces_of, zeros}
+use Rattle.star_reader.specs.Private.Zeros.{pieces_between_zeros, zeros}
 
 -- a state between records
 abbrev pub IsBetween : State → Type 0
@@ -31,7 +31,7 @@ pub record TakesFirst (lines : List (List ℕ)) (pieces : List (List ℕ))
   pub line : List ℕ
   pub others : List (List ℕ)
   pub was : lines ≡ line ∷ others
-  pub pieces_are : pieces ≡ pieces_of line
+  pub pieces_are : pieces ≡ pieces_between_zeros line
   pub rest : HasLeft reader others
 
 -- a read gave the first record, or there was none

@@ -31,7 +31,7 @@ pub record StandsFor (ks : List Kind) (line : OpenLine) (bytes : List ℕ) : Typ
       ≡ starts_with nat_eq (bytes ++ more) byte_order_mark
 
 -- one more byte was kept
-pub record HasKept (byte : ℕ) (old new : OpenLine) : Type 0 where
+pub record HasKeptByte (byte : ℕ) (old new : OpenLine) : Type 0 where
   pub kept : new.kept.items ≡ old.kept.items ++ byte ∷ []
   pub bars : new.bars ≤ (if is_bar byte then old.bars + 1 else old.bars)
   pub run : new.run ≤ (if is_bar byte then 0 else old.run + 1)

@@ -14,7 +14,7 @@ reading_of kept =
     }
 
 -- while there is no fault, it is partway through some text; it never has more than 17 columns
-pub record IsSound (kept : Inside) : Type 0 where
+pub record IsSoundReader (kept : Inside) : Type 0 where
   pub few : length kept.columns.items ≤ 17
   pub partway : MatchOption kept.fault
       ((parts : List (List ℕ)) × (text : List ℕ)

@@ -13,5 +13,5 @@ abbrev pub is_zero : ℕ → Bool
 is_zero b = b == 0
 
 -- the pieces of a line are those between its zeros
-abbrev pub pieces_of : List ℕ → List (List ℕ)
-pieces_of line = pieces is_zero line
+abbrev pub pieces_between_zeros : List ℕ → List (List ℕ)
+pieces_between_zeros line = pieces is_zero line

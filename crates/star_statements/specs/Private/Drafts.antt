@@ -24,16 +24,16 @@ abbrev pub ends_behind : Bool → ℕ → Bool
 ends_behind ends c = (c == 59) || (ends && is_blank c)
 
 -- whether a byte ends a statement: the line end behind such a semicolon
-abbrev pub closes : Bool → ℕ → Bool
-closes ends c = ends && (c == 10)
+abbrev pub closes_statement : Bool → ℕ → Bool
+closes_statement ends c = ends && (c == 10)
 
 -- a text, cut behind each line end before which there are a semicolon and blanks; there may be such
 -- a semicolon before the text
-unfoldable pub cut : Bool → List ℕ → List (List ℕ)
-cut ends [] = [] ∷ []
-cut ends (c ∷ rest) =
-    if closes ends c then (c ∷ []) ∷ cut false rest
-    else joined_to_first (c ∷ []) (cut (ends_behind ends c) rest)
+unfoldable pub cut_statements : Bool → List ℕ → List (List ℕ)
+cut_statements ends [] = [] ∷ []
+cut_statements ends (c ∷ rest) =
+    if closes_statement ends c then (c ∷ []) ∷ cut_statements false rest
+    else joined_to_first (c ∷ []) (cut_statements (ends_behind ends c) rest)
 
 -- a statement that has begun, and that no line has ended yet, where a reader has these bytes left before
 -- and behind it
@@ -41,4 +41,4 @@ pub record IsDraft (old new : Option (List ℕ)) (text : List ℕ) (ends : Bool)
     (begun : List ℕ) : Type 0 where
   pub read : Consumes old new begun
   pub keeps : text ≡ kept begun
-  pub splits : (rest : List ℕ) → statements_of (begun ++ rest) ≡ joined_to_first begun (cut ends rest)
+  pub splits : (rest : List ℕ) → statements_of (begun ++ rest) ≡ joined_to_first begun (cut_statements ends rest)

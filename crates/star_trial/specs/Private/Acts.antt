@@ -42,19 +42,19 @@ IsFlow database parts registers run effect flow.GoesOn = Goes database parts reg
 IsFlow database parts registers run effect flow.EndsTurn = Ends database parts run effect
 
 -- memory was refused, or the effect is the trap
-abbrev pub IsStop : Effect → Stop → Type 0
-IsStop effect stop.OutOfMemory = Unit {0}
-IsStop effect (stop.Trap kind) = effect ≡ Traps kind
+abbrev pub IsActStopped : Effect → Stop → Type 0
+IsActStopped effect stop.OutOfMemory = Unit {0}
+IsActStopped effect (stop.Trap kind) = effect ≡ Traps kind
 
 -- what was made of an operation with this effect
-abbrev pub IsMade : Database → Parts → Registers → Run → ℕ → Effect → Result Value Stop → Type 0
-IsMade database parts registers run target effect result =
-    MatchResult result (Sets database parts registers run target effect) (IsStop effect)
+abbrev pub IsValueMade : Database → Parts → Registers → Run → ℕ → Effect → Result Value Stop → Type 0
+IsValueMade database parts registers run target effect result =
+    MatchResult result (Sets database parts registers run target effect) (IsActStopped effect)
 
 -- what was done of an instruction with this effect
-abbrev pub IsAnswer : Database → Parts → Registers → Run → Effect → Result Flow Stop → Type 0
-IsAnswer database parts registers run effect result =
-    MatchResult result (IsFlow database parts registers run effect) (IsStop effect)
+abbrev pub IsActed : Database → Parts → Registers → Run → Effect → Result Flow Stop → Type 0
+IsActed database parts registers run effect result =
+    MatchResult result (IsFlow database parts registers run effect) (IsActStopped effect)
 
 -- ---- an operation, and an instruction, of a machine
 
@@ -76,7 +76,7 @@ abbrev pub Makes : Machine → List (Option Value) → Run → Run → Operation
     → Type 0
 Makes m registers old new operation result =
     (s : State) (target : ℕ) → HasDone m.catalogue.now m.parts.now old s
-    → IsMade m.catalogue.now m.parts.now (registers_view registers) new target
+    → IsValueMade m.catalogue.now m.parts.now (registers_view registers) new target
     (assigns (world_of m.catalogue.now) m.parts.now (registers_view registers) s target operation) result
 
 -- what an instruction does in which nothing is wrong
@@ -87,7 +87,7 @@ does_op m op registers s = does (world_of m.catalogue.now) m.parts.now registers
 pub record HasActed (m : Machine) (registers new_registers : List (Option Value)) (run new : Run)
     (meant : Registers → State → Effect) (result : Result Flow Stop) : Type 0 where
   pub does : (s : State) → HasDone m.catalogue.now m.parts.now run s
-      → IsAnswer m.catalogue.now m.parts.now (registers_view new_registers) new (meant (registers_view registers) s)
+      → IsActed m.catalogue.now m.parts.now (registers_view new_registers) new (meant (registers_view registers) s)
       result
   pub sound : OnOk result (AreSound m.catalogue.now (registers_view new_registers))
   pub len : length new_registers ≡ length registers

@@ -79,7 +79,7 @@ pub record IsFew (most : ℕ) (run : Run) (instructions : ℕ) : Type 0 where
 
 -- a walk over so many instructions more, with scans so deep, may go on from here: these registers
 -- hold what is sound, the frames have room, and the run has done something, and not too much
-pub record IsReady (m : Machine) (registers frames : List (Option Value)) (run : Run)
+pub record IsWalkReady (m : Machine) (registers frames : List (Option Value)) (run : Run)
     (depth instructions : ℕ) : Type 0 where
   pub wide : length registers ≡ m.parts.now.registers
   pub deep : depth * m.parts.now.registers ≤ length frames

@@ -15,7 +15,7 @@ pub record AreFacts (w : World) (facts : Facts) : Type 0 where
       → range_of i ≡ w.bounds c
 
 -- those of the columns that stand before a place among all
-abbrev pub AreBounds : World → List Interval → ℕ → Type 0
-AreBounds w bounds place =
+abbrev pub AreBoundsBefore : World → List Interval → ℕ → Type 0
+AreBoundsBefore w bounds place =
     (c : ColumnId) (i : Interval) → index_of c < place
     → i ≡ slice_index_or bounds (index_of c) i → range_of i ≡ w.bounds c

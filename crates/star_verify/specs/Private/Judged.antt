@@ -1,5 +1,5 @@
 -- What a check answers of an instruction, and what it keeps for the next.
-use Rattle.std.specs.Prelude.{◌≡◌, ◌*◌, ◌+◌, ◌≤◌, ◌^◌, ℕ, Bool, List, length, Option, Some, None, Result, MatchResult}
+use Rattle.std.specs.Prelude.{◌≡◌, ◌*◌, ◌+◌, ◌≤◌, ◌^◌, ℕ, Bool, length, Option, Some, None, Result, MatchResult}
 use Rattle.std.specs.Option.{option_or}
 use Rattle.star_common.specs.Memory.{UnlessMemory}
 use Rattle.star_schema.specs.declared.table.TableId.{TableId}
@@ -18,10 +18,9 @@ use Rattle.star_verify.specs.declared.instructions.Noted.{Noted}
 use Rattle.star_verify.specs.declared.instructions.Place.{Place}
 use Rattle.star_verify.specs.declared.refusal.Refusal.{Refusal}
 use Rattle.star_verify.specs.declared.refusal.Refusal.TheVariants as told
-use Rattle.star_verify.specs.declared.register.Register.{Register}
 use Rattle.star_verify.specs.declared.subject.Subject.{Subject}
 use Rattle.star_verify.specs.Private.Facts.{AreFacts}
-use Rattle.star_verify.specs.Private.Kept.{AreFew, AreMarked, HasKeyShares, HasShares, flag_at}
+use Rattle.star_verify.specs.Private.Kept.{AreMarked, AreTalliesFew, HasKeyShares, HasShares, flag_at}
 use Rattle.star_verify.specs.Private.Views.{known_in}
 use Rattle.star_verify.specs.Views.{refusal_view}
 
@@ -35,8 +34,8 @@ IsFirst _ found = ⊥
 
 -- so many registers as are declared, a flag for each, and eight tallies of aggregates and eight of
 -- keys for each of eight groups
-pub record IsSized (parts : Parts) (registers : List Register) (noted : Noted) : Type 0 where
-  pub wide : length registers ≡ parts.registers
+pub record IsSized (parts : Parts) (noted : Noted) : Type 0 where
+  pub wide : length noted.registers.items ≡ parts.registers
   pub written : length noted.written.items ≡ parts.registers
   pub tallies : length noted.tallies.items ≡ 64
   pub keys : length noted.keys.items ≡ 64
@@ -46,40 +45,38 @@ pub record AreNoted (parts : Parts) (noted : Noted) (x : Context) : Type 0 where
   pub shares : HasShares parts noted.tallies.items x
   pub keys : HasKeyShares parts noted.keys.items x
 
-pub record Keeps (parts : Parts) (registers : List Register) (noted : Noted) (x : Context)
-    : Type 0 where
-  pub known : known_in registers ≡ x.known
+pub record KeepsContext (parts : Parts) (noted : Noted) (x : Context) : Type 0 where
+  pub known : known_in noted.registers.items ≡ x.known
   pub earlier : AreNoted parts noted x
 
-pub record IsPlaced (place : Place) (x : Context) : Type 0 where
+pub record IsPlaceOf (place : Place) (x : Context) : Type 0 where
   pub inside : x.inside ≡ place.inside
   pub met : x.met ≡ place.met
 
 -- of at most 10^15 numbers for each instruction so far
 abbrev pub AreFewAt : Noted → ℕ → Type 0
 AreFewAt noted at =
-    AreFew noted.tallies.items (at * 10 ^ 15) × AreFew noted.keys.items (at * 10 ^ 15)
+    AreTalliesFew noted.tallies.items (at * 10 ^ 15) × AreTalliesFew noted.keys.items (at * 10 ^ 15)
 
 -- a check may go on from an instruction, which is met no more often than any run may visit
-pub record IsReady (parts : Parts) (place : Place) (registers : List Register) (noted : Noted)
-    : Type 0 where
+pub record IsReady (parts : Parts) (place : Place) (noted : Noted) : Type 0 where
   pub met : place.met ≤ 10 ^ 15
-  pub sized : IsSized parts registers noted
+  pub sized : IsSized parts noted
   pub few : AreFewAt noted place.at
 
 -- what holds in each world that the facts are of, and in each context that is kept at this place
-abbrev pub InEachContext : Subject → Place → List Register → Noted
+abbrev pub InEachContext : Subject → Place → Noted
     → (World → Context → (ℕ → Bool) → Type 0) → Type 0
-InEachContext subject place registers noted Holds =
+InEachContext subject place noted Holds =
     (w : World) (x : Context) (pending : ℕ → Bool) → AreFacts w subject.facts.now
-    → Keeps subject.parts.now registers noted x → IsPlaced place x
+    → KeepsContext subject.parts.now noted x → IsPlaceOf place x
     → AreMarked subject.parts.now place.pending pending → Holds w x pending
 
 -- ---- what is answered
 
 -- Ok where there is no reason, with what is kept then, else the reason
-abbrev pub IsJudged : Result (Unit {0}) Refusal → ℕ → Option Reason → Type 0 → Type 0
-IsJudged result at reason Kept =
+abbrev pub TellsReason : Result (Unit {0}) Refusal → ℕ → Option Reason → Type 0 → Type 0
+TellsReason result at reason Kept =
     MatchResult result (λ _. (reason ≡ None) × Kept)
     (λ refusal. IsFirst refusal (at_place at reason))
 

@@ -34,18 +34,18 @@ numbers_known aggregates known values =
 -- ---- how much is put
 
 -- a tally takes so many numbers more
-pub record HasRoom (tally : Tally) (times : ℕ) : Type 0 where
+pub record HasTallyRoom (tally : Tally) (times : ℕ) : Type 0 where
   pub bounded : IsBounded tally
   pub room : tally.many + times ≤ 2 ^ 62
 
 -- of at most so many numbers more than before
-pub record IsGrown (old new : Tally) (times : ℕ) : Type 0 where
+pub record IsTallyGrown (old new : Tally) (times : ℕ) : Type 0 where
   pub bounded : IsBounded new
   pub many : new.many ≤ old.many + times
 
 -- each tally is of at most so many numbers
-abbrev pub AreFew : List Tally → ℕ → Type 0
-AreFew tallies most =
+abbrev pub AreTalliesFew : List Tally → ℕ → Type 0
+AreTalliesFew tallies most =
     (p : ℕ) (t : Tally) → p < length tallies
     → IsBounded (slice_index_or tallies p t) × ((slice_index_or tallies p t).many ≤ most)
 

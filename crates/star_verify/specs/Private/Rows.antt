@@ -18,9 +18,9 @@ MayHide Plain true = ⊥
 MayHide _ _ = Unit {0}
 
 -- what keys that are left show and hide is a grouping behind keys of which one is hidden or none
-abbrev pub goes_on : Shape → Bool → List (Option ℕ) → Bool
-goes_on s true counts = is_grouping s (None ∷ counts)
-goes_on s false counts = is_grouping s counts
+abbrev pub grouping_goes_on : Shape → Bool → List (Option ℕ) → Bool
+grouping_goes_on s true counts = is_grouping s (None ∷ counts)
+grouping_goes_on s false counts = is_grouping s counts
 
 -- the next key may be shown behind those, and it may be hidden
 abbrev pub may_show : Shape → Bool → Bool
@@ -43,7 +43,7 @@ rows_of_rest updates has_shown lists counts =
 -- and of all groupings
 abbrev pub rows_behind : ℕ → Shape → Bool → Bool → ℕ → List ℕ → ℕ
 rows_behind updates s has_shown has_hidden lists counts =
-    sum_by (rows_of_rest updates has_shown lists) (filter (goes_on s has_hidden) (masks counts))
+    sum_by (rows_of_rest updates has_shown lists) (filter (grouping_goes_on s has_hidden) (masks counts))
 
 -- how many groupings there are of so many keys at most
 unfoldable pub groupings : ℕ → ℕ

@@ -15,9 +15,8 @@ use Rattle.star_safety.specs.Refusals.{op_reason}
 use Rattle.star_safety.specs.Standing.{at_place}
 use Rattle.star_verify.specs.declared.instructions.Noted.{Noted}
 use Rattle.star_verify.specs.declared.instructions.Place.{Place}
-use Rattle.star_verify.specs.declared.register.Register.{Register}
 use Rattle.star_verify.specs.declared.subject.Subject.{Subject}
-use Rattle.star_verify.specs.Private.Judged.{InEachContext, IsPlaced, IsReady, Keeps, scan_first}
+use Rattle.star_verify.specs.Private.Judged.{InEachContext, IsPlaceOf, IsReady, KeepsContext, scan_first}
 
 -- ---- a step
 
@@ -51,21 +50,19 @@ pub record IsRest (w : World) (parts : Parts) (pending : ℕ → Bool) (x : Cont
 pub record Walk : Type 0 where
   pub subject : Subject
   pub place : Place
-  pub registers : List Register
   pub noted : Noted
   pub steps : List Step
 
 -- these steps are left, from the instruction of this number on, with what is kept there
-pub record IsLeft (walk : Walk) (registers : List Register) (noted : Noted) (at : ℕ)
-    (left : List Step) : Type 0 where
+pub record AreStepsLeft (walk : Walk) (noted : Noted) (at : ℕ) (left : List Step) : Type 0 where
   pub past : walk.place.at ≤ at
   pub size : at + code_size (code_of_steps left)
       ≡ walk.place.at + code_size (code_of_steps walk.steps)
   pub turns : turns_met (size_of walk.subject.facts.now.sizes) walk.place.met (code_of_steps left)
       ≤ 10 ^ 15
-  pub ready : IsReady walk.subject.parts.now (record walk.place { at = at }) registers noted
-  pub kept : InEachContext walk.subject walk.place walk.registers walk.noted (λ w x pending.
-      (there : Context) × Keeps walk.subject.parts.now registers noted there
-      × IsPlaced walk.place there
+  pub ready : IsReady walk.subject.parts.now (record walk.place { at = at }) noted
+  pub kept : InEachContext walk.subject walk.place walk.noted (λ w x pending.
+      (there : Context) × KeepsContext walk.subject.parts.now noted there
+      × IsPlaceOf walk.place there
       × IsRest w walk.subject.parts.now pending x walk.place.at (code_of_steps walk.steps) there at
       (code_of_steps left))

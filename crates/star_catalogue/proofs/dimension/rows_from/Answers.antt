@@ -1,4 +1,4 @@
-use Rattle.std.proofs.Common.{◌≡◌, ◌≢◌, ◌∙◌, ◌<◌, ◌-ℤ◌, ◌≤ℤ◌, ℕ, ℤ, List, pos, false, FitsSigned, Some, None, w64, cond, get_or, length, set, take, sym, ap, inr, arith, rules, to_z-of_z, length-set}
+use Rattle.std.proofs.Common.{◌≡◌, ◌≢◌, ◌∙◌, ◌<◌, ◌-ℤ◌, ◌≤ℤ◌, ℕ, List, pos, false, FitsSigned, Some, w64, get_or, length, set, sym, ap, inr, arith, rules, to_z-of_z, length-set}
 use Rattle.std.specs.Int.RustNames.{unsigned_abs}
 use Rattle.std.specs.List.{slice_get}
 use Rattle.std.specs.Option.{option_map}
@@ -44,7 +44,8 @@ returns-then-index c =
     let key = get_or keys place (pos 0) in
     let fits_least : FitsSigned w64 least = search rules in
     let fits_key : FitsSigned w64 key = search rules in
-    let above : least ≤ℤ key = All-get_or (λ k. least ≤ℤ k) keys place (pos 0) within c.requires.least in
+    let above : least ≤ℤ key =
+    All-get_or (λ k. least ≤ℤ k) keys place (pos 0) within c.requires.least in
     let slot : c.abs_diff-slot.result ≡ unsigned_abs (key -ℤ least) = omega (arith, ints) in
     let inside : unsigned_abs (key -ℤ least) < c.args.span =
     All-get_or (λ k. unsigned_abs (k -ℤ least) < c.args.span) keys place (pos 0) within
@@ -71,7 +72,8 @@ loop-place-preserved c =
     let key = get_or keys place (pos 0) in
     let fits_least : FitsSigned w64 least = search rules in
     let fits_key : FitsSigned w64 key = search rules in
-    let above : least ≤ℤ key = All-get_or (λ k. least ≤ℤ k) keys place (pos 0) within c.requires.least in
+    let above : least ≤ℤ key =
+    All-get_or (λ k. least ≤ℤ k) keys place (pos 0) within c.requires.least in
     let inside : unsigned_abs (key -ℤ least) < c.args.span =
     All-get_or (λ k. unsigned_abs (k -ℤ least) < c.args.span) keys place (pos 0) within
     c.requires.within in
@@ -97,4 +99,5 @@ pub returns : goal.returns
 returns c =
     let fits : FitsSigned w64 c.args.least = search rules in
     all_inserted int_eq int_eq_equiv c.args.keys.now (dense_at c.args.least c.loop-place.rows.items)
-    c.loop-place.place c.loop-place-test.false (rw (to_z-of_z fits) at c.loop-place.invariant.inserted)
+    c.loop-place.place c.loop-place-test.false
+    (rw (to_z-of_z fits) at c.loop-place.invariant.inserted)

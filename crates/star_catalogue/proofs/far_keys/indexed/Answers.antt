@@ -1,5 +1,5 @@
-use Rattle.std.proofs.Common.{◌≡◌, ◌∙◌, ◌<◌, ◌++◌, ◌∷◌, ℤ, [], Bool, pos, true, false, not, FitsSigned, Some, w64, cond, get_or, length, take, refl, sym, ap, inr, arith, rules, to_z-of_z}
-use Rattle.std.specs.List.{list_any, slice_get}
+use Rattle.std.proofs.Common.{◌≡◌, ◌∙◌, ◌<◌, ◌++◌, ◌∷◌, [], Bool, pos, true, false, not, FitsSigned, w64, get_or, length, take, refl, sym, ap, inr, rules, to_z-of_z}
+use Rattle.std.specs.List.{list_any}
 use Rattle.std.specs.Option.{option_map}
 use Rattle.std.specs.Ordering.{int_eq}
 use Rattle.std.proofs.lemmas.Cmp.{int_eq_equiv}
@@ -7,7 +7,7 @@ use Rattle.std.proofs.lemmas.List.{take_all}
 use Rattle.std.proofs.lemmas.Option.{slice_get-get_or}
 use Rattle.star_catalogue.specs.declared.fault.LoadFault.TheVariants.{DuplicateKey}
 use Rattle.star_catalogue.proofs.Copies.{copied_more}
-use Rattle.star_catalogue.proofs.Repeats.{new_more, none_yet_repeats, repeats_first, NoneRepeats}
+use Rattle.star_catalogue.proofs.Repeats.{new_more, none_yet_repeats, repeats_first}
 use Rattle.star_catalogue.proofs.far_keys.indexed.Goals as goal
 
 was_there : (b : Bool) → false ≡ not b → b ≡ true
@@ -54,7 +54,8 @@ loop-place-preserved c =
     let pushed : c.insert_full.new.self.keys ≡ take place keys ++ key ∷ [] =
     rw (to_z-of_z fits, c.loop-place.invariant.keys, fresh) at c.in_ok-is_new.ensures.keys in
     record {
-      keys = copied_more keys (take place keys) c.insert_full.new.self.keys place key refl pushed at;
+      keys = copied_more keys (take place keys) c.insert_full.new.self.keys place key refl pushed
+          at;
       none = new_more int_eq int_eq_equiv keys place key c.loop-place.invariant.none at fresh;
     }
 

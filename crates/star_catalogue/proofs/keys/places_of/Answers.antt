@@ -49,7 +49,8 @@ loop-place-preserved g c =
     (read g (goal.at.loop-place-preserved g c).After-index-keys-place)
     (sym c.in_ok-before.ensures.old ∙ none)
     (λ q. c.in_ok-before.ensures.updates.0 q
-    ∙ ap (λ b. cond b (Some c.loop-place.place) (old q)) (sym (g.met.K.Ord.matches_eq c.index-keys-place.result q)))
+    ∙ ap (λ b. cond b (Some c.loop-place.place) (old q))
+    (sym (g.met.K.Ord.matches_eq c.index-keys-place.result q)))
 
 pub returns : goal.returns
 returns g c =

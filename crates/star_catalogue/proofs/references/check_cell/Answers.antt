@@ -21,7 +21,8 @@ pub at-number-requires : goal.at-number-requires
 at-number-requires c =
     rw (
       c.numbers.ensures,
-      length-numbers_at (place_of c.args.column) (rows_in c.args.tables.now (table_of c.args.column)),
+      length-numbers_at (place_of c.args.column)
+          (rows_in c.args.tables.now (table_of c.args.column)),
       (key (goal.at.at-number-requires c).In-Some).table,
     ) c.requires.row
 

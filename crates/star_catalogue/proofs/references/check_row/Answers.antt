@@ -18,7 +18,8 @@ returns-in_err-check_cell c =
     (row_here c.args.tables.now (c.args.row + 1)
     (get_or (rows_in c.args.tables.now Lineorder) c.args.row []) i
     (get_or columns i DDatekey) c.in_err-check_cell.field-0.0
-    (listed_at foreign_keys columns i c.foreign_key_columns-column-items.ensures c.loop-column-test.true)
+    (listed_at foreign_keys columns i c.foreign_key_columns-column-items.ensures
+    c.loop-column-test.true)
     c.in_err-check_cell.ensures c.loop-column.invariant)
 
 pub loop-column-preserved : goal.loop-column-preserved
@@ -27,7 +28,8 @@ loop-column-preserved c =
     let i = c.loop-column.column-index in
     row_on c.args.tables.now (c.args.row + 1)
     (get_or (rows_in c.args.tables.now Lineorder) c.args.row []) i (get_or columns i DDatekey)
-    (listed_at foreign_keys columns i c.foreign_key_columns-column-items.ensures c.loop-column-test.true)
+    (listed_at foreign_keys columns i c.foreign_key_columns-column-items.ensures
+    c.loop-column-test.true)
     c.in_ok-check_cell.ensures c.loop-column.invariant
 
 pub returns : goal.returns

@@ -9,5 +9,6 @@ use Rattle.star_catalogue.proofs.references.check_row.Given as goal
 abbrev pub invariant-loop-column : goal.invariant-loop-column
 invariant-loop-column l =
     row_fault l.tables (l.row + 1) (get_or (rows_in l.tables Lineorder) l.row [])
-    ≡ first_answer (foreign_key_fault l.tables (l.row + 1) (get_or (rows_in l.tables Lineorder) l.row []))
+    ≡ first_answer (foreign_key_fault l.tables (l.row + 1)
+    (get_or (rows_in l.tables Lineorder) l.row []))
     (drop l.column-index foreign_keys)

@@ -1,5 +1,4 @@
 use Rattle.std.proofs.Common.{refl}
-use Rattle.star_cli.specs.Answers.{IsOfFolder}
 use Rattle.star_cli.proofs.answers.give_read.Goals as goal
 
 pub returns-in-Sample : goal.returns-in-Sample

@@ -1,4 +1,3 @@
-use Rattle.std.specs.Prelude.{OnOk}
 use Rattle.star_cli.proofs.FolderReads.{after}
 use Rattle.star_cli.proofs.files.feed_lineorder.Goals as goal
 

@@ -1,5 +1,4 @@
 use Rattle.std.proofs.Common.{◌++◌, ◌∷◌, []}
-use Rattle.star_cli.proofs.FolderReads.{stays}
 use Rattle.star_cli.proofs.files.feed_there.Goals as goal
 
 pub returns : goal.returns

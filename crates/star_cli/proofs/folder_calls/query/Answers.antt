@@ -8,15 +8,26 @@ use Rattle.star_cli.proofs.folder_calls.query.Goals as goal
 pub returns : goal.returns
 returns g c = λ texts are. (
   c.answer_query_read.result,
-  widest (λ rows visits. IsNoted (change g.S.Sink.contents g.S.Sink.is_failed c.args.out.now c.answer_query_read.new.out) (change g.N.Sink.contents g.N.Sink.is_failed c.args.notes.now c.answer_query_read.new.notes) (IsQueryQuote rows texts c.args.file.now) (IsQueryTold rows visits texts c.args.file.now) (IsUnanswered rows visits texts c.args.file.now) c.answer_query_read.result) c.widest.result.rows c.widest.result.visits c.widest.ensures.rows c.widest.ensures.visits (is_noted (change g.S.Sink.contents g.S.Sink.is_failed c.args.out.now c.answer_query_read.new.out)
+  widest (λ rows visits. IsNoted
+      (change g.S.Sink.contents g.S.Sink.is_failed c.args.out.now c.answer_query_read.new.out)
+      (change g.N.Sink.contents g.N.Sink.is_failed c.args.notes.now c.answer_query_read.new.notes)
+      (IsQueryQuote rows texts c.args.file.now) (IsQueryTold rows visits texts c.args.file.now)
+      (IsUnanswered rows visits texts c.args.file.now) c.answer_query_read.result)
+      c.widest.result.rows c.widest.result.visits c.widest.ensures.rows c.widest.ensures.visits
+      (is_noted (change g.S.Sink.contents g.S.Sink.is_failed c.args.out.now
+      c.answer_query_read.new.out)
       (change g.N.Sink.contents g.N.Sink.is_failed c.args.notes.now c.answer_query_read.new.notes)
       (IsQueryQuote c.widest.result.rows texts c.args.file.now)
       (IsQueryTold c.widest.result.rows c.widest.result.visits texts c.args.file.now)
-      (IsUnanswered c.widest.result.rows c.widest.result.visits texts c.args.file.now) c.answer_query_read.result
-      (c.answer_query_read.ensures.noted texts (rw c.widest.ensures.rows are)) (c.answer_query_read.ensures.broken texts (rw c.widest.ensures.rows are))
-      (c.answer_query_read.ensures.refused texts (rw c.widest.ensures.rows are)) (c.answer_query_read.ensures.memory texts (rw c.widest.ensures.rows are))),
+      (IsUnanswered c.widest.result.rows c.widest.result.visits texts c.args.file.now)
+      c.answer_query_read.result
+      (c.answer_query_read.ensures.noted texts (rw c.widest.ensures.rows are))
+      (c.answer_query_read.ensures.broken texts (rw c.widest.ensures.rows are))
+      (c.answer_query_read.ensures.refused texts (rw c.widest.ensures.rows are))
+      (c.answer_query_read.ensures.memory texts (rw c.widest.ensures.rows are))),
   c.whole.ensures,
 )
 
 pub answer_query_read-requires : goal.answer_query_read-requires
-answer_query_read-requires g c = let (texts, are) = c.requires in (texts, rw c.widest.ensures.rows are)
+answer_query_read-requires g c = let (texts, are) = c.requires in
+    (texts, rw c.widest.ensures.rows are)

@@ -9,7 +9,8 @@ pub returns-in-Err : goal.returns-in-Err
 returns-in-Err g c = (
   OutOfMemory,
   inr refl,
-  subst (IsTextTold (change g.S.Sink.contents g.S.Sink.is_failed c.args.err.now c.tell-in-Err.new.sink))
+  subst (IsTextTold (change g.S.Sink.contents g.S.Sink.is_failed c.args.err.now
+      c.tell-in-Err.new.sink))
       (memory_line _ (search rules)) c.tell-in-Err.ensures,
   refl,
 )

@@ -1,4 +1,4 @@
-use Rattle.std.proofs.Common.{◌≡◌, ◌∙◌, ap}
+use Rattle.std.proofs.Common.{◌∙◌, ap}
 use Rattle.star_engine.specs.Loads.{Loaded}
 use Rattle.star_cli.proofs.loads.engine_of.Goals as goal
 

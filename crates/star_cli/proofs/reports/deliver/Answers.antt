@@ -28,5 +28,6 @@ returns-in-Err g c =
     refused_delivered c.args.engine.now c.args.errand.name.now c.args.errand.file.now c.in-Err.fault
     (shelving g.K.Shelf.reports g.K.Shelf.failed_at c.args.shelf.now c.args.shelf.now)
     (change g.S.Sink.contents g.S.Sink.is_failed c.args.out.now c.tell_refusal.new.out)
-    c.tell_refusal.result (kept_none g.K.Shelf.reports g.K.Shelf.failed_at c.args.shelf.now) c.in-Err.ensures
+    c.tell_refusal.result (kept_none g.K.Shelf.reports g.K.Shelf.failed_at c.args.shelf.now)
+    c.in-Err.ensures
     c.tell_refusal.ensures.told c.tell_refusal.ensures.memory

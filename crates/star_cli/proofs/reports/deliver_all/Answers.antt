@@ -6,7 +6,8 @@ use Rattle.star_cli.proofs.reports.deliver_all.Goals as goal
 
 pub loop-errand-preserved : goal.loop-errand-preserved
 loop-errand-preserved g c =
-    delivered_next c.args.engine.now c.args.errands.now c.loop-errand.errand-index _ c.loop-errand-test.true
+    delivered_next c.args.engine.now c.args.errands.now c.loop-errand.errand-index _
+    c.loop-errand-test.true
     (shelving g.K.Shelf.reports g.K.Shelf.failed_at c.args.shelf.now c.deliver.new.shelf)
     (change g.S.Sink.contents g.S.Sink.is_failed c.args.out.now c.deliver.new.out)
     c.loop-errand.shelf c.loop-errand.out c.loop-errand.all c.loop-errand.invariant
@@ -16,7 +17,8 @@ pub returns-in_err-answered : goal.returns-in_err-answered
 returns-in_err-answered g c =
     let p = err_from_is_err_and c.from_residual.result c.from_residual.ensures.1 in
     rw (p.1, p.2)
-    (delivery_halted c.args.engine.now c.args.errands.now c.loop-errand.errand-index _ c.loop-errand-test.true
+    (delivery_halted c.args.engine.now c.args.errands.now c.loop-errand.errand-index _
+    c.loop-errand-test.true
     (shelving g.K.Shelf.reports g.K.Shelf.failed_at c.args.shelf.now c.deliver.new.shelf)
     (change g.S.Sink.contents g.S.Sink.is_failed c.args.out.now c.deliver.new.out)
     c.loop-errand.shelf c.loop-errand.out c.loop-errand.all c.loop-errand.invariant

@@ -2,7 +2,7 @@ use Rattle.std.proofs.Common.{◌≡◌, true, false, refl, rules, subst}
 use Rattle.std.proofs.lemmas.Result.{err_from_is_err_and}
 use Rattle.star_engine.specs.Answered.{change}
 use Rattle.star_statements.specs.Sources.{has_failed, reader_of}
-use Rattle.star_cli.specs.Private.Turns.{IsAnswered}
+use Rattle.star_cli.specs.Private.Turns.{IsStatementAnswered}
 use Rattle.star_cli.proofs.Conversing.{begins, comes_to_its_end, goes_on, is_stopped}
 use Rattle.star_cli.proofs.sessions.converse.Goals as goal
 
@@ -16,12 +16,14 @@ pub statements-preserved : goal.statements-preserved
 statements-preserved g c =
     let is : c.in_ok-turn.field-0 ≡ true = search rules in
     goes_on c.args.engine.now c.args.is_terminal (g.R.Read.remaining (reader_of c.args.source.now))
-    (g.R.Read.remaining (reader_of c.statements.source)) (g.R.Read.remaining (reader_of c.turn.new.source))
+    (g.R.Read.remaining (reader_of c.statements.source))
+    (g.R.Read.remaining (reader_of c.turn.new.source))
     (change g.S.Sink.contents g.S.Sink.is_failed c.args.out.now c.turn.new.out)
     (change g.E.Sink.contents g.E.Sink.is_failed c.args.err.now c.turn.new.err)
     c.statements.out c.statements.err c.statements.counter c.statements.invariant
-    (subst (λ b. IsAnswered c.args.engine.now c.args.is_terminal
-    (g.R.Read.remaining (reader_of c.statements.source)) (g.R.Read.remaining (reader_of c.turn.new.source))
+    (subst (λ b. IsStatementAnswered c.args.engine.now c.args.is_terminal
+    (g.R.Read.remaining (reader_of c.statements.source))
+    (g.R.Read.remaining (reader_of c.turn.new.source))
     (change g.S.Sink.contents g.S.Sink.is_failed c.statements.out c.turn.new.out)
     (change g.E.Sink.contents g.E.Sink.is_failed c.statements.err c.turn.new.err) b true) is
     c.in_ok-turn.ensures)
@@ -29,13 +31,16 @@ statements-preserved g c =
 pub returns-then-not-branch : goal.returns-then-not-branch
 returns-then-not-branch g c =
     let is : c.in_ok-turn.field-0 ≡ false = search rules in
-    comes_to_its_end c.args.engine.now c.args.is_terminal (g.R.Read.remaining (reader_of c.args.source.now))
-    (g.R.Read.remaining (reader_of c.statements.source)) (g.R.Read.remaining (reader_of c.turn.new.source))
+    comes_to_its_end c.args.engine.now c.args.is_terminal
+    (g.R.Read.remaining (reader_of c.args.source.now))
+    (g.R.Read.remaining (reader_of c.statements.source))
+    (g.R.Read.remaining (reader_of c.turn.new.source))
     (change g.S.Sink.contents g.S.Sink.is_failed c.args.out.now c.turn.new.out)
     (change g.E.Sink.contents g.E.Sink.is_failed c.args.err.now c.turn.new.err)
     c.statements.out c.statements.err c.statements.counter c.statements.invariant
-    (subst (λ b. IsAnswered c.args.engine.now c.args.is_terminal
-    (g.R.Read.remaining (reader_of c.statements.source)) (g.R.Read.remaining (reader_of c.turn.new.source))
+    (subst (λ b. IsStatementAnswered c.args.engine.now c.args.is_terminal
+    (g.R.Read.remaining (reader_of c.statements.source))
+    (g.R.Read.remaining (reader_of c.turn.new.source))
     (change g.S.Sink.contents g.S.Sink.is_failed c.statements.out c.turn.new.out)
     (change g.E.Sink.contents g.E.Sink.is_failed c.statements.err c.turn.new.err) b true) is
     c.in_ok-turn.ensures)
@@ -44,8 +49,10 @@ pub returns-in_err-turn : goal.returns-in_err-turn
 returns-in_err-turn g c =
     let p = err_from_is_err_and c.from_residual.result c.from_residual.ensures.1 in
     rw (p.1, p.2)
-    (is_stopped c.args.engine.now c.args.is_terminal (g.R.Read.remaining (reader_of c.args.source.now))
-    (g.R.Read.remaining (reader_of c.statements.source)) (g.R.Read.remaining (reader_of c.turn.new.source))
+    (is_stopped c.args.engine.now c.args.is_terminal
+    (g.R.Read.remaining (reader_of c.args.source.now))
+    (g.R.Read.remaining (reader_of c.statements.source))
+    (g.R.Read.remaining (reader_of c.turn.new.source))
     (change g.S.Sink.contents g.S.Sink.is_failed c.args.out.now c.turn.new.out)
     (change g.E.Sink.contents g.E.Sink.is_failed c.args.err.now c.turn.new.err)
     c.statements.out c.statements.err c.statements.counter c.statements.invariant

@@ -3,7 +3,12 @@ use Rattle.star_column.proofs.coding.code_each.Goals as goal
 
 pub returns-clause-texts : goal.returns-clause-texts
 returns-clause-texts c =
-    rw (c.of_ordered.ensures, c.in_ok-each.ensures, c.as_slice.ensures.value, ← c.parts.ensures.texts)
+    rw (
+      c.of_ordered.ensures,
+      c.in_ok-each.ensures,
+      c.as_slice.ensures.value,
+      ← c.parts.ensures.texts,
+    )
     (texts_of_coded _ _ _ _ c.parts.ensures.repeated c.in_ok-different.ensures.repeated
     c.in_ok-different.ensures.texts)
 

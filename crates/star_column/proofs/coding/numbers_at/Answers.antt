@@ -13,7 +13,8 @@ returns-in-Bits8 c =
 
 pub read_at-requires-in-Bits16 : goal.read_at-requires-in-Bits16
 read_at-requires-in-Bits16 c =
-    words_within c.as_slice-in-Bits16.result.now c.args.rows.now c.args.numbers.now (search rules) c.requires
+    words_within c.as_slice-in-Bits16.result.now c.args.rows.now c.args.numbers.now (search rules)
+    c.requires
 
 pub returns-in-Bits16 : goal.returns-in-Bits16
 returns-in-Bits16 c =
@@ -22,7 +23,8 @@ returns-in-Bits16 c =
 
 pub read_at-requires-in-Bits32 : goal.read_at-requires-in-Bits32
 read_at-requires-in-Bits32 c =
-    words_within c.as_slice-in-Bits32.result.now c.args.rows.now c.args.numbers.now (search rules) c.requires
+    words_within c.as_slice-in-Bits32.result.now c.args.rows.now c.args.numbers.now (search rules)
+    c.requires
 
 pub returns-in-Bits32 : goal.returns-in-Bits32
 returns-in-Bits32 c =
@@ -31,7 +33,8 @@ returns-in-Bits32 c =
 
 pub read_at-requires-in-Bits64 : goal.read_at-requires-in-Bits64
 read_at-requires-in-Bits64 c =
-    words_within c.as_slice-in-Bits64.result.now c.args.rows.now c.args.numbers.now (search rules) c.requires
+    words_within c.as_slice-in-Bits64.result.now c.args.rows.now c.args.numbers.now (search rules)
+    c.requires
 
 pub returns-in-Bits64 : goal.returns-in-Bits64
 returns-in-Bits64 c =

@@ -9,7 +9,8 @@ unwrap-requires c =
     c.new-program.ensures.exactly.1
     (subst IsWithinLimits (sym c.in_ok-parts.ensures)
     (is_within_limits (plan_view c.tree.result.now)
-    (c.planned_queries_are_sound.ensures.limits (plan_view c.tree.result.now) c.tree.ensures.planned)))
+    (c.planned_queries_are_sound.ensures.limits (plan_view c.tree.result.now)
+    c.tree.ensures.planned)))
 
 pub parts-requires-clause-sound : goal.parts-requires-clause-sound
 parts-requires-clause-sound c =

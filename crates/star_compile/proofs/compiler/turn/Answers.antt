@@ -6,20 +6,23 @@ use Rattle.star_compile.proofs.compiler.turn.Goals as goal
 pub conjuncts-requires-clause-room : goal.conjuncts-requires-clause-room
 conjuncts-requires-clause-room c =
     let room =
-    room_for_conjuncts (plan_view c.args.tree.now) c.new-emitter.result (search rules) c.requires.room in
+    room_for_conjuncts (plan_view c.args.tree.now) c.new-emitter.result (search rules)
+    c.requires.room in
     search rules
 
 pub keys-requires : goal.keys-requires
 keys-requires c =
     let room =
-    room_for_keys (plan_view c.args.tree.now) c.new-emitter.result c.conjuncts.new.self (search rules)
+    room_for_keys (plan_view c.args.tree.now) c.new-emitter.result c.conjuncts.new.self
+    (search rules)
     (search rules) c.requires.room in
     record { room = search rules }
 
 pub values-requires : goal.values-requires
 values-requires c =
     let room =
-    room_for_values (plan_view c.args.tree.now) c.new-emitter.result c.conjuncts.new.self (search rules)
+    room_for_values (plan_view c.args.tree.now) c.new-emitter.result c.conjuncts.new.self
+    (search rules)
     (search rules) c.keys.new.self c.in_ok-keys.keys.items (search rules) c.requires.room in
     record { room = search rules }
 

@@ -22,6 +22,7 @@ loop-prepared-preserved c =
 pub returns : goal.returns
 returns c =
     let left = c.loop-prepared.prepared-iterator.rest in
-    last_section c.args.catalogue.now c.args.limits.visits c.args.all left.items c.loop-prepared.fits
+    last_section c.args.catalogue.now c.args.limits.visits c.args.all left.items
+    c.loop-prepared.fits
     c.loop-prepared.text.items
     (none_left left.items (sym left.ok.0 ∙ c.in-None.ensures.steps.0)) c.loop-prepared.invariant

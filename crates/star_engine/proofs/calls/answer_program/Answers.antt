@@ -7,14 +7,16 @@ use Rattle.star_engine.proofs.calls.answer_program.Goals as goal
 
 pub returns-clause-reported : goal.returns-clause-reported
 returns-clause-reported g c =
-    (has_reported (change g.S.Sink.contents g.S.Sink.is_failed c.args.out.now c.answer_program.new.out)
+    (has_reported (change g.S.Sink.contents g.S.Sink.is_failed c.args.out.now
+    c.answer_program.new.out)
     (change g.N.Sink.contents g.N.Sink.is_failed c.args.notes.now c.answer_program.new.notes)
     (IsQuoteOf c.args.limits.rows (texts_view c.args.texts.now) c.args.file.now)
     (IsToldOf c.args.limits.rows c.args.limits.visits (texts_view c.args.texts.now) c.args.file.now)
     (IsUntold c.args.limits.rows c.args.limits.visits (texts_view c.args.texts.now) c.args.file.now)
     c.answer_program.result
     (IsFileReport c.args.limits.rows (texts_view c.args.texts.now) c.args.file.now)
-    (file_report c.args.limits.rows c.args.limits.visits (texts_view c.args.texts.now) c.args.file.now)
+    (file_report c.args.limits.rows c.args.limits.visits (texts_view c.args.texts.now)
+    c.args.file.now)
     c.answer_program.ensures)
 
 pub returns-clause-noted : goal.returns-clause-noted
@@ -28,7 +30,8 @@ returns-clause-noted g c =
 
 pub returns-clause-broken : goal.returns-clause-broken
 returns-clause-broken g c =
-    (is_telling_broken_off (change g.S.Sink.contents g.S.Sink.is_failed c.args.out.now c.answer_program.new.out)
+    (is_telling_broken_off (change g.S.Sink.contents g.S.Sink.is_failed c.args.out.now
+    c.answer_program.new.out)
     (change g.N.Sink.contents g.N.Sink.is_failed c.args.notes.now c.answer_program.new.notes)
     (IsQuoteOf c.args.limits.rows (texts_view c.args.texts.now) c.args.file.now)
     (IsToldOf c.args.limits.rows c.args.limits.visits (texts_view c.args.texts.now) c.args.file.now)
@@ -37,7 +40,8 @@ returns-clause-broken g c =
 
 pub returns-clause-refused : goal.returns-clause-refused
 returns-clause-refused g c =
-    (is_telling_refused (change g.S.Sink.contents g.S.Sink.is_failed c.args.out.now c.answer_program.new.out)
+    (is_telling_refused (change g.S.Sink.contents g.S.Sink.is_failed c.args.out.now
+    c.answer_program.new.out)
     (change g.N.Sink.contents g.N.Sink.is_failed c.args.notes.now c.answer_program.new.notes)
     (IsQuoteOf c.args.limits.rows (texts_view c.args.texts.now) c.args.file.now)
     (IsToldOf c.args.limits.rows c.args.limits.visits (texts_view c.args.texts.now) c.args.file.now)
@@ -46,7 +50,8 @@ returns-clause-refused g c =
 
 pub returns-clause-memory : goal.returns-clause-memory
 returns-clause-memory g c =
-    (is_telling_untold (change g.S.Sink.contents g.S.Sink.is_failed c.args.out.now c.answer_program.new.out)
+    (is_telling_untold (change g.S.Sink.contents g.S.Sink.is_failed c.args.out.now
+    c.answer_program.new.out)
     (change g.N.Sink.contents g.N.Sink.is_failed c.args.notes.now c.answer_program.new.notes)
     (IsQuoteOf c.args.limits.rows (texts_view c.args.texts.now) c.args.file.now)
     (IsToldOf c.args.limits.rows c.args.limits.visits (texts_view c.args.texts.now) c.args.file.now)

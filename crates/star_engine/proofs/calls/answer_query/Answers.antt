@@ -7,14 +7,18 @@ use Rattle.star_engine.proofs.calls.answer_query.Goals as goal
 
 pub returns-clause-reported : goal.returns-clause-reported
 returns-clause-reported g c =
-    (has_reported (change g.S.Sink.contents g.S.Sink.is_failed c.args.out.now c.answer_query.new.out)
+    (has_reported (change g.S.Sink.contents g.S.Sink.is_failed c.args.out.now
+    c.answer_query.new.out)
     (change g.N.Sink.contents g.N.Sink.is_failed c.args.notes.now c.answer_query.new.notes)
     (IsQueryQuote c.args.limits.rows (texts_view c.args.texts.now) c.args.query.now)
-    (IsQueryTold c.args.limits.rows c.args.limits.visits (texts_view c.args.texts.now) c.args.query.now)
-    (IsUnanswered c.args.limits.rows c.args.limits.visits (texts_view c.args.texts.now) c.args.query.now)
+    (IsQueryTold c.args.limits.rows c.args.limits.visits (texts_view c.args.texts.now)
+    c.args.query.now)
+    (IsUnanswered c.args.limits.rows c.args.limits.visits (texts_view c.args.texts.now)
+    c.args.query.now)
     c.answer_query.result
     (IsReportOf c.args.limits.rows (texts_view c.args.texts.now) c.args.query.now)
-    (query_report c.args.limits.rows c.args.limits.visits (texts_view c.args.texts.now) c.args.query.now)
+    (query_report c.args.limits.rows c.args.limits.visits (texts_view c.args.texts.now)
+    c.args.query.now)
     c.answer_query.ensures)
 
 pub returns-clause-noted : goal.returns-clause-noted
@@ -22,33 +26,44 @@ returns-clause-noted g c =
     (has_told (change g.S.Sink.contents g.S.Sink.is_failed c.args.out.now c.answer_query.new.out)
     (change g.N.Sink.contents g.N.Sink.is_failed c.args.notes.now c.answer_query.new.notes)
     (IsQueryQuote c.args.limits.rows (texts_view c.args.texts.now) c.args.query.now)
-    (IsQueryTold c.args.limits.rows c.args.limits.visits (texts_view c.args.texts.now) c.args.query.now)
-    (IsUnanswered c.args.limits.rows c.args.limits.visits (texts_view c.args.texts.now) c.args.query.now)
+    (IsQueryTold c.args.limits.rows c.args.limits.visits (texts_view c.args.texts.now)
+    c.args.query.now)
+    (IsUnanswered c.args.limits.rows c.args.limits.visits (texts_view c.args.texts.now)
+    c.args.query.now)
     c.answer_query.result c.answer_query.ensures)
 
 pub returns-clause-broken : goal.returns-clause-broken
 returns-clause-broken g c =
-    (is_telling_broken_off (change g.S.Sink.contents g.S.Sink.is_failed c.args.out.now c.answer_query.new.out)
+    (is_telling_broken_off (change g.S.Sink.contents g.S.Sink.is_failed c.args.out.now
+    c.answer_query.new.out)
     (change g.N.Sink.contents g.N.Sink.is_failed c.args.notes.now c.answer_query.new.notes)
     (IsQueryQuote c.args.limits.rows (texts_view c.args.texts.now) c.args.query.now)
-    (IsQueryTold c.args.limits.rows c.args.limits.visits (texts_view c.args.texts.now) c.args.query.now)
-    (IsUnanswered c.args.limits.rows c.args.limits.visits (texts_view c.args.texts.now) c.args.query.now)
+    (IsQueryTold c.args.limits.rows c.args.limits.visits (texts_view c.args.texts.now)
+    c.args.query.now)
+    (IsUnanswered c.args.limits.rows c.args.limits.visits (texts_view c.args.texts.now)
+    c.args.query.now)
     c.answer_query.result c.answer_query.ensures)
 
 pub returns-clause-refused : goal.returns-clause-refused
 returns-clause-refused g c =
-    (is_telling_refused (change g.S.Sink.contents g.S.Sink.is_failed c.args.out.now c.answer_query.new.out)
+    (is_telling_refused (change g.S.Sink.contents g.S.Sink.is_failed c.args.out.now
+    c.answer_query.new.out)
     (change g.N.Sink.contents g.N.Sink.is_failed c.args.notes.now c.answer_query.new.notes)
     (IsQueryQuote c.args.limits.rows (texts_view c.args.texts.now) c.args.query.now)
-    (IsQueryTold c.args.limits.rows c.args.limits.visits (texts_view c.args.texts.now) c.args.query.now)
-    (IsUnanswered c.args.limits.rows c.args.limits.visits (texts_view c.args.texts.now) c.args.query.now)
+    (IsQueryTold c.args.limits.rows c.args.limits.visits (texts_view c.args.texts.now)
+    c.args.query.now)
+    (IsUnanswered c.args.limits.rows c.args.limits.visits (texts_view c.args.texts.now)
+    c.args.query.now)
     c.answer_query.result c.answer_query.ensures)
 
 pub returns-clause-memory : goal.returns-clause-memory
 returns-clause-memory g c =
-    (is_telling_untold (change g.S.Sink.contents g.S.Sink.is_failed c.args.out.now c.answer_query.new.out)
+    (is_telling_untold (change g.S.Sink.contents g.S.Sink.is_failed c.args.out.now
+    c.answer_query.new.out)
     (change g.N.Sink.contents g.N.Sink.is_failed c.args.notes.now c.answer_query.new.notes)
     (IsQueryQuote c.args.limits.rows (texts_view c.args.texts.now) c.args.query.now)
-    (IsQueryTold c.args.limits.rows c.args.limits.visits (texts_view c.args.texts.now) c.args.query.now)
-    (IsUnanswered c.args.limits.rows c.args.limits.visits (texts_view c.args.texts.now) c.args.query.now)
+    (IsQueryTold c.args.limits.rows c.args.limits.visits (texts_view c.args.texts.now)
+    c.args.query.now)
+    (IsUnanswered c.args.limits.rows c.args.limits.visits (texts_view c.args.texts.now)
+    c.args.query.now)
     c.answer_query.result c.answer_query.ensures)

@@ -5,14 +5,16 @@ use Rattle.star_engine.proofs.calls.explain_query.Goals as goal
 
 pub returns-clause-written : goal.returns-clause-written
 returns-clause-written g c =
-    (has_written (change g.S.Sink.contents g.S.Sink.is_failed c.args.out.now c.explain_query.new.out)
+    (has_written (change g.S.Sink.contents g.S.Sink.is_failed c.args.out.now
+    c.explain_query.new.out)
     (IsExplained c.args.query.now)
     (IsNoQuery c.args.query.now)
     c.explain_query.result c.explain_query.ensures)
 
 pub returns-clause-broken : goal.returns-clause-broken
 returns-clause-broken g c =
-    (is_broken_off (change g.S.Sink.contents g.S.Sink.is_failed c.args.out.now c.explain_query.new.out)
+    (is_broken_off (change g.S.Sink.contents g.S.Sink.is_failed c.args.out.now
+    c.explain_query.new.out)
     (IsExplained c.args.query.now)
     (IsNoQuery c.args.query.now)
     c.explain_query.result c.explain_query.ensures)
@@ -26,7 +28,8 @@ returns-clause-refused g c =
 
 pub returns-clause-memory : goal.returns-clause-memory
 returns-clause-memory g c =
-    (is_untouched (change g.S.Sink.contents g.S.Sink.is_failed c.args.out.now c.explain_query.new.out)
+    (is_untouched (change g.S.Sink.contents g.S.Sink.is_failed c.args.out.now
+    c.explain_query.new.out)
     (IsExplained c.args.query.now)
     (IsNoQuery c.args.query.now)
     c.explain_query.result c.explain_query.ensures)

@@ -6,14 +6,16 @@ use Rattle.star_engine.proofs.calls.trial_program.Goals as goal
 
 pub returns-clause-written : goal.returns-clause-written
 returns-clause-written g c =
-    (has_written (change g.S.Sink.contents g.S.Sink.is_failed c.args.out.now c.trial_program.new.out)
+    (has_written (change g.S.Sink.contents g.S.Sink.is_failed c.args.out.now
+    c.trial_program.new.out)
     (IsTrialReport c.args.limits.rows (texts_view c.args.texts.now) c.args.file.now c.args.visits)
     (IsNoTrial c.args.limits.rows (texts_view c.args.texts.now) c.args.file.now c.args.visits)
     c.trial_program.result c.trial_program.ensures)
 
 pub returns-clause-broken : goal.returns-clause-broken
 returns-clause-broken g c =
-    (is_broken_off (change g.S.Sink.contents g.S.Sink.is_failed c.args.out.now c.trial_program.new.out)
+    (is_broken_off (change g.S.Sink.contents g.S.Sink.is_failed c.args.out.now
+    c.trial_program.new.out)
     (IsTrialReport c.args.limits.rows (texts_view c.args.texts.now) c.args.file.now c.args.visits)
     (IsNoTrial c.args.limits.rows (texts_view c.args.texts.now) c.args.file.now c.args.visits)
     c.trial_program.result c.trial_program.ensures)
@@ -27,7 +29,8 @@ returns-clause-refused g c =
 
 pub returns-clause-memory : goal.returns-clause-memory
 returns-clause-memory g c =
-    (is_untouched (change g.S.Sink.contents g.S.Sink.is_failed c.args.out.now c.trial_program.new.out)
+    (is_untouched (change g.S.Sink.contents g.S.Sink.is_failed c.args.out.now
+    c.trial_program.new.out)
     (IsTrialReport c.args.limits.rows (texts_view c.args.texts.now) c.args.file.now c.args.visits)
     (IsNoTrial c.args.limits.rows (texts_view c.args.texts.now) c.args.file.now c.args.visits)
     c.trial_program.result c.trial_program.ensures)

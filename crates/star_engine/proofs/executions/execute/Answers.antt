@@ -30,7 +30,8 @@ returns-in_err-write_note g c =
 pub returns : goal.returns
 returns g c =
     let outcome = c.in_ok-outcome.outcome in
-    let noted = rw (c.as_bytes.ensures.value ∙ c.in_ok-note.ensures) at c.in_ok-write_note.ensures in
+    let noted = rw (c.as_bytes.ensures.value ∙ c.in_ok-note.ensures) at
+    c.in_ok-write_note.ensures in
     delivered (change g.S.Sink.contents g.S.Sink.is_failed c.args.out.now c.tell.new.out)
     g.N.Sink.contents g.N.Sink.is_failed c.args.notes.now c.write_note.new.notes c.tell.new.notes
     (IsQuote c.args.catalogue.now c.args.program)

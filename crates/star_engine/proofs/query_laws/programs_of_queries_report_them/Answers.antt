@@ -5,7 +5,8 @@ use Rattle.star_engine.proofs.PlansOfQueries.{plan_sound, plan_spelled, plan_wit
 use Rattle.star_engine.proofs.query_laws.programs_of_queries_report_them.Goals as goal
 
 pub returns-clause-quoted : goal.returns-clause-quoted
-returns-clause-quoted c = λ database p. c.compiled_programs_visit_each_row_once.ensures (world_of database).size p
+returns-clause-quoted c =
+    λ database p. c.compiled_programs_visit_each_row_once.ensures (world_of database).size p
 
 pub returns-clause-spelled : goal.returns-clause-spelled
 returns-clause-spelled c = λ query p meant.

@@ -19,10 +19,12 @@ returns-clause-accepted c = λ most database query p loaded meant.
     loaded.bounds (plan_sound query p meant) (plan_spelled query p meant)
     in
     let own = text_fits most database query p meant
-    (c.plans_fit_where_their_queries_do.ensures most (rows_in database) meant.tree p meant.resolved) in
+    (c.plans_fit_where_their_queries_do.ensures most (rows_in database) meant.tree p
+    meant.resolved) in
     let admitted =
     c.admissible_programs_within_the_limit_are_not_refused.ensures w most (compiled p) in (
-      λ fits. let both = admitted.0 (free.0 (own.0 fits)) in record { admissible = both.0; cheap = both.1 },
+      λ fits. let both = admitted.0 (free.0 (own.0 fits)) in
+          record { admissible = both.0; cheap = both.1 },
       λ accepted. own.1 (free.1 (admitted.1 (accepted.admissible, accepted.cheap))),
     )
 
@@ -33,7 +35,8 @@ returns-clause-costly c = λ most database p.
 pub returns-clause-wide : goal.returns-clause-wide
 returns-clause-wide c = λ most database query p meant within unfit.
     let own = text_fits most database query p meant
-    (c.plans_fit_where_their_queries_do.ensures most (rows_in database) meant.tree p meant.resolved) in
+    (c.plans_fit_where_their_queries_do.ensures most (rows_in database) meant.tree p
+    meant.resolved) in
     c.compiled_programs_are_accepted_where_they_fit_the_tables.ensures.wide database most p
     (plan_sound query p meant) within (λ fits. unfit (own.1 fits))
 

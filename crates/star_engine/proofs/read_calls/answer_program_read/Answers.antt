@@ -6,7 +6,8 @@ use Rattle.star_engine.proofs.read_calls.answer_program_read.Goals as goal
 
 pub returns-clause-reported : goal.returns-clause-reported
 returns-clause-reported g c = λ texts are.
-    has_reported (change g.S.Sink.contents g.S.Sink.is_failed c.args.out.now c.answer_program_read.new.out)
+    has_reported (change g.S.Sink.contents g.S.Sink.is_failed c.args.out.now
+    c.answer_program_read.new.out)
     (change g.N.Sink.contents g.N.Sink.is_failed c.args.notes.now c.answer_program_read.new.notes)
     (IsQuoteOf c.args.limits.rows texts c.args.file.now)
     (IsToldOf c.args.limits.rows c.args.limits.visits texts c.args.file.now)
@@ -18,7 +19,8 @@ returns-clause-reported g c = λ texts are.
 
 pub returns-clause-noted : goal.returns-clause-noted
 returns-clause-noted g c = λ texts are.
-    has_told (change g.S.Sink.contents g.S.Sink.is_failed c.args.out.now c.answer_program_read.new.out)
+    has_told (change g.S.Sink.contents g.S.Sink.is_failed c.args.out.now
+    c.answer_program_read.new.out)
     (change g.N.Sink.contents g.N.Sink.is_failed c.args.notes.now c.answer_program_read.new.notes)
     (IsQuoteOf c.args.limits.rows texts c.args.file.now)
     (IsToldOf c.args.limits.rows c.args.limits.visits texts c.args.file.now)
@@ -27,7 +29,8 @@ returns-clause-noted g c = λ texts are.
 
 pub returns-clause-broken : goal.returns-clause-broken
 returns-clause-broken g c = λ texts are.
-    is_telling_broken_off (change g.S.Sink.contents g.S.Sink.is_failed c.args.out.now c.answer_program_read.new.out)
+    is_telling_broken_off (change g.S.Sink.contents g.S.Sink.is_failed c.args.out.now
+    c.answer_program_read.new.out)
     (change g.N.Sink.contents g.N.Sink.is_failed c.args.notes.now c.answer_program_read.new.notes)
     (IsQuoteOf c.args.limits.rows texts c.args.file.now)
     (IsToldOf c.args.limits.rows c.args.limits.visits texts c.args.file.now)
@@ -36,7 +39,8 @@ returns-clause-broken g c = λ texts are.
 
 pub returns-clause-refused : goal.returns-clause-refused
 returns-clause-refused g c = λ texts are.
-    is_telling_refused (change g.S.Sink.contents g.S.Sink.is_failed c.args.out.now c.answer_program_read.new.out)
+    is_telling_refused (change g.S.Sink.contents g.S.Sink.is_failed c.args.out.now
+    c.answer_program_read.new.out)
     (change g.N.Sink.contents g.N.Sink.is_failed c.args.notes.now c.answer_program_read.new.notes)
     (IsQuoteOf c.args.limits.rows texts c.args.file.now)
     (IsToldOf c.args.limits.rows c.args.limits.visits texts c.args.file.now)
@@ -45,7 +49,8 @@ returns-clause-refused g c = λ texts are.
 
 pub returns-clause-memory : goal.returns-clause-memory
 returns-clause-memory g c = λ texts are.
-    is_telling_untold (change g.S.Sink.contents g.S.Sink.is_failed c.args.out.now c.answer_program_read.new.out)
+    is_telling_untold (change g.S.Sink.contents g.S.Sink.is_failed c.args.out.now
+    c.answer_program_read.new.out)
     (change g.N.Sink.contents g.N.Sink.is_failed c.args.notes.now c.answer_program_read.new.notes)
     (IsQuoteOf c.args.limits.rows texts c.args.file.now)
     (IsToldOf c.args.limits.rows c.args.limits.visits texts c.args.file.now)

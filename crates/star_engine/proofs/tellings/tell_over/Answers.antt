@@ -48,5 +48,6 @@ returns-in_err-program c =
     (or_memory (IsUnquotedOver c.args.file.now)
     (IsUnjudgedOver c.args.limits.visits c.args.catalogue.now c.args.file.now)
     c.in_err-program.field-0.0
-    (unread (is_program_file c.args.file.now) c.args.limits.visits c.args.catalogue.now c.args.file.now)
+    (unread (is_program_file c.args.file.now) c.args.limits.visits c.args.catalogue.now
+    c.args.file.now)
     c.in_err-program.ensures)

@@ -1,11 +1,11 @@
 use Rattle.std.proofs.Common.{◌≡◌, ◌≤◌, length, take}
 use Rattle.star_flat.specs.Private.Codes.{LeadTo, different}
-use Rattle.star_flat.specs.Private.Order.{texts_of}
+use Rattle.star_flat.specs.Private.Order.{numbered_texts}
 use Rattle.star_flat.proofs.coding.code_ordered.Given as goal
 
 abbrev pub invariant-loop-place : goal.invariant-loop-place
 invariant-loop-place l = record {
-  put : l.put ≡ different (take l.place (texts_of l.texts l.ordered));
+  put : l.put ≡ different (take l.place (numbered_texts l.texts l.ordered));
   no_more : length l.put ≤ l.place;
   len : length l.codes.items ≡ length l.texts;
   lead : LeadTo l.put l.codes.items l.texts (take l.place l.ordered);

@@ -1,6 +1,6 @@
 use Rattle.std.proofs.Common.{◌≡◌, ◌∙◌, ◌+◌, take, sym, arith, true≢false}
 use Rattle.star_flat.specs.Private.Codes.{different}
-use Rattle.star_flat.specs.Private.Order.{texts_of}
+use Rattle.star_flat.specs.Private.Order.{numbered_texts}
 use Rattle.star_flat.proofs.CodesKept.{code_here, put_again, put_new, some_put}
 use Rattle.star_flat.proofs.Pushed.{pushed_before}
 use Rattle.star_flat.proofs.coding.put_next.Goals as goal
@@ -28,7 +28,8 @@ pub overflow_sub-result : goal.overflow_sub-result
 overflow_sub-result c =
     let texts = c.args.texts.now in
     let ordered = c.args.ordered.now in
-    let made : c.if-not-repeats.put ≡ different (take (c.args.place + 1) (texts_of texts ordered)) =
+    let made : c.if-not-repeats.put
+    ≡ different (take (c.args.place + 1) (numbered_texts texts ordered)) =
     elim c.if-not-repeats.branch [
       | then-not-repeats+in_ok-push w ↦
           rw w.put-is
@@ -59,7 +60,8 @@ pub returns-clause-code : goal.returns-clause-code
 returns-clause-code c =
     let texts = c.args.texts.now in
     let ordered = c.args.ordered.now in
-    let made : c.if-not-repeats.put ≡ different (take (c.args.place + 1) (texts_of texts ordered)) =
+    let made : c.if-not-repeats.put
+    ≡ different (take (c.args.place + 1) (numbered_texts texts ordered)) =
     elim c.if-not-repeats.branch [
       | then-not-repeats+in_ok-push w ↦
           rw w.put-is

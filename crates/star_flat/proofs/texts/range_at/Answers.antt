@@ -1,17 +1,16 @@
-use Rattle.std.proofs.Common.{◌≡◌, ◌<◌, ◌+◌, ◌-◌, ℕ, List, zero, suc, Some, sym, length, arith, refl, slice_get, ◌∙◌}
+use Rattle.std.proofs.Common.{◌≡◌, ◌<◌, ◌-◌, ℕ, List, zero, suc, Some, sym, length, arith, refl, slice_get, ◌∙◌}
 use Rattle.std.proofs.lemmas.Option.{get_or_from_slice_get, slice_get_within}
-use Rattle.star_flat.specs.Private.Cut.{start_of}
-use Rattle.star_flat.specs.Repeated.{places}
+use Rattle.star_flat.specs.Private.Cut.{text_start}
 use Rattle.star_flat.proofs.CutLemmas.{start_after}
 use Rattle.star_flat.proofs.texts.range_at.Goals as goal
 
-first : (es : List ℕ) (p : ℕ) → p ≡ 0 → 0 ≡ start_of 0 es p
-unfolding start_of
+first : (es : List ℕ) (p : ℕ) → p ≡ 0 → 0 ≡ text_start 0 es p
+unfolding text_start
 first es zero e = refl
 first es (suc p) e = absurd (omega (arith, e))
 
 later : (es : List ℕ) (p e : ℕ) → 0 < p → p - 1 < length es → slice_get es (p - 1) ≡ Some e
-    → e ≡ start_of 0 es p
+    → e ≡ text_start 0 es p
 later es zero e h within at = absurd (omega arith)
 later es (suc p) e h within at =
     let back : suc p - 1 ≡ p = omega arith in
@@ -21,19 +20,14 @@ later es (suc p) e h within at =
 
 pub returns-then-place-eq0-clause-start : goal.returns-then-place-eq0-clause-start
 returns-then-place-eq0-clause-start c =
-    first (places c.args.ends.now) c.args.place c.if-place-eq0.true
+    first c.args.ends.now c.args.place c.if-place-eq0.true
 
 pub returns-then-place-eq0-clause-end : goal.returns-then-place-eq0-clause-end
-returns-then-place-eq0-clause-end c = rw c.if-place-eq0.true c.first_end.ensures
+returns-then-place-eq0-clause-end c = rw c.if-place-eq0.true c.get.ensures
 
 pub returns-else-place-eq0-clause-start : goal.returns-else-place-eq0-clause-start
 returns-else-place-eq0-clause-start c =
-    later (places c.args.ends.now) c.args.place c.two_ends.result.0 (omega arith)
-    (slice_get_within (places c.args.ends.now) (c.args.place - 1) c.two_ends.result.0
-    c.two_ends.ensures.first)
-    c.two_ends.ensures.first
-
-pub returns-else-place-eq0-clause-end : goal.returns-else-place-eq0-clause-end
-returns-else-place-eq0-clause-end c =
-    let next : c.args.place - 1 + 1 ≡ c.args.place = omega arith in
-    rw next at c.two_ends.ensures.second
+    later c.args.ends.now c.args.place c.bounds_at.result.0 (omega arith)
+    (slice_get_within c.args.ends.now (c.args.place - 1) c.bounds_at.result.0
+    c.bounds_at.ensures.start)
+    c.bounds_at.ensures.start

@@ -1,18 +1,17 @@
 use Rattle.std.proofs.Common.{◌≡◌, ◌≤◌, sym, ap, ◌∙◌, length, arith, slice_range, Some, get_or}
 use Rattle.std.proofs.lemmas.Option.{get_or_from_slice_get, slice_get_within}
-use Rattle.star_flat.specs.Private.Cut.{start_of}
-use Rattle.star_flat.specs.Repeated.{places}
+use Rattle.star_flat.specs.Private.Cut.{text_start}
 use Rattle.star_flat.proofs.CutLemmas.{text_there, begins_before, ends_within}
 use Rattle.star_flat.proofs.texts.text_at.Goals as goal
 use Rattle.star_flat.proofs.texts.text_at.Goals.{After-range_at-start}
 
 -- the end that is read is the one at the place, and lies between the text's beginning and the last
 ends : (c : After-range_at-start)
-    → (get_or (places c.args.ends.now) c.args.place 0 ≡ c.range_at-start.result.1)
-    × (start_of 0 (places c.args.ends.now) c.args.place ≤ c.range_at-start.result.1)
+    → (get_or c.args.ends.now c.args.place 0 ≡ c.range_at-start.result.1)
+    × (text_start 0 c.args.ends.now c.args.place ≤ c.range_at-start.result.1)
     × (c.range_at-start.result.1 ≤ length c.args.bytes.now)
 ends c =
-    let es = places c.args.ends.now in
+    let es = c.args.ends.now in
     let there = c.range_at-start.ensures.end in
     let within = slice_get_within es c.args.place c.range_at-start.result.1 there in
     let same = get_or_from_slice_get es c.args.place c.range_at-start.result.1 0 there in
@@ -35,10 +34,11 @@ slice_bounds-result-end c = (ends (goal.at.slice_bounds-result-end c).After-rang
 
 pub returns : goal.returns
 returns c =
-    let es = places c.args.ends.now in
-    let within = slice_get_within es c.args.place c.range_at-start.result.1 c.range_at-start.ensures.end in
+    let es = c.args.ends.now in
+    let within = slice_get_within es c.args.place c.range_at-start.result.1
+    c.range_at-start.ensures.end in
     text_there 0 c.args.bytes.now es c.args.place within
-    ∙ ap (λ e. Some (slice_range c.args.bytes.now (start_of 0 es c.args.place) e))
+    ∙ ap (λ e. Some (slice_range c.args.bytes.now (text_start 0 es c.args.place) e))
     (ends (goal.at.returns c).After-range_at-start).0
     ∙ ap (λ s. Some (slice_range c.args.bytes.now s c.range_at-start.result.1))
     (sym c.range_at-start.ensures.start)

@@ -6,4 +6,6 @@ use Rattle.star_group.proofs.MergedRows.{among}
 use Rattle.star_group.proofs.rows.all_stay_at.Given as goal
 
 abbrev pub invariant-loop-index : goal.invariant-loop-index
-invariant-loop-index l = AllStay (row_found (entries_of l.rows)) (among (take l.index (map key_view l.own))) l.aggregates l.more
+invariant-loop-index l =
+    AllStay (row_found (entries_of l.rows)) (among (take l.index (map key_view l.row_keys)))
+    l.aggregates l.more

@@ -10,7 +10,8 @@ use Rattle.star_group.proofs.rows.merge_all_at.Given as goal
 
 abbrev pub invariant-loop-index : goal.invariant-loop-index
 invariant-loop-index l = record {
-  merges : MergesAll (among (take l.index (map key_view l.own))) l.aggregates l.more (row_found (entries_of l.fn.rows)) (row_found (entries_of l.rows));
-  space : list_any is_missing l.places ≡ true → HasSpace l.rows (length l.own - l.index);
+  merges : MergesAll (among (take l.index (map key_view l.row_keys))) l.aggregates l.more
+      (row_found (entries_of l.fn.rows)) (row_found (entries_of l.rows));
+  space : list_any is_missing l.places ≡ true → HasSpace l.rows (length l.row_keys - l.index);
   grown : IsGrown l.fn.rows l.rows;
 }

@@ -16,12 +16,15 @@ returns-in-Held c = λ key six narrow is.
     let held = subst (IsPlace s key) c.in-Held.is is in
     let within = number_among s key six narrow number held in
     let row : c.row.result.now ≡ unwrap_or (row_found (entries_of s) (key_view key)) [] =
-    c.row.ensures.row ∙ ap (λ (e : List KeyPart × List (Option ℤ)). e.1) (entry_at s number within) ∙ ap (λ found. unwrap_or found []) (sym (row_held s key six narrow number held)) in
-    subst (λ held_row. MatchBool c.row_stays.result (MergeStays gs held_row c.args.more.now) (MergeLeaves gs held_row c.args.more.now)) row c.row_stays.ensures
+    c.row.ensures.row ∙ ap (λ (e : List KeyPart × List (Option ℤ)). e.1) (entry_at s number within)
+    ∙ ap (λ found. unwrap_or found []) (sym (row_held s key six narrow number held)) in
+    subst (λ held_row. MatchBool c.row_stays.result (MergeStays gs held_row c.args.more.now)
+    (MergeLeaves gs held_row c.args.more.now)) row c.row_stays.ensures
 
 pub returns-in-Missing : goal.returns-in-Missing
 returns-in-Missing c = λ key six narrow is.
     let s = c.args.rows.now in
     let slot = subst (IsPlace s key) c.in-Missing.is is in
-    let none : row_found (entries_of s) (key_view key) ≡ None = row_missing s key six narrow c.in-Missing.node c.in-Missing.digit slot in
+    let none : row_found (entries_of s) (key_view key) ≡ None =
+    row_missing s key six narrow c.in-Missing.node c.in-Missing.digit slot in
     search rules

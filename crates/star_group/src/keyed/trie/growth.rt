@@ -10,7 +10,7 @@ use crate::keyed::key::KeyPart;
 use std::alloc::AllocError;
 
 impl Trie {
-    // Room for so many more keys.
+    // Makes room for `additional` more keys.
     pub(crate) fn reserve(&mut self, additional: usize) -> Result<(), AllocError>
         ensures ok { OnOk result (HasTrieSpace self.new additional) }
         ensures keys { self.new.keys.items ≡ self.old.keys.items }

@@ -5,10 +5,21 @@ use Rattle.star_group_tests.proofs.SmallPuts.{eight_more, one_room, seven, two_r
 use Rattle.star_group_tests.proofs.cubes.is_added_up.Goals as goal
 
 pub put-requires-clause-room : goal.put-requires-clause-room
-put-requires-clause-room g c = ([], c.in_ok-plain.ensures.empty, one_room (g.S.GroupStore.group c.in_ok-plain.plain) (record { keys = Number (pos 1) ∷ []; values = pos 7 ∷ [] }) c.in_ok-plain.ensures.aggregates seven)
+put-requires-clause-room g c = (
+  [],
+  c.in_ok-plain.ensures.empty,
+  one_room (g.S.GroupStore.group c.in_ok-plain.plain)
+      (record { keys = Number (pos 1) ∷ []; values = pos 7 ∷ [] }) c.in_ok-plain.ensures.aggregates
+      seven,
+)
 
 pub put-requires-2-clause-room : goal.put-requires-2-clause-room
 put-requires-2-clause-room g c =
     let u : Update = record { keys = Number (pos 1) ∷ []; values = pos 7 ∷ [] } in
-    let v : Update = record { keys = Number (pos 1) ∷ []; values = pos 8 ∷ [] } in
-    (u ∷ [], c.in_ok-put.ensures.ok [] c.in_ok-plain.ensures.empty, two_room (g.S.GroupStore.group c.put.new.self) v u (ap (λ d. d.aggregates) c.in_ok-put.ensures.group ∙ c.in_ok-plain.ensures.aggregates) eight_more)
+    let v : Update = record { keys = Number (pos 1) ∷ []; values = pos 8 ∷ [] } in (
+      u ∷ [],
+      c.in_ok-put.ensures.ok [] c.in_ok-plain.ensures.empty,
+      two_room (g.S.GroupStore.group c.put.new.self) v u
+          (ap (λ d. d.aggregates) c.in_ok-put.ensures.group ∙ c.in_ok-plain.ensures.aggregates)
+          eight_more,
+    )

@@ -9,8 +9,12 @@ put-requires-clause-room g c =
     let z : ℤ = to_z w64 (of_z w64 c.args.number) in
     let fits_too : FitsSigned w64 (to_z w64 (of_z w64 c.args.number)) = rw to_z-of_z fits in
     let put : Update = record { keys = c.args.keys; values = z ∷ pos 1 ∷ z ∷ z ∷ [] } in
-    let few = c.requires.few in
-    (few.0, few.1, has_room (g.S.GroupStore.group c.args.store.now) c.args.made few.0 put c.requires.made few.2 (four_narrow z fits_too))
+    let few = c.requires.few in (
+      few.0,
+      few.1,
+      has_room (g.S.GroupStore.group c.args.store.now) c.args.made few.0 put
+          c.requires.made few.2 (four_narrow z fits_too),
+    )
 
 pub returns-clause-few : goal.returns-clause-few
 returns-clause-few g c =
@@ -18,5 +22,8 @@ returns-clause-few g c =
     let z : ℤ = to_z w64 (of_z w64 c.args.number) in
     let fits_too : FitsSigned w64 (to_z w64 (of_z w64 c.args.number)) = rw to_z-of_z fits in
     let put : Update = record { keys = c.args.keys; values = z ∷ pos 1 ∷ z ∷ z ∷ [] } in
-    let few = c.requires.few in
-    (put ∷ few.0, c.in_ok-put.ensures.ok few.0 few.1, one_more c.args.made few.0 put few.2 (four_narrow z fits_too))
+    let few = c.requires.few in (
+      put ∷ few.0,
+      c.in_ok-put.ensures.ok few.0 few.1,
+      one_more c.args.made few.0 put few.2 (four_narrow z fits_too),
+    )

@@ -12,4 +12,11 @@ use Rattle.star_outcome.proofs.lookups.code.Goals as goal
 pub returns-clause-code : goal.returns-clause-code
 returns-clause-code c =
     let texts = column_texts c.args.catalogue.now c.args.column in
-    sym (low_in-place (dictionary_of texts) (IsDictionary-dictionary_of texts).sorted c.code.result _ (c.code.ensures.stands ∙ slice_get-get_or texts c.args.row [] (omega (arith, c.requires.row, texts_len c.args.column (rows_in c.args.catalogue.now (table_of c.args.column))))))
+    sym (low_in-place (dictionary_of texts) (IsDictionary-dictionary_of texts).sorted c.code.result
+    _ (c.code.ensures.stands
+    ∙ slice_get-get_or texts c.args.row []
+    (omega (
+      arith,
+      c.requires.row,
+      texts_len c.args.column (rows_in c.args.catalogue.now (table_of c.args.column)),
+    ))))

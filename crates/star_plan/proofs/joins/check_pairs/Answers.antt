@@ -6,4 +6,6 @@ use Rattle.star_plan.proofs.joins.check_pairs.Goals as goal
 
 pub returns-in_err-check : goal.returns-in_err-check
 returns-in_err-check c =
-    beside_of_copy pair_view pair_fault c.args.pairs.now c.loop-place.place _ _ c.from_residual.result c.from_residual.ensures.1 (omega arith) c.loop-place.invariant c.in_err-check.ensures
+    beside_of_copy pair_view pair_fault c.args.pairs.now c.loop-place.place _ _
+    c.from_residual.result c.from_residual.ensures.1 (omega arith) c.loop-place.invariant
+    c.in_err-check.ensures

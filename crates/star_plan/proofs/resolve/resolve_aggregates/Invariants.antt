@@ -9,6 +9,10 @@ use Rattle.star_plan.proofs.resolve.resolve_aggregates.Given as goal
 abbrev pub invariant-loop-item : goal.invariant-loop-item
 invariant-loop-item l = record {
   few : length l.aggregates.items ≤ l.item-index;
-  measures : with_rest (measures_view l.aggregates.items) (resolved_measures (map item_view (drop l.item-index l.items))) ≡ resolved_measures (map item_view l.items);
-  names : names_view l.aggregates.items ++ names_from (length l.aggregates.items + 1) (map item_view (drop l.item-index l.items)) ≡ aggregate_names (map item_view l.items);
+  measures : with_rest (measures_view l.aggregates.items)
+      (resolved_measures (map item_view (drop l.item-index l.items)))
+      ≡ resolved_measures (map item_view l.items);
+  names : names_view l.aggregates.items
+      ++ names_from (length l.aggregates.items + 1) (map item_view (drop l.item-index l.items))
+      ≡ aggregate_names (map item_view l.items);
 }

@@ -6,4 +6,6 @@ use Rattle.star_plan.proofs.Options.{with_rest}
 use Rattle.star_plan.proofs.resolve.resolve_groups.Given as goal
 
 abbrev pub invariant-loop-name : goal.invariant-loop-name
-invariant-loop-name l = with_rest l.keys.items (option_all column_at (map name_view (drop l.name-index l.groups))) ≡ option_all column_at (map name_view l.groups)
+invariant-loop-name l = with_rest l.keys.items
+    (option_all column_at (map name_view (drop l.name-index l.groups)))
+    ≡ option_all column_at (map name_view l.groups)

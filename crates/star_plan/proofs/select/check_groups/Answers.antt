@@ -6,4 +6,6 @@ use Rattle.star_plan.proofs.select.check_groups.Goals as goal
 
 pub returns-in_err-check_group : goal.returns-in_err-check_group
 returns-in_err-check_group c =
-    beside_found name_view group_fault c.args.groups.now c.loop-place.place _ _ c.from_residual.result c.from_residual.ensures.1 (omega arith) c.loop-place.invariant c.index-groups-place.is c.in_err-check_group.ensures
+    beside_found name_view group_fault c.args.groups.now c.loop-place.place _ _
+    c.from_residual.result c.from_residual.ensures.1 (omega arith) c.loop-place.invariant
+    c.index-groups-place.is c.in_err-check_group.ensures

@@ -5,4 +5,6 @@ use Rattle.star_plan.specs.Private.Found.{uses_view}
 use Rattle.star_plan.proofs.uses.add_items.Given as goal
 
 abbrev pub invariant-loop-item : goal.invariant-loop-item
-invariant-loop-item l = uses_view l.uses.items ++ items_uses (map item_view (drop l.item-index l.items)) ≡ uses_view l.initial.uses.items ++ items_uses (map item_view l.items)
+invariant-loop-item l = uses_view l.uses.items
+    ++ items_uses (map item_view (drop l.item-index l.items))
+    ≡ uses_view l.initial.uses.items ++ items_uses (map item_view l.items)

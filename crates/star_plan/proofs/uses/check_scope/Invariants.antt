@@ -6,4 +6,5 @@ use Rattle.star_plan.proofs.Viewed.{AnswerSoFar}
 use Rattle.star_plan.proofs.uses.check_scope.Given as goal
 
 abbrev pub invariant-loop-named : goal.invariant-loop-named
-invariant-loop-named l = AnswerSoFar use_view (scope_fault (map name_view l.tables)) l.uses l.named-index
+invariant-loop-named l =
+    AnswerSoFar use_view (scope_fault (map name_view l.tables)) l.uses l.named-index

@@ -5,4 +5,8 @@ use Rattle.star_query.proofs.lexer.end_of_text.Given as goal
 
 abbrev pub invariant-loop-i : goal.invariant-loop-i
 invariant-loop-i l =
-    record { ending : ending_after false l.text ≡ ended_at l.i (ending_after l.quote (drop l.i l.text)); behind : l.quote ≡ true → 1 ≤ l.i }
+    record {
+      ending : ending_after false l.text
+          ≡ ended_at l.i (ending_after l.quote (drop l.i l.text));
+      behind : l.quote ≡ true → 1 ≤ l.i;
+    }

@@ -6,15 +6,23 @@ use Rattle.star_query.proofs.lexer.number.Goals.{in_default-via-in-Some+then-wid
 
 pub invariant_of-result : goal.invariant_of-result
 invariant_of-result c =
-    record { few = below_power _ 18 c.in-Some.value c.in-Some.ensures.bound (omega (arith, c.split_at.ensures.front_len, c.if-width-le-MAX_DIGITS.true)) }
+    record {
+      few = below_power _ 18 c.in-Some.value c.in-Some.ensures.bound
+          (omega (arith, c.split_at.ensures.front_len, c.if-width-le-MAX_DIGITS.true));
+    }
 
 pub returns-in_default : goal.returns-in_default
 returns-in_default c =
     record {
       same = elim c.in_default.branch [
-        | in_default-via-in-Some+then-width-le-MAX_DIGITS+else-not-begins_with_letter w ↦ sym (number_followed c.args.place c.args.text.now (search rules))
-        | in_default-via-in-Some+else-width-le-MAX_DIGITS w ↦ sym (number_long c.args.place c.args.text.now (search rules))
-        | in_default-via-in_default w ↦ sym (number_too_long c.args.place c.args.text.now c.requires (rw (c.split_at.ensures.front, c.digits_width-width.ensures.width) at (sym c.numeral_value.ensures.value ∙ w.in_default.is)))
+        | in_default-via-in-Some+then-width-le-MAX_DIGITS+else-not-begins_with_letter w ↦ sym
+            (number_followed c.args.place c.args.text.now (search rules))
+        | in_default-via-in-Some+else-width-le-MAX_DIGITS w ↦ sym
+            (number_long c.args.place c.args.text.now (search rules))
+        | in_default-via-in_default w ↦ sym
+            (number_too_long c.args.place c.args.text.now c.requires
+            (rw (c.split_at.ensures.front, c.digits_width-width.ensures.width) at
+            (sym c.numeral_value.ensures.value ∙ w.in_default.is)))
       ];
       within = tt;
     }

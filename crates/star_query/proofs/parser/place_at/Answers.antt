@@ -5,4 +5,6 @@ use Rattle.star_query.proofs.parser.place_at.Goals as goal
 
 pub returns-then-passed-tokens : goal.returns-then-passed-tokens
 returns-then-passed-tokens c =
-    ap (λ (t : Token). t.place) (sym c.index-tokens-passed.is) ∙ some_place c.args.tokens.now c.args.passed c.args.end c.index-tokens-passed.result c.if-passed-tokens.true c.index-tokens-passed.is
+    ap (λ (t : Token). t.place) (sym c.index-tokens-passed.is)
+    ∙ some_place c.args.tokens.now c.args.passed c.args.end c.index-tokens-passed.result
+    c.if-passed-tokens.true c.index-tokens-passed.is

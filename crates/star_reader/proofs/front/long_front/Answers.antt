@@ -23,7 +23,8 @@ returns c =
     let some : 1 ≤ c.digits_front-run.result.count = omega (arith, c.if-run-eq0.false) in
     let few : c.digits_front-run.result.count ≤ 18 = omega (arith, c.if-run-gt18.false) in (
       front_of_digits c.args.text.now c.digits_front-run.result.count
-          c.digits_front-run.result.value c.digits_front-run.ensures (c.if-not-ends_at.ensures.0 refl),
+          c.digits_front-run.result.value c.digits_front-run.ensures
+          (c.if-not-ends_at.ensures.0 refl),
       numeral_front c.args.text.now c.digits_front-run.result.count
           c.digits_front-run.result.value c.digits_front-run.ensures some few,
       c.digits_front-run.ensures.writes,

@@ -1,6 +1,6 @@
 use Rattle.std.proofs.Common.{◌≡◌, ◌<◌, arith, get_or, length, inr, ℕ, true, false, rules}
 use Rattle.std.proofs.lemmas.Bool.{and_right}
-use Rattle.star_schema.specs.Tables.{is_printable}
+use Rattle.star_common.specs.Printable.{is_printable}
 use Rattle.star_reader.specs.Private.Fronts.{is_plain}
 use Rattle.star_reader.proofs.Fronts.{one_more, other_plain}
 use Rattle.star_reader.proofs.FrontTexts.{above_tilde, bad_byte, below_space, printable_byte, short_front}

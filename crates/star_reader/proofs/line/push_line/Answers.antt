@@ -38,8 +38,10 @@ kind_there c =
     pushes.kind_there c.args.columns.now c.loop-place.columns c.loop-place.place (column c)
     (c.loop-place.invariant.pushed 0).kinds (column_there c)
 
-kinds_kept : (c : After-index-columns-place) (next : RawColumn) → raw_kind next ≡ raw_kind (column c)
-    → map raw_kind (set c.loop-place.columns c.loop-place.place next) ≡ map raw_kind c.args.columns.now
+kinds_kept : (c : After-index-columns-place) (next : RawColumn)
+    → raw_kind next ≡ raw_kind (column c)
+    → map raw_kind (set c.loop-place.columns c.loop-place.place next)
+    ≡ map raw_kind c.args.columns.now
 kinds_kept c next kind =
     pushes.kinds_kept c.args.columns.now c.loop-place.columns c.loop-place.place (column c) next
     (c.loop-place.invariant.pushed 0).kinds (column_there c) kind

@@ -21,6 +21,7 @@ returns-in_err-add_line c = λ table full within.
 
 pub returns : goal.returns
 returns c = λ table full within.
-    one_open table c.args.most c.args.start c.args.line.now c.args.columns.now c.add_line.new.columns
+    one_open table c.args.most c.args.start c.args.line.now c.args.columns.now
+    c.add_line.new.columns
     (sym c.is_empty.ensures ∙ c.if-is_empty.false) (omega (arith, c.if-start-most.false)) full
     c.in_ok-add_line.ensures

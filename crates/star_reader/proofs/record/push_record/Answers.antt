@@ -13,14 +13,16 @@ use Rattle.star_reader.proofs.Pushes as pushes
 use Rattle.star_reader.proofs.record.push_record.Goals as goal
 use Rattle.star_reader.proofs.record.push_record.Goals.{After-index-columns-place}
 
-pub returns-then-cell_count-columns-clause-pushed : goal.returns-then-cell_count-columns-clause-pushed
+pub returns-then-cell_count-columns-clause-pushed :
+    goal.returns-then-cell_count-columns-clause-pushed
 returns-then-cell_count-columns-clause-pushed c =
     let width = length-map c.args.columns.now raw_kind in
     inr (wrong_count (map raw_kind c.args.columns.now) c.args.at_row (fields_read c.args.line.now)
     (rw width (λ same. c.if-cell_count-columns.true (c.cell_count.ensures ∙ same))))
 
 pub loop-place-init : goal.loop-place-init
-loop-place-init c = pushes.start c.args.at_row (map raw_kind c.args.columns.now) _ c.args.columns.now
+loop-place-init c = pushes.start c.args.at_row (map raw_kind c.args.columns.now) _
+    c.args.columns.now
 
 -- the column at the loop's place, its kind, and the cell there
 column_there : (c : After-index-columns-place)
@@ -46,7 +48,8 @@ cell_there c =
     cell_at (length (map raw_kind c.args.columns.now)) (fields_read c.args.line.now)
     c.loop-place.place (omega (arith, width, c.loop-place-test.true)) ∙ sym c.in-Some.ensures
 
-pub returns-in_err-push_cell-in-Some-clause-pushed : goal.returns-in_err-push_cell-in-Some-clause-pushed
+pub returns-in_err-push_cell-in-Some-clause-pushed :
+    goal.returns-in_err-push_cell-in-Some-clause-pushed
 returns-in_err-push_cell-in-Some-clause-pushed c =
     let ks : List Kind = map raw_kind c.args.columns.now in
     let fields : List (List ℕ) = fields_read c.args.line.now in
@@ -60,9 +63,11 @@ returns-in_err-push_cell-in-Some-clause-pushed c =
     (cells_of (length ks) fields) c.loop-place.place c.args.columns.now c.loop-place.columns _
     _ _ c.loop-place.invariant (kind_there at) (cell_there at) fault)
 
-pub returns-in_err-push_cell-in-Some-clause-kinds : goal.returns-in_err-push_cell-in-Some-clause-kinds
+pub returns-in_err-push_cell-in-Some-clause-kinds :
+    goal.returns-in_err-push_cell-in-Some-clause-kinds
 returns-in_err-push_cell-in-Some-clause-kinds c =
-    let at = column_there (goal.at.returns-in_err-push_cell-in-Some-clause-kinds c).After-index-columns-place in
+    let at = column_there (goal.at.returns-in_err-push_cell-in-Some-clause-kinds
+    c).After-index-columns-place in
     pushes.kinds_kept c.args.columns.now c.loop-place.columns c.loop-place.place _
     c.push_cell.new.self c.loop-place.invariant.kinds at c.push_cell.ensures.kind
 

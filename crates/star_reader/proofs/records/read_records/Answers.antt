@@ -42,7 +42,8 @@ returns-then-branch c = λ table lines left full within.
 pub returns : goal.returns
 returns c = λ table lines left full within.
     let h = c.loop-rows.invariant table lines left full within in
-    let w = steps.whole h (rw c.if-branch.false at (c.in_ok-read_next-2.ensures.reads h.lines h.left)) in
+    let w = steps.whole h (rw c.if-branch.false at
+    (c.in_ok-read_next-2.ensures.reads h.lines h.left)) in
     let all : c.loop-rows.rows ≡ c.args.most =
     omega (arith, within, c.loop-rows.auto.rows-end, c.loop-rows-test.false) in
     rw all at w

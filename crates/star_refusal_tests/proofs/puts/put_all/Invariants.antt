@@ -1,4 +1,4 @@
-use Rattle.star_refusal_tests.specs.Few.{HasFew, IsOfTests}
+use Rattle.star_group_tests.specs.Few.{HasFew, IsOfTests}
 use Rattle.star_refusal_tests.proofs.puts.put_all.Given as goal
 
 abbrev pub invariant-loop-made : goal.invariant-loop-made

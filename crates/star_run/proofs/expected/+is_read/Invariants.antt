@@ -7,4 +7,5 @@ abbrev pub decreases-is_read : goal.decreases-is_read
 decreases-is_read l = code_size (code_of_steps l.steps.now)
 
 abbrev pub invariant-loop-step : goal.invariant-loop-step
-invariant-loop-step l = code_size (code_of_steps (drop l.step-index l.steps)) ≤ code_size (code_of_steps l.steps)
+invariant-loop-step l = code_size (code_of_steps (drop l.step-index l.steps))
+    ≤ code_size (code_of_steps l.steps)

@@ -15,17 +15,20 @@ use Rattle.star_safety.specs.Moments.{behind, moment}
 use Rattle.star_safety.proofs.law.each_put_has_room.Goals as goal
 
 -- what goes on did not trap
-went_on : (o : Option TrapKind) (r after : Registers) (s t : State) → unless_trap o (GoesOn r s) ≡ GoesOn after t → t ≡ s
+went_on : (o : Option TrapKind) (r after : Registers) (s t : State)
+    → unless_trap o (GoesOn r s) ≡ GoesOn after t → t ≡ s
 went_on None r after s t e = cc
 went_on (Some trap) r after s t e = let bad : ⊥ = cc in absurd bad
 
 -- its store has the update
-with_it : (w : World) (parts : Parts) (inside : Bool) (before after : Registers) (s t : State) (g : ℕ) (keys values : List ℕ)
+with_it : (w : World) (parts : Parts) (inside : Bool) (before after : Registers) (s t : State)
+    (g : ℕ) (keys values : List ℕ)
     → act w parts inside before s (Put g keys values) ≡ GoesOn after t
     → t.updates_of g ≡ update_of (group_at parts g) before keys values ∷ s.updates_of g
 with_it w parts inside before after s t g keys values goes =
     let same : t ≡ marked (Updates g (update_of (group_at parts g) before keys values)) s =
-    went_on (trap_of w parts inside before s (Put g keys values)) before after (marked (Updates g (update_of (group_at parts g) before keys values)) s) t goes in
+    went_on (trap_of w parts inside before s (Put g keys values)) before after
+    (marked (Updates g (update_of (group_at parts g) before keys values)) s) t goes in
     let here : nat_eq g g ≡ true = eq-eqb g g refl in
     rw (same, here) refl
 

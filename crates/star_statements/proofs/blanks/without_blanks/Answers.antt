@@ -1,4 +1,4 @@
-use Rattle.std.proofs.Common.{◌≡◌, ◌∙◌, [], true, false, ap, refl, rules, sym}
+use Rattle.std.proofs.Common.{◌≡◌, ◌∙◌, true, false, ap, rules, sym}
 use Rattle.std.proofs.lemmas.List.{nil_from_length}
 use Rattle.star_statements.specs.Blanks.{without_blanks}
 use Rattle.star_common.specs.WhiteSpace.{is_blank}

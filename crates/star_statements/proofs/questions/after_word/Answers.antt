@@ -10,7 +10,8 @@ pub returns-then-is_word_apart-clause-found : goal.returns-then-is_word_apart-cl
 returns-then-is_word_apart-clause-found c =
     let cut = c.in-Some.ensures.cases in
     let apart : c.is_word_apart.result ≡ true = search rules in (
-      begins_as c.args.word.now c.args.text.now _ _ cut.1 cut.2 ∙ sym c.is_word_apart.ensures ∙ apart,
+      begins_as c.args.word.now c.args.text.now _ _ cut.1 cut.2 ∙ sym c.is_word_apart.ensures
+          ∙ apart,
       c.without_blanks.ensures ∙ ap without_blanks cut.2,
     )
 

@@ -1,5 +1,4 @@
 use Rattle.std.proofs.Common.{◌≡◌, ◌∙◌, ◌&&◌, true, false, ap, rules, sym}
-use Rattle.std.specs.Str.{str_eq_ignore_ascii_case}
 use Rattle.star_statements.specs.Blanks.{is_blank_at_front}
 use Rattle.star_statements.proofs.QuestionLemmas.{told_as}
 use Rattle.star_statements.proofs.questions.is_word_apart.Goals as goal

@@ -1,6 +1,5 @@
-use Rattle.std.proofs.Common.{◌≡◌, ◌≢◌, ◌<◌, ◌≤◌, ◌∙◌, ◌==◌, true, false, arith, ap, codes, length, rules, sym}
+use Rattle.std.proofs.Common.{◌≡◌, ◌∙◌, ◌==◌, true, false, arith, ap, length, rules, sym}
 use Rattle.std.proofs.lemmas.Bool.{eqb-true, eqb-false}
-use Rattle.star_statements.specs.Questions.{begins_with_word}
 use Rattle.star_statements.specs.declared.questions.Question.TheVariants.{Explain, Quote}
 use Rattle.star_statements.proofs.QuestionLemmas.{explained, nothing, queried, quoted, too_long}
 use Rattle.star_statements.proofs.questions.question_of.Goals as goal

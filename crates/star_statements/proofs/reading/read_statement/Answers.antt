@@ -1,8 +1,8 @@
-use Rattle.std.proofs.Common.{◌≡◌, ◌≤◌, ◌∙◌, ◌++◌, ◌+◌, ◌∷◌, [], true, false, Ok, arith, ap, inr, length, refl, rules, subst, sym}
+use Rattle.std.proofs.Common.{◌≡◌, ◌∙◌, ◌++◌, ◌+◌, ◌∷◌, [], true, false, Ok, arith, ap, inr, length, refl, rules, subst, sym}
 use Rattle.std.proofs.lemmas.List.{length-append}
 use Rattle.std.specs.Io.KnownBytes.{Consumes}
 use Rattle.star_statements.specs.Sources.{IsStatementRead, reader_of}
-use Rattle.star_statements.specs.Private.Drafts.{IsDraft, closes, ends_behind, kept, with_byte}
+use Rattle.star_statements.specs.Private.Drafts.{IsDraft, closes_statement, ends_behind, with_byte}
 use Rattle.star_statements.proofs.DraftLemmas.{draft_begins, draft_ends, draft_goes_on, draft_is_last, kept-more, length-kept, of_some}
 use Rattle.star_statements.proofs.reading.read_statement.Goals as goal
 
@@ -10,7 +10,12 @@ pub bytes-init : goal.bytes-init
 bytes-init g c =
     let known = g.R.Read.remaining (reader_of c.args.source.now) in (
       refl,
-      ([], refl, subst (λ text. IsDraft known known text false []) (sym c.clear.ensures.items) (draft_begins known)),
+      (
+        [],
+        refl,
+        subst (λ text. IsDraft known known text false []) (sym c.clear.ensures.items)
+            (draft_begins known),
+      ),
     )
 
 pub returns-in_default-clause-read : goal.returns-in_default-clause-read
@@ -28,25 +33,34 @@ returns-in_default-clause-within g c =
 pub returns-then-closes-clause-read : goal.returns-then-closes-clause-read
 returns-then-closes-clause-read g c =
     let drafted = c.bytes.invariant.1 in
-    let byte = of_some (λ b. Consumes (g.R.Read.remaining (reader_of c.bytes.source)) (g.R.Read.remaining (reader_of c.next_byte.new.self)) (b ∷ [])) _ _ c.in-Some.is c.in_ok-byte.ensures.byte in
-    let closing : closes c.bytes.ends c.in-Some.byte ≡ true = search rules in
+    let byte = of_some (λ b.
+    Consumes (g.R.Read.remaining (reader_of c.bytes.source))
+    (g.R.Read.remaining (reader_of c.next_byte.new.self)) (b ∷ [])) _ _ c.in-Some.is
+    c.in_ok-byte.ensures.byte in
+    let closing : closes_statement c.bytes.ends c.in-Some.byte ≡ true = search rules in
     let read = draft_ends _ _ _ _ _ _ _ drafted.2 byte closing in (
       drafted.0 ++ c.in-Some.byte ∷ [],
-      subst (λ text. IsStatementRead (g.R.Read.remaining (reader_of c.args.source.now)) (g.R.Read.remaining (reader_of c.next_byte.new.self)) text true (drafted.0 ++ c.in-Some.byte ∷ [])) (sym c.in_ok-keep.ensures) read,
+      subst (λ text. IsStatementRead (g.R.Read.remaining (reader_of c.args.source.now))
+          (g.R.Read.remaining (reader_of c.next_byte.new.self)) text true
+          (drafted.0 ++ c.in-Some.byte ∷ [])) (sym c.in_ok-keep.ensures) read,
     )
 
 pub returns-then-closes-clause-within : goal.returns-then-closes-clause-within
 returns-then-closes-clause-within g c =
     let drafted = c.bytes.invariant.1 in
     let few = length-kept (drafted.0 ++ c.in-Some.byte ∷ []) in
-    let whole = c.in_ok-keep.ensures ∙ ap (λ text. with_byte text c.in-Some.byte) drafted.2.keeps ∙ kept-more drafted.0 c.in-Some.byte in
+    let whole = c.in_ok-keep.ensures ∙ ap (λ text. with_byte text c.in-Some.byte) drafted.2.keeps
+    ∙ kept-more drafted.0 c.in-Some.byte in
     omega (arith, few, ap length whole)
 
 pub bytes-preserved : goal.bytes-preserved
 bytes-preserved g c =
     let drafted = c.bytes.invariant.1 in
-    let byte = of_some (λ b. Consumes (g.R.Read.remaining (reader_of c.bytes.source)) (g.R.Read.remaining (reader_of c.next_byte.new.self)) (b ∷ [])) _ _ c.in-Some.is c.in_ok-byte.ensures.byte in
-    let open_line : closes c.bytes.ends c.in-Some.byte ≡ false = search rules in
+    let byte = of_some (λ b.
+    Consumes (g.R.Read.remaining (reader_of c.bytes.source))
+    (g.R.Read.remaining (reader_of c.next_byte.new.self)) (b ∷ [])) _ _ c.in-Some.is
+    c.in_ok-byte.ensures.byte in
+    let open_line : closes_statement c.bytes.ends c.in-Some.byte ≡ false = search rules in
     let draft = draft_goes_on _ _ _ _ _ _ _ drafted.2 byte open_line in
     let old = g.R.Read.remaining (reader_of c.args.source.now) in
     let new = g.R.Read.remaining (reader_of c.next_byte.new.self) in
@@ -55,8 +69,10 @@ bytes-preserved g c =
       (
         begun,
         length-append drafted.0 (c.in-Some.byte ∷ []) ∙ ap (λ n. n + 1) drafted.1,
-        subst (λ ends. IsDraft old new c.keep.new.text.items ends begun) (sym c.ends_behind-ends.ensures)
-            (subst (λ text. IsDraft old new text (ends_behind c.bytes.ends c.in-Some.byte) begun) (sym c.in_ok-keep.ensures) draft),
+        subst (λ ends. IsDraft old new c.keep.new.text.items ends begun)
+            (sym c.ends_behind-ends.ensures)
+            (subst (λ text. IsDraft old new text (ends_behind c.bytes.ends c.in-Some.byte) begun)
+            (sym c.in_ok-keep.ensures) draft),
       ),
     )
 

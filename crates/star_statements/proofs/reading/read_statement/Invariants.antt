@@ -7,5 +7,6 @@ abbrev pub invariant-bytes : goal.invariant-bytes
 invariant-bytes g l =
     (has_failed l.source ≡ has_failed l.initial.source)
     × ((begun : List ℕ) × (length begun ≡ l.counter)
-    × IsDraft (g.R.Read.remaining (reader_of l.initial.source)) (g.R.Read.remaining (reader_of l.source))
+    × IsDraft (g.R.Read.remaining (reader_of l.initial.source))
+    (g.R.Read.remaining (reader_of l.source))
     l.text.items l.ends begun)

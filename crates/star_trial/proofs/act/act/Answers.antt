@@ -1,6 +1,6 @@
 use Rattle.std.proofs.Common.{arith, refl, subst}
 use Rattle.std.proofs.lemmas.Result.{err_from_is_err_and}
-use Rattle.star_trial.specs.Private.Acts.{IsAnswer}
+use Rattle.star_trial.specs.Private.Acts.{IsActed}
 use Rattle.star_trial.specs.Private.Views.{registers_view}
 use Rattle.star_world.specs.WorldOf.{world_of}
 use Rattle.star_trial.proofs.Checked.{acts, operands_fine, traps}
@@ -29,7 +29,8 @@ returns c =
     let m = c.args.machine.now in
     record {
       does = λ s done.
-          subst (λ effect. IsAnswer m.catalogue.now m.parts.now (registers_view c.perform.new.registers)
+          subst (λ effect. IsActed m.catalogue.now m.parts.now
+          (registers_view c.perform.new.registers)
           c.perform.new.run effect c.perform.result)
           (acts m.parts.now c.args.inside c.args.registers.now c.args.op.now
           (world_of m.catalogue.now) s c.in_ok-check.ensures)

@@ -17,8 +17,10 @@ returns c =
             done = made.done;
           };
       sound = subst (AreSound m.catalogue.now) (sym c.set.ensures.set)
-          (sound_set m.catalogue.now (registers_view c.args.registers.now) c.args.target _ c.requires.ready.sound
-          (c.in_ok-value.ensures.does c.requires.ready.done.0 c.args.target c.requires.ready.done.1).sound);
+          (sound_set m.catalogue.now (registers_view c.args.registers.now) c.args.target _
+          c.requires.ready.sound
+          (c.in_ok-value.ensures.does c.requires.ready.done.0 c.args.target
+          c.requires.ready.done.1).sound);
       len = c.set.ensures.len;
       work = c.operate.ensures.work;
     }

@@ -4,7 +4,7 @@ use Rattle.star_program.specs.declared.value.Value.TheVariants.{Number}
 use Rattle.star_program.specs.Faults.{group_at}
 use Rattle.star_program.specs.Private.Doing.{assigns, fitting}
 use Rattle.star_program.specs.Puts.{total_over}
-use Rattle.star_trial.specs.Private.Acts.{IsMade}
+use Rattle.star_trial.specs.Private.Acts.{IsValueMade}
 use Rattle.star_trial.specs.Private.Views.{registers_view}
 use Rattle.star_world.specs.WorldOf.{world_of}
 use Rattle.star_trial.proofs.Performed.{answer_made, read_made}
@@ -13,14 +13,21 @@ use Rattle.star_trial.proofs.act.operate.Goals as goal
 pub returns-in-Find-clause-does : goal.returns-in-Find-clause-does
 returns-in-Find-clause-does c = λ s target done.
     let m = c.args.machine.now in
-    subst (λ o. IsMade m.catalogue.now m.parts.now (registers_view c.args.registers.now) c.look_up.new.run target (assigns (world_of m.catalogue.now) m.parts.now (registers_view c.args.registers.now) s target o) c.look_up.result)
+    subst (λ o. IsValueMade m.catalogue.now m.parts.now (registers_view c.args.registers.now)
+    c.look_up.new.run target
+    (assigns (world_of m.catalogue.now) m.parts.now (registers_view c.args.registers.now) s
+    target o) c.look_up.result)
     (sym c.in-Find.is) (c.look_up.ensures.does s target done)
 
 pub returns-in-Binary-clause-does : goal.returns-in-Binary-clause-does
 returns-in-Binary-clause-does c = λ s target done.
     let m = c.args.machine.now in
-    subst (λ o. IsMade m.catalogue.now m.parts.now (registers_view c.args.registers.now) c.args.run.now target (assigns (world_of m.catalogue.now) m.parts.now (registers_view c.args.registers.now) s target o) c.answered.result)
-    (sym c.in-Binary.is) (answer_made m.catalogue.now m.parts.now (registers_view c.args.registers.now) c.args.run.now s done target c.in-Binary.operator _ _ c.answer.result c.answered.result c.answer.ensures c.answered.ensures)
+    subst (λ o. IsValueMade m.catalogue.now m.parts.now (registers_view c.args.registers.now)
+    c.args.run.now target (assigns (world_of m.catalogue.now) m.parts.now
+    (registers_view c.args.registers.now) s target o) c.answered.result)
+    (sym c.in-Binary.is) (answer_made m.catalogue.now m.parts.now
+    (registers_view c.args.registers.now) c.args.run.now s done target c.in-Binary.operator _ _
+    c.answer.result c.answered.result c.answer.ensures c.answered.ensures)
 
 pub returns-in-Not-clause-does : goal.returns-in-Not-clause-does
 returns-in-Not-clause-does c = search rules
@@ -30,8 +37,14 @@ returns-in-Read-clause-does c = λ s target done.
     let m = c.args.machine.now in
     let registers = registers_view c.args.registers.now in
     let number : FitsSigned w64 c.in-Read.default = search rules in
-    let so_far = total_over (group_at m.parts.now c.in-Read.group).aggregates c.in-Read.aggregate (s.updates_of c.in-Read.group) in
-    subst (λ o. IsMade m.catalogue.now m.parts.now registers c.args.run.now target (assigns (world_of m.catalogue.now) m.parts.now registers s target o) c.answered-in-Read.result)
+    let so_far = total_over (group_at m.parts.now c.in-Read.group).aggregates c.in-Read.aggregate
+    (s.updates_of c.in-Read.group) in
+    subst (λ o. IsValueMade m.catalogue.now m.parts.now registers c.args.run.now target
+    (assigns (world_of m.catalogue.now) m.parts.now registers s target o)
+    c.answered-in-Read.result)
     (sym c.in-Read.is)
-    (read_made m.catalogue.now m.parts.now registers c.args.run.now s done target (unwrap_or so_far c.in-Read.default) c.read.result c.answered-in-Read.result
-    (c.read.ensures m.parts.now s.updates_of done.stores ∙ ap (λ n. fitting (Number (unwrap_or so_far n))) (to_z-of_z number)) c.answered-in-Read.ensures)
+    (read_made m.catalogue.now m.parts.now registers c.args.run.now s done target
+    (unwrap_or so_far c.in-Read.default) c.read.result c.answered-in-Read.result
+    (c.read.ensures m.parts.now s.updates_of done.stores
+    ∙ ap (λ n. fitting (Number (unwrap_or so_far n))) (to_z-of_z number))
+    c.answered-in-Read.ensures)

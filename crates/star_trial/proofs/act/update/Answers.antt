@@ -1,4 +1,4 @@
-use Rattle.std.proofs.Common.{◌≡◌, ◌+◌, ℕ, List, false, ap, arith, refl, subst, sym, ◌∙◌}
+use Rattle.std.proofs.Common.{◌≡◌, ◌+◌, ℕ, List, false, ap, arith, refl}
 use Rattle.star_outcome.proofs.Fine.{sound_keys, sound_update}
 use Rattle.star_outcome.proofs.Stored.{of_same}
 use Rattle.star_program.specs.Effects.{update_of, with_update}
@@ -18,7 +18,8 @@ returns-in-Ok c =
     → AreStores m.parts.now c.args.run.now.stores.items updates_of
     → AreStores m.parts.now c.put.new.stores.items
     (with_update updates_of c.args.group (update_of d registers ks vs))
-    × (overflows (group_at m.parts.now c.args.group).shape (group_at m.parts.now c.args.group).aggregates (updates_of c.args.group)
+    × (overflows (group_at m.parts.now c.args.group).shape
+    (group_at m.parts.now c.args.group).aggregates (updates_of c.args.group)
     (update_of d registers ks vs) ≡ false))
     c.group_at.result.now _ c.as_slice.result.now _ c.as_slice-2.result.now _
     c.group_at.ensures c.as_slice.ensures c.as_slice-2.ensures
@@ -32,7 +33,8 @@ returns-in-Ok c =
                 (update_of d registers c.args.keys.now c.args.values.now)) now.1;
             done = record {
               stores = now.0;
-              sound = sound_update m.catalogue.now m.parts.now s.updates_of c.args.group _ done.sound
+              sound = sound_update m.catalogue.now m.parts.now s.updates_of c.args.group _
+                  done.sound
                   (sound_keys m.catalogue.now _ registers d.keys c.args.keys.now
                   c.requires.ready.sound c.requires.placed.keys c.requires.keys);
               visits = done.visits;

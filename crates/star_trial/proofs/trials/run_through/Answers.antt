@@ -20,7 +20,13 @@ walk-requires-clause-ready c =
       deep = search (arith, rules);
       few = record {
         visits = omega (arith, done.visits);
-        work = omega (arith, done.visits, done.lookups, done.updates, c.requires.limits.instructions);
+        work = omega (
+          arith,
+          done.visits,
+          done.lookups,
+          done.updates,
+          c.requires.limits.instructions,
+        );
       };
       sound = sound_nothing c.args.catalogue.now (registers_view c.as_mut_slice.result.now) empty;
       done = (empty_state, done);
@@ -28,14 +34,23 @@ walk-requires-clause-ready c =
 
 pub returns-in_err-walk : goal.returns-in_err-walk
 returns-in_err-walk c =
-    let p = err_from_is_err_and c.from_residual-in_err-walk.result c.from_residual-in_err-walk.ensures.1 in
-    let nothing : registers_view c.as_mut_slice.result.now ≡ no_registers = ap registers_view c.as_mut_slice.ensures.value ∙ c.in_ok-registers.ensures.empty in
+    let p = err_from_is_err_and c.from_residual-in_err-walk.result
+    c.from_residual-in_err-walk.ensures.1 in
+    let nothing : registers_view c.as_mut_slice.result.now ≡ no_registers =
+    ap registers_view c.as_mut_slice.ensures.value ∙ c.in_ok-registers.ensures.empty in
     rw (p.1, p.2)
-    (subst (λ registers. IsFaultOfEnd (meaning (world_of c.args.catalogue.now) c.args.parts.now (λ visits. nat_lt visits c.args.most) c.args.parts.now.body 1 false registers empty_state) c.in_err-walk.field-0.0) nothing
+    (subst (λ registers. IsFaultOfEnd
+    (meaning (world_of c.args.catalogue.now) c.args.parts.now
+    (λ visits. nat_lt visits c.args.most) c.args.parts.now.body 1 false registers empty_state)
+    c.in_err-walk.field-0.0) nothing
     (c.in_err-walk.ensures.ends empty_state (c.in_ok-run.ensures c.args.catalogue.now)))
 
 pub returns : goal.returns
 returns c =
-    let nothing : registers_view c.as_mut_slice.result.now ≡ no_registers = ap registers_view c.as_mut_slice.ensures.value ∙ c.in_ok-registers.ensures.empty in
-    subst (λ registers. Finishes c.args.catalogue.now c.args.parts.now c.walk.new.run (meaning (world_of c.args.catalogue.now) c.args.parts.now (λ visits. nat_lt visits c.args.most) c.args.parts.now.body 1 false registers empty_state)) nothing
+    let nothing : registers_view c.as_mut_slice.result.now ≡ no_registers =
+    ap registers_view c.as_mut_slice.ensures.value ∙ c.in_ok-registers.ensures.empty in
+    subst (λ registers. Finishes c.args.catalogue.now c.args.parts.now c.walk.new.run
+    (meaning (world_of c.args.catalogue.now) c.args.parts.now
+    (λ visits. nat_lt visits c.args.most) c.args.parts.now.body 1 false registers empty_state))
+    nothing
     (c.in_ok-walk.ensures.ends empty_state (c.in_ok-run.ensures c.args.catalogue.now))

@@ -7,4 +7,5 @@ abbrev pub decreases-size : goal.decreases-size
 decreases-size l = code_size l.body.now
 
 abbrev pub invariant-loop-step : goal.invariant-loop-step
-invariant-loop-step l = l.total + code_size (code_of_steps (drop l.step-index l.step-items)) ≡ code_size (code_of_steps l.step-items)
+invariant-loop-step l = l.total + code_size (code_of_steps (drop l.step-index l.step-items))
+    ≡ code_size (code_of_steps l.step-items)

@@ -26,20 +26,28 @@ decreases-scan l = 4 * code_size l.scanned.now.body.now + 3
 
 abbrev pub invariant-turns-loop-row : goal.invariant-turns-loop-row
 invariant-turns-loop-row l = record {
-  ends : (s : State) → HasDone l.machine.catalogue.now l.machine.parts.now l.initial.run s → (now : State) × HasDone l.machine.catalogue.now l.machine.parts.now l.run now
-      × (turns (λ visits. nat_lt visits l.machine.most) (length (rows_in l.machine.catalogue.now l.scanned.table) - l.row) l.row (λ row. means_at l.machine l.scanned (registers_view l.scanned.before.now) (Row l.scanned.table row)) now
+  ends : (s : State) → HasDone l.machine.catalogue.now l.machine.parts.now l.initial.run s
+      → (now : State) × HasDone l.machine.catalogue.now l.machine.parts.now l.run now
+      × (turns (λ visits. nat_lt visits l.machine.most)
+      (length (rows_in l.machine.catalogue.now l.scanned.table) - l.row) l.row
+      (λ row. means_at l.machine l.scanned (registers_view l.scanned.before.now)
+      (Row l.scanned.table row)) now
       ≡ means_turns l.machine l.scanned (registers_view l.scanned.before.now) s);
   worked : HasWorked l.machine.most l.initial.run l.run 0;
 }
 
 abbrev pub invariant-walk-loop-step : goal.invariant-walk-loop-step
 invariant-walk-loop-step l = record {
-  ends : (s : State) → HasDone l.machine.catalogue.now l.machine.parts.now l.initial.run s → (now : State) × HasDone l.machine.catalogue.now l.machine.parts.now l.run now
-      × (means l.machine (code_of_steps (drop l.step-index l.step-items)) l.place l.inside (registers_view l.registers) now
+  ends : (s : State) → HasDone l.machine.catalogue.now l.machine.parts.now l.initial.run s
+      → (now : State) × HasDone l.machine.catalogue.now l.machine.parts.now l.run now
+      × (means l.machine (code_of_steps (drop l.step-index l.step-items)) l.place l.inside
+      (registers_view l.registers) now
       ≡ means l.machine l.body l.at l.inside (registers_view l.initial.registers) s);
   sound : AreSound l.machine.catalogue.now (registers_view l.registers);
   worked : HasWorked l.machine.most l.initial.run l.run (l.place - l.at);
-  placed : l.place + code_size (code_of_steps (drop l.step-index l.step-items)) ≡ l.at + code_size l.body;
+  placed : l.place + code_size (code_of_steps (drop l.step-index l.step-items))
+      ≡ l.at + code_size l.body;
   after : l.at ≤ l.place;
-  deep : scan_depth (code_of_steps (drop l.step-index l.step-items)) * l.machine.parts.now.registers ≤ length l.frames;
+  deep : scan_depth (code_of_steps (drop l.step-index l.step-items)) * l.machine.parts.now.registers
+      ≤ length l.frames;
 }

@@ -8,7 +8,8 @@ use Rattle.star_verify.proofs.check.check.Goals as goal
 pub returns-then-visits-from : goal.returns-then-visits-from
 returns-then-visits-from c = λ w facts.
     inr (too_costly w c.args.limits.visits c.args.program.now c.args.facts.now facts
-    c.quote-visits.result c.quote-visits.ensures (omega (arith, c.from.ensures, c.if-visits-from.true)))
+    c.quote-visits.result c.quote-visits.ensures
+    (omega (arith, c.from.ensures, c.if-visits-from.true)))
 
 pub returns-in_err-keys : goal.returns-in_err-keys
 returns-in_err-keys c = λ w facts.
@@ -25,7 +26,8 @@ returns-in-None c = λ w facts. (
       c.quote-visits.result c.quote-visits.ensures _ c.parts-parts.ensures.same
       (omega (arith, c.from.ensures, c.if-visits-from.false)) None None
       (c.in_ok-keys.ensures.first w facts).0 (sym c.misnamed_line.ensures ∙ c.in-None.is),
-  same_quote w c.args.facts.now facts c.args.program.now c.quote-visits.result c.quote-visits.ensures,
+  same_quote w c.args.facts.now facts c.args.program.now c.quote-visits.result
+      c.quote-visits.ensures,
   c.in_ok-keys.ensures.len,
   subst (λ parts. HasKeyShares parts c.in_ok-keys.keys.items (at_end w parts at_first parts.body))
       c.parts-parts.ensures.same (c.in_ok-keys.ensures.first w facts).1,

@@ -12,7 +12,8 @@ use Rattle.star_verify.proofs.gifts.+give.Goals as goal
 
 pub returns-in-len1-up-clause-grown : goal.returns-in-len1-up-clause-grown
 returns-in-len1-up-clause-grown t c =
-    grown_more c.args.tallies.now c.add.new.tallies c.give.new.tallies c.args.first c.args.met _ None []
+    grown_more c.args.tallies.now c.add.new.tallies c.give.new.tallies c.args.first c.args.met _
+    None []
     c.add.ensures.grown c.add.ensures.others c.give.ensures.grown c.give.ensures.others
 
 pub returns-in-len1-up-clause-given : goal.returns-in-len1-up-clause-given
@@ -23,8 +24,10 @@ returns-in-len1-up-clause-given t c =
     let all = ap (λ gs. numbers_known gs (known_in c.args.registers.now) c.args.values.now) (sym e)
     ∙ c.next_number-known.ensures.known rest many in
     λ a ss lt h tally.
-    subst (λ (ks : List (Option ranges.Known)). IsTally (get_or c.give.new.tallies (c.args.first + a) tally)
+    subst (λ (ks : List (Option ranges.Known)). IsTally
+    (get_or c.give.new.tallies (c.args.first + a) tally)
     (known_share c.args.met (slice_index_or ks a None) ∷ ss)) (sym all)
-    (given_more c.args.tallies.now c.add.new.tallies c.give.new.tallies c.args.first c.args.met _ _ _
+    (given_more c.args.tallies.now c.add.new.tallies c.give.new.tallies c.args.first c.args.met _ _
+    _
     c.add.ensures.given c.add.ensures.others c.give.ensures.given c.give.ensures.others
     a ss (subst (λ n. a < n) (sym (ap length e)) lt) h tally)

@@ -8,7 +8,8 @@ use Rattle.star_verify.proofs.gifts.+give_keys.Goals as goal
 
 pub returns-in-len1-up-clause-grown : goal.returns-in-len1-up-clause-grown
 returns-in-len1-up-clause-grown t c =
-    grown_more c.args.tallies.now c.add.new.tallies c.give_keys.new.tallies c.args.first c.args.met _ None []
+    grown_more c.args.tallies.now c.add.new.tallies c.give_keys.new.tallies c.args.first c.args.met
+    _ None []
     c.add.ensures.grown c.add.ensures.others c.give_keys.ensures.grown c.give_keys.ensures.others
 
 pub returns-in-len1-up-clause-given : goal.returns-in-len1-up-clause-given
@@ -16,9 +17,11 @@ returns-in-len1-up-clause-given t c =
     let e = first_and_others c.args.keys.now 0 c.in-len1-up.len_at_least in
     let known = known_in c.args.registers.now in
     λ k ss lt h tally.
-    subst (λ (ks : List (Option ranges.Known)). IsTally (get_or c.give_keys.new.tallies (c.args.first + k) tally)
+    subst (λ (ks : List (Option ranges.Known)). IsTally
+    (get_or c.give_keys.new.tallies (c.args.first + k) tally)
     (known_share c.args.met (get_or ks k None) ∷ ss)) (ap (map known) e)
-    (given_more c.args.tallies.now c.add.new.tallies c.give_keys.new.tallies c.args.first c.args.met _ _ _
+    (given_more c.args.tallies.now c.add.new.tallies c.give_keys.new.tallies c.args.first c.args.met
+    _ _ _
     (λ ss' h'. rw (sym c.known_at.ensures) (c.add.ensures.given ss' h')) c.add.ensures.others
     c.give_keys.ensures.given c.give_keys.ensures.others
     k ss (subst (λ n. k < n) (sym (ap length e)) lt) h tally)

@@ -17,5 +17,8 @@ returns-in-Ok-clause-overflow c = λ w.
 pub returns-in-Err-clause-overflow : goal.returns-in-Err-clause-overflow
 returns-in-Err-clause-overflow c = λ w.
     leaving w (bounds_of c.args.range) (reach_view c.args.reach)
-    (λ fits. let never : false ≡ true = subst (λ (x : Result Interval Wide). IsOk x) c.in-Err.is (c.requires.1 fits) in cc)
-    ∙ ap (λ (x : Result Interval Wide). Some (Overflow (bounds_of x).low (bounds_of x).high (reached w (reach_view c.args.reach)))) c.in-Err.is
+    (λ fits. let never : false ≡ true =
+    subst (λ (x : Result Interval Wide). IsOk x) c.in-Err.is (c.requires.1 fits) in cc)
+    ∙ ap (λ (x : Result Interval Wide).
+    Some (Overflow (bounds_of x).low (bounds_of x).high (reached w (reach_view c.args.reach))))
+    c.in-Err.is

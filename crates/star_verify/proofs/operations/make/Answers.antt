@@ -17,7 +17,8 @@ use Rattle.star_verify.proofs.operations.make.Goals as goal
 pub read_total-requires-clause-there : goal.read_total-requires-clause-there
 read_total-requires-clause-there c =
     let group : c.in-Read.group < length c.args.parts.now.groups = search rules in
-    let aggregate : c.in-Read.aggregate < length (group_at c.args.parts.now c.in-Read.group).aggregates = search rules in
+    let aggregate : c.in-Read.aggregate
+    < length (group_at c.args.parts.now c.in-Read.group).aggregates = search rules in
     c.requires.there c.in-Read.group c.in-Read.aggregate group aggregate
 
 pub returns-in-Const : goal.returns-in-Const
@@ -38,14 +39,19 @@ pub returns-in-Binary : goal.returns-in-Binary
 returns-in-Binary c = λ w x target facts known shares.
     let left = c.known_at.ensures ∙ (λ i. known i c.in-Binary.left) in
     let right = c.known_at-in-Binary.ensures ∙ (λ i. known i c.in-Binary.right) in
-    subst (λ (o : Operation). IsMade w c.answer.result (operation_known w c.args.parts.now x o) (range_reason w c.args.parts.now x (Assign target o))) (sym c.in-Binary.is)
-    (made_as w c.answer.result _ _ (λ i. ranges.answer_known c.in-Binary.operator (left i) (right i))
+    subst (λ (o : Operation).
+    IsMade w c.answer.result (operation_known w c.args.parts.now x o)
+    (range_reason w c.args.parts.now x (Assign target o))) (sym c.in-Binary.is)
+    (made_as w c.answer.result _ _
+    (λ i. ranges.answer_known c.in-Binary.operator (left i) (right i))
     c.answer.ensures.made (c.answer.ensures.overflow w))
 
 pub returns-in-Read : goal.returns-in-Read
 returns-in-Read c = λ w x target facts known shares.
     let fits : FitsSigned w64 c.in-Read.default = search rules in
-    subst (λ (o : Operation). IsMade w c.read_total.result (operation_known w c.args.parts.now x o) (range_reason w c.args.parts.now x (Assign target o))) (sym c.in-Read.is)
+    subst (λ (o : Operation).
+    IsMade w c.read_total.result (operation_known w c.args.parts.now x o)
+    (range_reason w c.args.parts.now x (Assign target o))) (sym c.in-Read.is)
     (read_as w c.read_total.result (reach_of (x.so_far c.in-Read.group c.in-Read.aggregate)) _ _
     (λ i. read_range (aggregate_in_group c.args.parts.now c.in-Read.group c.in-Read.aggregate)
     (x.so_far c.in-Read.group c.in-Read.aggregate) (only (to_z-of_z fits i)))

@@ -30,15 +30,20 @@ returns-in_default-as_slice c = λ kept.
     let w = world_of c.args.catalogue.now in
     let shares = all_key_shares w parts g in
     let declared = c.as_slice.ensures ∙ ap (λ d. d.keys) c.in-Some.ensures.group in
-    let tallied : (k : ℕ) → k < length c.as_slice.result.now → IsTallyAt c.args.keys.now (8 * g + k) (shares (0 + k)) =
+    let tallied : (k : ℕ) → k < length c.as_slice.result.now
+    → IsTallyAt c.args.keys.now (8 * g + k) (shares (0 + k)) =
     λ k lt. subst (λ p. IsTallyAt c.args.keys.now (8 * g + k) (shares p)) (sym (zero-add k))
     (kept g c.in-Some.ensures.there k (omega (arith, lt, ap length declared))) in
-    let first = kept g c.in-Some.ensures.there 0 (omega (arith, c.in_default-as_slice.len_at_least, ap length declared)) in
+    let first = kept g c.in-Some.ensures.there 0
+    (omega (arith, c.in_default-as_slice.len_at_least, ap length declared)) in
     let tally = c.tally_at.result in
     let many : tally.many ≡ most_of (shares 0) =
     (subst (λ t. IsTally t (shares 0))
-    (subst (λ p. slice_index_or c.args.keys.now p tally ≡ tally) (let z : 8 * g ≡ 8 * g + 0 = omega arith in z) (c.tally_at.ensures tally))
+    (subst (λ p. slice_index_or c.args.keys.now p tally ≡ tally)
+    (let z : 8 * g ≡ 8 * g + 0 = omega arith in z) (c.tally_at.ensures tally))
     (first tally)).many in
     c.rows_behind.ensures.rows shares 0 1 tallied (inl refl)
-    ∙ all_rows tally.many c.in-Some.declared.now.shape (each_values w shares 0 c.as_slice.result.now)
-    ∙ (λ i. rows_of_groupings (c.in-Some.ensures.group i).shape (many i) (each_values w shares 0 (declared i)))
+    ∙ all_rows tally.many c.in-Some.declared.now.shape
+    (each_values w shares 0 c.as_slice.result.now)
+    ∙ (λ i. rows_of_groupings (c.in-Some.ensures.group i).shape (many i)
+    (each_values w shares 0 (declared i)))

@@ -12,8 +12,10 @@ use Rattle.star_verify.proofs.totals.read.Goals as goal
 pub returns-in-Ok : goal.returns-in-Ok
 returns-in-Ok c = λ w ss is.
     let number : FitsSigned w64 c.args.default = search rules in
-    let range : wide_range_of c.with_default.result ≡ read_range c.args.aggregate ss (only c.args.default) =
-    c.with_default.ensures ∙ (λ i. hull_with (c.total_range.ensures ss is i) (only (to_z-of_z number i))) in
+    let range : wide_range_of c.with_default.result
+    ≡ read_range c.args.aggregate ss (only c.args.default) =
+    c.with_default.ensures ∙ (λ i.
+    hull_with (c.total_range.ensures ss is i) (only (to_z-of_z number i))) in
     let fits = subst FitsI64 range (c.in-Ok.ensures.fits.0 refl) in
     let same = c.in-Ok.ensures.bounds ∙ range in
     (search (rules, same), fitting w _ _ fits)
@@ -21,7 +23,8 @@ returns-in-Ok c = λ w ss is.
 pub returns-in-Err : goal.returns-in-Err
 returns-in-Err c = λ w ss is.
     let number : FitsSigned w64 c.args.default = search rules in
-    let range : wide_range_of c.in-Err.range ≡ read_range c.args.aggregate ss (only c.args.default) =
+    let range : wide_range_of c.in-Err.range
+    ≡ read_range c.args.aggregate ss (only c.args.default) =
     c.in-Err.ensures.bounds ∙ c.with_default.ensures
     ∙ (λ i. hull_with (c.total_range.ensures ss is i) (only (to_z-of_z number i))) in
     let told : overflow w (wide_range_of c.in-Err.range) (reach_view c.args.tally.reach)

@@ -11,7 +11,8 @@ decreases-turns_met l = code_size l.body.now
 
 abbrev pub invariant-loop-step : goal.invariant-loop-step
 invariant-loop-step l = record {
-  sum : l.total + turns_met (size_of l.sizes) l.times (code_of_steps (drop l.step-index l.step-items))
+  sum : l.total + turns_met (size_of l.sizes) l.times
+      (code_of_steps (drop l.step-index l.step-items))
       ≡ turns_met (size_of l.sizes) l.times (code_of_steps l.step-items);
   bound : l.total + code_size (code_of_steps (drop l.step-index l.step-items)) * 2 ^ 96
       ≤ code_size (code_of_steps l.step-items) * 2 ^ 96;

@@ -8,7 +8,8 @@ pub code_at-requires : goal.code_at-requires
 code_at-requires c =
     rw (
       c.texts.ensures,
-      length-texts_at (place_of c.args.column) (rows_in c.deref.result.now (table_of c.args.column)),
+      length-texts_at (place_of c.args.column)
+          (rows_in c.deref.result.now (table_of c.args.column)),
       c.deref.ensures,
       c.self.view_is,
     ) c.requires.row

@@ -9,7 +9,7 @@ use Rattle.star_reader.proofs.RowPlaces.{length-numbers_at}
 use Rattle.star_reader.proofs.PassedOn.{passed_on}
 use Rattle.star_catalogue.proofs.Apart.{numbers_apart}
 use Rattle.star_catalogue.proofs.KeyLists.{apart_of_one, apart_of_two, fault_of_one, fault_of_two, keys_of_one, length_of_two}
-use Rattle.star_catalogue.specs.Private.Indexed.{row_at}
+use Rattle.star_catalogue.specs.Private.Indexed.{row_of_key}
 use Rattle.star_catalogue.specs.Private.Places.{ArePlaces}
 use Rattle.star_catalogue.proofs.Found.{kept_one, none_among_two}
 use Rattle.star_catalogue.proofs.keys.KeyIndex.build.Goals as goal
@@ -54,8 +54,9 @@ returns-in_ok-index-in-One c =
     let index = c.in_ok-index-in-One.index in
     let are = keys_are (goal.at.returns-in_ok-index-in-One c).After-as_slice in
     let apart = numbers_apart numbers (rw are at c.in_ok-index-in-One.ensures.1) in
-    let places : ArePlaces int_eq (row_at index) numbers = rw are at c.in_ok-index-in-One.ensures.0 in (
-      kept_one (row_at index) numbers _ places (keys_of_one table c.in-One.column rows key),
+    let places : ArePlaces int_eq (row_of_key index) numbers =
+    rw are at c.in_ok-index-in-One.ensures.0 in (
+      kept_one (row_of_key index) numbers _ places (keys_of_one table c.in-One.column rows key),
       apart_of_one table c.in-One.column rows key apart,
     )
 

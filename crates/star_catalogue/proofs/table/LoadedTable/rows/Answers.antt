@@ -6,4 +6,5 @@ use Rattle.star_catalogue.proofs.table.LoadedTable.rows.Goals as goal
 
 pub returns : goal.returns
 returns c = rw (← c.self.view_is)
-    (sym (length-first_rows c.self.inside.rows (map values (map as_read c.self.inside.columns.items))))
+    (sym (length-first_rows c.self.inside.rows
+    (map values (map as_read c.self.inside.columns.items))))

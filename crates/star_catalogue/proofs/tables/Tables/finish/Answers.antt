@@ -25,19 +25,26 @@ returns-in_err-date c = λ most texts are.
 pub returns-in_err-customer : goal.returns-in_err-customer
 unfolding tables_fault first_answer
 returns-in_err-customer c = λ most texts are.
-    passed_on _ _ _ (c.in_err-customer.ensures most (texts Customer) are.customer) c.from_residual-in_err-customer.ensures.1
+    passed_on _ _ _ (c.in_err-customer.ensures most (texts Customer) are.customer)
+    c.from_residual-in_err-customer.ensures.1
     (λ fault. rw (none _ _ (c.in_ok-date.ensures most (texts Date) are.date), fault) refl)
 
 pub returns-in_err-supplier : goal.returns-in_err-supplier
 unfolding tables_fault first_answer
 returns-in_err-supplier c = λ most texts are.
-    passed_on _ _ _ (c.in_err-supplier.ensures most (texts Supplier) are.supplier) c.from_residual-in_err-supplier.ensures.1
-    (λ fault. rw (none _ _ (c.in_ok-date.ensures most (texts Date) are.date), none _ _ (c.in_ok-customer.ensures most (texts Customer) are.customer), fault) refl)
+    passed_on _ _ _ (c.in_err-supplier.ensures most (texts Supplier) are.supplier)
+    c.from_residual-in_err-supplier.ensures.1
+    (λ fault. rw (
+      none _ _ (c.in_ok-date.ensures most (texts Date) are.date),
+      none _ _ (c.in_ok-customer.ensures most (texts Customer) are.customer),
+      fault,
+    ) refl)
 
 pub returns-in_err-part : goal.returns-in_err-part
 unfolding tables_fault first_answer
 returns-in_err-part c = λ most texts are.
-    passed_on _ _ _ (c.in_err-part.ensures most (texts Part) are.part) c.from_residual-in_err-part.ensures.1
+    passed_on _ _ _ (c.in_err-part.ensures most (texts Part) are.part)
+    c.from_residual-in_err-part.ensures.1
     (λ fault. rw (
       none _ _ (c.in_ok-date.ensures most (texts Date) are.date),
       none _ _ (c.in_ok-customer.ensures most (texts Customer) are.customer),
@@ -48,7 +55,8 @@ returns-in_err-part c = λ most texts are.
 pub returns-in_err-lineorder : goal.returns-in_err-lineorder
 unfolding tables_fault first_answer
 returns-in_err-lineorder c = λ most texts are.
-    passed_on _ _ _ (c.in_err-lineorder.ensures most (texts Lineorder) are.lineorder) c.from_residual-in_err-lineorder.ensures.1
+    passed_on _ _ _ (c.in_err-lineorder.ensures most (texts Lineorder) are.lineorder)
+    c.from_residual-in_err-lineorder.ensures.1
     (λ fault. rw (
       none _ _ (c.in_ok-date.ensures most (texts Date) are.date),
       none _ _ (c.in_ok-customer.ensures most (texts Customer) are.customer),

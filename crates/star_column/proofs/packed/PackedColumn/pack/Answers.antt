@@ -7,7 +7,8 @@ use Rattle.star_column.proofs.packed.PackedColumn.pack.Goals as goal
 
 pub of_numbers-requires : goal.of_numbers-requires
 of_numbers-requires g c =
-    words_between g.S.SignedWord.number (range_of c.bounds_of-bounds.result) c.args.words.now c.bounds_of-bounds.ensures.low
+    words_between g.S.SignedWord.number (range_of c.bounds_of-bounds.result) c.args.words.now
+    c.bounds_of-bounds.ensures.low
     c.bounds_of-bounds.ensures.high
 
 pub invariant_of-result : goal.invariant_of-result

@@ -5,8 +5,10 @@ use Rattle.star_compile.proofs.Emits.{some_comparison, room_for_right}
 use Rattle.star_compile.proofs.emitter.Emitter.+condition.Goals as goal
 
 pub connective-condition-requires : goal.connective-condition-requires
-connective-condition-requires t c =
-    (omega (arith, some_comparison (row_condition_view c.args.right.now)), (search rules, c.requires.left))
+connective-condition-requires t c = (
+  omega (arith, some_comparison (row_condition_view c.args.right.now)),
+  (search rules, c.requires.left),
+)
 
 pub connective-condition-requires-2 : goal.connective-condition-requires-2
 connective-condition-requires-2 t c = (

@@ -9,4 +9,5 @@ decreases-condition l = 2 * comparisons_of (row_condition_view l.condition.now) 
 
 abbrev pub decreases-connective : goal.decreases-connective
 decreases-connective l =
-    2 * comparisons_of (row_condition_view l.left.now) + 2 * comparisons_of (row_condition_view l.right.now)
+    2 * comparisons_of (row_condition_view l.left.now)
+    + 2 * comparisons_of (row_condition_view l.right.now)

@@ -9,4 +9,5 @@ decreases-expression l = 2 * operands_of (column_expression_view l.expression.no
 
 abbrev pub decreases-arithmetic : goal.decreases-arithmetic
 decreases-arithmetic l =
-    2 * operands_of (column_expression_view l.left.now) + 2 * operands_of (column_expression_view l.right.now)
+    2 * operands_of (column_expression_view l.left.now)
+    + 2 * operands_of (column_expression_view l.right.now)

@@ -8,7 +8,8 @@ pub write-requires : goal.write-requires
 write-requires c = record {
   room = rw c.in_ok-start_of.ensures
       (room_for_first
-      (λ m. beside (end_behind c.args.column (literal_value_view c.args.upto.now)) (Within c.args.value m))
+      (λ m. beside (end_behind c.args.column (literal_value_view c.args.upto.now))
+      (Within c.args.value m))
       c.requires.room);
 }
 
@@ -19,7 +20,8 @@ write-requires-2 c =
       room = rw c.in_ok-end_of.ensures
           (room_for_first (λ n. write (Within c.args.value c.in_ok-from.from n))
           (room_for_second
-          (λ m. beside (end_behind c.args.column (literal_value_view c.args.upto.now)) (Within c.args.value m))
+          (λ m. beside (end_behind c.args.column (literal_value_view c.args.upto.now))
+          (Within c.args.value m))
           from c.requires.room));
     }
 
@@ -31,7 +33,8 @@ write-requires-3 c =
       room =
           room_for_second (λ n. write (Within c.args.value c.in_ok-from.from n)) below
           (room_for_second
-          (λ m. beside (end_behind c.args.column (literal_value_view c.args.upto.now)) (Within c.args.value m))
+          (λ m. beside (end_behind c.args.column (literal_value_view c.args.upto.now))
+          (Within c.args.value m))
           from c.requires.room);
     }
 
@@ -45,6 +48,7 @@ returns c =
     record {
       written =
           then_if_ok c.write-3.result c.write-3.new.self
-          (λ m. beside (end_behind c.args.column (literal_value_view c.args.upto.now)) (Within c.args.value m))
+          (λ m. beside (end_behind c.args.column (literal_value_view c.args.upto.now))
+          (Within c.args.value m))
           from rest;
     }

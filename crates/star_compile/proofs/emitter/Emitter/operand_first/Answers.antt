@@ -13,6 +13,7 @@ write-requires-2 c = record {
 pub returns : goal.returns
 returns c = record {
   written =
-      then_if_ok c.write-2.result c.write-2.new.self (λ n. write (Binary c.args.operator n c.args.value))
+      then_if_ok c.write-2.result c.write-2.new.self
+      (λ n. write (Binary c.args.operator n c.args.value))
       c.in_ok-bound.ensures.written c.write-2.ensures.written;
 }

@@ -14,7 +14,8 @@ value-requires c =
       room =
           room_for_value c.args.joins.now (measures_view aggregates)
           c.loop-aggregate.registers.items
-          (ap measures_view (drop_more aggregates at c.aggregate-item.result c.loop-aggregate-test.true)
+          (ap measures_view (drop_more aggregates at c.aggregate-item.result
+          c.loop-aggregate-test.true)
           ∙ ap (λ a. column_measure_view a.measure ∷ measures_view (drop (at + 1) aggregates))
           (sym c.aggregate-item.is))
           c.loop-aggregate.invariant c.requires.room;

@@ -6,7 +6,8 @@ use Rattle.star_engine.proofs.engine.Engine.answer_program.Goals as goal
 
 pub returns-clause-reported : goal.returns-clause-reported
 returns-clause-reported g c =
-    rw (← c.self.view_is) (has_reported (change g.S.Sink.contents g.S.Sink.is_failed c.args.out.now c.answer_program_over.new.out)
+    rw (← c.self.view_is) (has_reported
+    (change g.S.Sink.contents g.S.Sink.is_failed c.args.out.now c.answer_program_over.new.out)
     (change g.N.Sink.contents g.N.Sink.is_failed c.args.notes.now c.answer_program_over.new.notes)
     (IsQuoteOver c.self.inside.catalogue c.args.file.now)
     (IsToldOver c.self.inside.limits.visits c.self.inside.catalogue c.args.file.now)
@@ -18,7 +19,8 @@ returns-clause-reported g c =
 
 pub returns-clause-noted : goal.returns-clause-noted
 returns-clause-noted g c =
-    rw (← c.self.view_is) (has_told (change g.S.Sink.contents g.S.Sink.is_failed c.args.out.now c.answer_program_over.new.out)
+    rw (← c.self.view_is) (has_told
+    (change g.S.Sink.contents g.S.Sink.is_failed c.args.out.now c.answer_program_over.new.out)
     (change g.N.Sink.contents g.N.Sink.is_failed c.args.notes.now c.answer_program_over.new.notes)
     (IsQuoteOver c.self.inside.catalogue c.args.file.now)
     (IsToldOver c.self.inside.limits.visits c.self.inside.catalogue c.args.file.now)
@@ -27,7 +29,8 @@ returns-clause-noted g c =
 
 pub returns-clause-broken : goal.returns-clause-broken
 returns-clause-broken g c =
-    rw (← c.self.view_is) (is_telling_broken_off (change g.S.Sink.contents g.S.Sink.is_failed c.args.out.now c.answer_program_over.new.out)
+    rw (← c.self.view_is) (is_telling_broken_off
+    (change g.S.Sink.contents g.S.Sink.is_failed c.args.out.now c.answer_program_over.new.out)
     (change g.N.Sink.contents g.N.Sink.is_failed c.args.notes.now c.answer_program_over.new.notes)
     (IsQuoteOver c.self.inside.catalogue c.args.file.now)
     (IsToldOver c.self.inside.limits.visits c.self.inside.catalogue c.args.file.now)
@@ -36,7 +39,8 @@ returns-clause-broken g c =
 
 pub returns-clause-refused : goal.returns-clause-refused
 returns-clause-refused g c =
-    rw (← c.self.view_is) (is_telling_refused (change g.S.Sink.contents g.S.Sink.is_failed c.args.out.now c.answer_program_over.new.out)
+    rw (← c.self.view_is) (is_telling_refused
+    (change g.S.Sink.contents g.S.Sink.is_failed c.args.out.now c.answer_program_over.new.out)
     (change g.N.Sink.contents g.N.Sink.is_failed c.args.notes.now c.answer_program_over.new.notes)
     (IsQuoteOver c.self.inside.catalogue c.args.file.now)
     (IsToldOver c.self.inside.limits.visits c.self.inside.catalogue c.args.file.now)
@@ -45,7 +49,8 @@ returns-clause-refused g c =
 
 pub returns-clause-memory : goal.returns-clause-memory
 returns-clause-memory g c =
-    rw (← c.self.view_is) (is_telling_untold (change g.S.Sink.contents g.S.Sink.is_failed c.args.out.now c.answer_program_over.new.out)
+    rw (← c.self.view_is) (is_telling_untold
+    (change g.S.Sink.contents g.S.Sink.is_failed c.args.out.now c.answer_program_over.new.out)
     (change g.N.Sink.contents g.N.Sink.is_failed c.args.notes.now c.answer_program_over.new.notes)
     (IsQuoteOver c.self.inside.catalogue c.args.file.now)
     (IsToldOver c.self.inside.limits.visits c.self.inside.catalogue c.args.file.now)

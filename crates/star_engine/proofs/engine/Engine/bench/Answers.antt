@@ -5,14 +5,16 @@ use Rattle.star_engine.proofs.engine.Engine.bench.Goals as goal
 
 pub returns-clause-written : goal.returns-clause-written
 returns-clause-written g c =
-    rw (← c.self.view_is) (has_written (change g.S.Sink.contents g.S.Sink.is_failed c.args.out.now c.bench_over.new.out)
+    rw (← c.self.view_is) (has_written
+    (change g.S.Sink.contents g.S.Sink.is_failed c.args.out.now c.bench_over.new.out)
     (IsBenchOver c.self.inside.limits.visits c.self.inside.catalogue)
     (λ fault. ⊥)
     c.bench_over.result c.bench_over.ensures.answered)
 
 pub returns-clause-broken : goal.returns-clause-broken
 returns-clause-broken g c =
-    rw (← c.self.view_is) (is_broken_off (change g.S.Sink.contents g.S.Sink.is_failed c.args.out.now c.bench_over.new.out)
+    rw (← c.self.view_is) (is_broken_off
+    (change g.S.Sink.contents g.S.Sink.is_failed c.args.out.now c.bench_over.new.out)
     (IsBenchOver c.self.inside.limits.visits c.self.inside.catalogue)
     (λ fault. ⊥)
     c.bench_over.result c.bench_over.ensures.answered)

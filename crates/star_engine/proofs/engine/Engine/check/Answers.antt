@@ -5,14 +5,16 @@ use Rattle.star_engine.proofs.engine.Engine.check.Goals as goal
 
 pub returns-clause-written : goal.returns-clause-written
 returns-clause-written g c =
-    rw (← c.self.view_is) (has_written (change g.S.Sink.contents g.S.Sink.is_failed c.args.out.now c.list.new.out)
+    rw (← c.self.view_is) (has_written
+    (change g.S.Sink.contents g.S.Sink.is_failed c.args.out.now c.list.new.out)
     (IsListingOver c.self.inside.catalogue)
     (λ fault. ⊥)
     c.list.result c.list.ensures)
 
 pub returns-clause-broken : goal.returns-clause-broken
 returns-clause-broken g c =
-    rw (← c.self.view_is) (is_broken_off (change g.S.Sink.contents g.S.Sink.is_failed c.args.out.now c.list.new.out)
+    rw (← c.self.view_is) (is_broken_off
+    (change g.S.Sink.contents g.S.Sink.is_failed c.args.out.now c.list.new.out)
     (IsListingOver c.self.inside.catalogue)
     (λ fault. ⊥)
     c.list.result c.list.ensures)

@@ -1,12 +1,12 @@
 use Rattle.std.proofs.Common.{◌++◌, ◌∷◌, [], ap, ◌∙◌}
-use Rattle.star_flat.specs.Repeated.{places, texts_at}
+use Rattle.star_flat.specs.Repeated.{places_in, texts_at_places}
 use Rattle.star_flat.proofs.RepeatedLemmas.{again, either, on_ok, text_again}
 use Rattle.star_flat.proofs.repeated.RepeatedTexts.push.Goals as goal
 
 pub invariant_of-self : goal.invariant_of-self
 invariant_of-self c =
     let ts = c.self.inside.kept in
-    let ps = places c.self.inside.rows in
+    let ps = places_in c.self.inside.rows in
     either c.push_place.result c.push_place.ensures.ok c.push_place.ensures.err
     (λ pushed. rw pushed
     (again ts ps c.self.invariant c.in-Some.place c.args.text.now c.in-Some.ensures))
@@ -15,8 +15,8 @@ invariant_of-self c =
 pub returns-in-Some-clause-ok : goal.returns-in-Some-clause-ok
 returns-in-Some-clause-ok c =
     let ts = c.self.inside.kept in
-    let ps = places c.self.inside.rows in
+    let ps = places_in c.self.inside.rows in
     on_ok c.push_place.result c.push_place.ensures.ok
-    (λ pushed. ap (texts_at ts) pushed
+    (λ pushed. ap (texts_at_places ts) pushed
     ∙ text_again ts ps c.self.invariant c.in-Some.place c.args.text.now c.in-Some.ensures
     ∙ ap (λ all. all ++ c.args.text.now ∷ []) c.self.view_is)

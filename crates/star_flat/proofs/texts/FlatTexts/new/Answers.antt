@@ -1,5 +1,3 @@
-use Rattle.std.proofs.Common.{ap}
-use Rattle.star_flat.specs.Repeated.{places}
 use Rattle.star_flat.proofs.CutLemmas.{none_cut, no_texts}
 use Rattle.star_flat.proofs.texts.FlatTexts.new.Goals as goal
 
@@ -7,4 +5,4 @@ pub invariant_of-result : goal.invariant_of-result
 invariant_of-result c = rw (c.new-2.ensures, c.new.ensures.items) none_cut
 
 pub returns : goal.returns
-returns c = no_texts _ _ (ap places c.new-2.ensures)
+returns c = no_texts _ _ c.new-2.ensures

@@ -6,4 +6,5 @@ use Rattle.star_group.proofs.group_rows.GroupRows.len.Goals as goal
 pub returns : goal.returns
 returns c =
     let s = c.self.inside in
-    sym (rows_length s.key_count s.aggregate_count s.len s.keys.items (s.total.items ++ s.aggregates.items)) ∙ ap length c.self.view_is
+    sym (rows_length s.key_count s.aggregate_count s.len s.keys.items
+    (s.total.items ++ s.aggregates.items)) ∙ ap length c.self.view_is

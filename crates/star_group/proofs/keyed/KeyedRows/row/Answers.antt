@@ -7,11 +7,14 @@ use Rattle.star_group.proofs.keyed.KeyedRows.row.Goals as goal
 pub returns-clause-row : goal.returns-clause-row
 returns-clause-row c =
     let s = c.args.self.now in
-    c.row_of.ensures ∙ ap (λ ps. get_or (cut s.many s.trie.len ps) c.args.number []) c.as_slice.ensures.value
+    c.row_of.ensures ∙ ap (λ ps. get_or (cut s.aggregate_count s.trie.len ps) c.args.number [])
+    c.as_slice.ensures.value
     ∙ sym (ap (λ (e : List KeyPart × List (Option ℤ)). e.1) (entry_at s c.args.number c.requires))
 
 pub returns-clause-wide : goal.returns-clause-wide
 returns-clause-wide c =
     let s = c.args.self.now in
-    ap length (c.row_of.ensures ∙ ap (λ ps. get_or (cut s.many s.trie.len ps) c.args.number []) c.as_slice.ensures.value)
+    ap length (c.row_of.ensures
+    ∙ ap (λ ps. get_or (cut s.aggregate_count s.trie.len ps) c.args.number [])
+    c.as_slice.ensures.value)
     ∙ cells_wide s c.args.number c.requires

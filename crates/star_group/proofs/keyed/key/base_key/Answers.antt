@@ -12,4 +12,8 @@ pub loop-place-preserved : goal.loop-place-preserved
 loop-place-preserved c =
     let place = c.loop-place.place in
     let keys = c.args.keys.now in
-    rw add-one (map-set key_value_view c.loop-place.parts place c.part_of.result ∙ ap (slice_set (key_view c.loop-place.parts) place) c.part_of.ensures ∙ ap (λ s. slice_set s place (Some (get_or keys place (Number (pos 0))))) c.loop-place.invariant ∙ padded-set 6 keys place (Number (pos 0)) c.loop-place-test.true c.requires)
+    rw add-one (map-set key_value_view c.loop-place.parts place c.part_of.result
+    ∙ ap (slice_set (key_view c.loop-place.parts) place) c.part_of.ensures
+    ∙ ap (λ s. slice_set s place (Some (get_or keys place (Number (pos 0)))))
+    c.loop-place.invariant ∙ padded-set 6 keys place (Number (pos 0)) c.loop-place-test.true
+    c.requires)

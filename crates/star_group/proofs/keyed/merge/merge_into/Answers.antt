@@ -9,7 +9,9 @@ pub merged_cell-requires-clause-stays : goal.merged_cell-requires-clause-stays
 merged_cell-requires-clause-stays c =
     let place = c.loop-place.place in
     let gs = c.args.aggregates.now in
-    ap (λ held. leaves (get_or gs place Count) (merged (get_or gs place Count) held (get_or c.args.more.now place None))) (c.loop-place.invariant.later place (omega arith))
+    ap (λ held. leaves (get_or gs place Count)
+    (merged (get_or gs place Count) held (get_or c.args.more.now place None)))
+    (c.loop-place.invariant.later place (omega arith))
     ∙ c.requires.stays place c.loop-place-test.true
 
 pub loop-place-preserved : goal.loop-place-preserved
@@ -21,7 +23,11 @@ loop-place-preserved c =
     record {
       wide = grind (arith, common_steps);
       cells = below_more _ _
-          (λ k h. let ne : k ≢ place = omega arith in rw get_or-set_other (c.loop-place.invariant.cells k h))
-          (rw get_or-set_same (c.merged_cell.ensures ∙ ap (λ held. merged (get_or gs place Count) held (get_or c.args.more.now place None)) (c.loop-place.invariant.later place (omega arith))));
-      later = λ k h. let ne : k ≢ place = omega arith in rw get_or-set_other (c.loop-place.invariant.later k (omega arith));
+          (λ k h. let ne : k ≢ place = omega arith in
+          rw get_or-set_other (c.loop-place.invariant.cells k h))
+          (rw get_or-set_same (c.merged_cell.ensures
+          ∙ ap (λ held. merged (get_or gs place Count) held (get_or c.args.more.now place None))
+          (c.loop-place.invariant.later place (omega arith))));
+      later = λ k h. let ne : k ≢ place = omega arith in
+          rw get_or-set_other (c.loop-place.invariant.later k (omega arith));
     }

@@ -7,9 +7,11 @@ pub loop-place-preserved : goal.loop-place-preserved
 loop-place-preserved c =
     let key = c.args.key.now in
     let l = c.loop-place in
-    ap (λ w. word_from w (drop (l.place + 1) key)) c.word_with-word.ensures ∙ sym (word_on l.word key l.place c.loop-place-test.true) ∙ l.invariant
+    ap (λ w. word_from w (drop (l.place + 1) key)) c.word_with-word.ensures
+    ∙ sym (word_on l.word key l.place c.loop-place-test.true) ∙ l.invariant
 
 pub returns : goal.returns
 returns c =
     let l = c.loop-place in
-    sym (word_done l.word c.args.key.now l.place (omega (arith, c.loop-place-test.false))) ∙ l.invariant
+    sym (word_done l.word c.args.key.now l.place (omega (arith, c.loop-place-test.false)))
+    ∙ l.invariant

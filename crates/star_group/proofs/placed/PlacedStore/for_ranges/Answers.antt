@@ -18,14 +18,17 @@ invariant_of-result c =
     let group = c.in_ok-rest.ensures.group in
     let same = c.as_slice-2.ensures ∙ sym (ap (λ g. g.aggregates) group) in
     record {
-      keys = c.in_ok-spans.ensures.keys ∙ ap length c.as_slice.ensures ∙ sym (ap (λ g. g.count) group);
+      keys = c.in_ok-spans.ensures.keys ∙ ap length c.as_slice.ensures
+          ∙ sym (ap (λ g. g.count) group);
       few = omega (arith, c.in_ok-spans.ensures.few, c.in_ok-spans.ensures.places);
-      many = many ∙ c.in_ok-spans.ensures.places;
+      marks = many ∙ c.in_ok-spans.ensures.places;
       long = c.in_ok-cells.ensures.len ∙ (λ i. length (same i) * sym many i);
       room = ∣ (
         [],
-        placed_none d c.in_ok-spans.spans.items seen cells (entries_of rest.rows) rest.total (blank ∙ ap (λ m. replicate m false) (sym many))
-            (blank_columns d c.as_slice-2.result.now n seen cells same (sym many) c.in_ok-cells.ensures.cells) c.in_ok-rest.ensures.empty,
+        placed_none d c.in_ok-spans.spans.items seen cells (entries_of rest.rows) rest.total
+            (blank ∙ ap (λ m. replicate m false) (sym many))
+            (blank_columns d c.as_slice-2.result.now n seen cells same (sym many)
+            c.in_ok-cells.ensures.cells) c.in_ok-rest.ensures.empty,
         no_room d,
       ) ∣₁;
     }
@@ -40,5 +43,7 @@ returns-clause-empty c =
     let blank : seen ≡ replicate n false = c.in_ok-seen.ensures.items_if_clones_equal (λ y e. e) in
     let many : length seen ≡ n = ap length blank ∙ length-replicate n false in
     let same = c.as_slice-2.ensures ∙ sym (ap (λ g. g.aggregates) c.in_ok-rest.ensures.group) in
-    placed_none d c.in_ok-spans.spans.items seen cells (entries_of rest.rows) rest.total (blank ∙ ap (λ m. replicate m false) (sym many))
-    (blank_columns d c.as_slice-2.result.now n seen cells same (sym many) c.in_ok-cells.ensures.cells) c.in_ok-rest.ensures.empty
+    placed_none d c.in_ok-spans.spans.items seen cells (entries_of rest.rows) rest.total
+    (blank ∙ ap (λ m. replicate m false) (sym many))
+    (blank_columns d c.as_slice-2.result.now n seen cells same (sym many)
+    c.in_ok-cells.ensures.cells) c.in_ok-rest.ensures.empty

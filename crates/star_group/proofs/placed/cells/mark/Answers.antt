@@ -8,4 +8,5 @@ loop-row-init c = search rules
 
 pub loop-row-preserved : goal.loop-row-preserved
 unfolding after_rows
-loop-row-preserved c = rw add-one (ap (λ seen. slice_set seen (get_or c.args.at.now c.loop-row.row 0) true) c.loop-row.invariant)
+loop-row-preserved c = rw add-one
+    (ap (λ seen. slice_set seen (get_or c.args.at.now c.loop-row.row 0) true) c.loop-row.invariant)

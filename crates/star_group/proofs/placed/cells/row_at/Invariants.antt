@@ -5,6 +5,9 @@ use Rattle.star_group.proofs.placed.cells.row_at.Given as goal
 
 abbrev pub invariant-loop-number : goal.invariant-loop-number
 invariant-loop-number l = record {
-  cells : (a : ℕ) → a < l.number → slice_index_or l.row a None ≡ Some (slice_index_or (slice_index_or (cut l.places l.many l.cells) a []) l.place (pos 0));
+  cells : (a : ℕ) → a < l.number
+      → slice_index_or l.row a None
+      ≡ Some (slice_index_or (slice_index_or (cut l.places l.aggregate_count l.cells) a []) l.place
+      (pos 0));
   wide : length l.row ≡ 8;
 }

@@ -11,7 +11,9 @@ loop-row-init c = search rules
 
 pub taken_at-requires-clause-stays : goal.taken_at-requires-clause-stays
 taken_at-requires-clause-stays c =
-    ap (λ cells. leaves c.args.aggregate (Some (taking c.args.aggregate c.args.lane.now c.loop-row.row (get_or cells (get_or c.args.at.now c.loop-row.row 0) (pos 0))))) c.loop-row.invariant
+    ap (λ cells. leaves c.args.aggregate
+    (Some (taking c.args.aggregate c.args.lane.now c.loop-row.row
+    (get_or cells (get_or c.args.at.now c.loop-row.row 0) (pos 0))))) c.loop-row.invariant
     ∙ c.requires.stays c.loop-row.row c.loop-row-test.true
 
 pub loop-row-preserved : goal.loop-row-preserved
@@ -20,4 +22,7 @@ loop-row-preserved c =
     let at = get_or c.args.at.now c.loop-row.row 0 in
     let back = to_z-of_z w128 c.taken_at.result (record { sfits = c.taken_at.type_inv }) in
     rw add-one
-    (λ i. slice_set (c.loop-row.invariant i) at ((back ∙ c.taken_at.ensures ∙ ap (λ cells. taking c.args.aggregate c.args.lane.now c.loop-row.row (get_or cells at (pos 0))) c.loop-row.invariant) i))
+    (λ i. slice_set (c.loop-row.invariant i) at
+    ((back ∙ c.taken_at.ensures
+    ∙ ap (λ cells. taking c.args.aggregate c.args.lane.now c.loop-row.row
+    (get_or cells at (pos 0))) c.loop-row.invariant) i))

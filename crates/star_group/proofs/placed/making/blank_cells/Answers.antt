@@ -21,7 +21,13 @@ loop-aggregate-preserved c =
     let rows = cut_one places n old new row c.loop-aggregate.invariant.len wide is in
     record {
       cells = below_more _ _
-          (λ a h. ap (λ rs. get_or rs a []) rows ∙ get_or_append_left (cut places n old) (row ∷ []) [] a (omega (arith, h, length-cut places n old)) ∙ c.loop-aggregate.invariant.cells a h)
-          (ap (λ rs. get_or rs n []) rows ∙ ap (λ m. get_or (cut places n old ++ row ∷ []) m []) (sym (length-cut places n old)) ∙ get_or-append_seam (cut places n old) row [] [] ∙ blank ∙ ap (λ g. replicate places (neutral g)) (get_or_default c.args.aggregates.now n Sum Count c.loop-aggregate-test.true));
+          (λ a h. ap (λ rs. get_or rs a []) rows
+          ∙ get_or_append_left (cut places n old) (row ∷ []) [] a
+          (omega (arith, h, length-cut places n old)) ∙ c.loop-aggregate.invariant.cells a h)
+          (ap (λ rs. get_or rs n []) rows
+          ∙ ap (λ m. get_or (cut places n old ++ row ∷ []) m []) (sym (length-cut places n old))
+          ∙ get_or-append_seam (cut places n old) row [] [] ∙ blank
+          ∙ ap (λ g. replicate places (neutral g))
+          (get_or_default c.args.aggregates.now n Sum Count c.loop-aggregate-test.true));
       len = more_long places n old new row c.loop-aggregate.invariant.len wide is;
     }

@@ -7,6 +7,8 @@ use Rattle.star_group.proofs.placed.making.blank_cells.Given as goal
 
 abbrev pub invariant-loop-aggregate : goal.invariant-loop-aggregate
 invariant-loop-aggregate l = record {
-  cells : (a : ℕ) → a < l.aggregate-index → slice_index_or (cut l.places l.aggregate-index l.cells.items) a [] ≡ replicate l.places (neutral (slice_index_or l.aggregates a Count));
+  cells : (a : ℕ) → a < l.aggregate-index
+      → slice_index_or (cut l.places l.aggregate-index l.cells.items) a []
+      ≡ replicate l.places (neutral (slice_index_or l.aggregates a Count));
   len : length l.cells.items ≡ l.aggregate-index * l.places;
 }

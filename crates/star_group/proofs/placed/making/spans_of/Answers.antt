@@ -11,8 +11,10 @@ loop-index-preserved c =
     let left = c.loop-index.left in
     let pushed = c.in_ok-push.ensures.items in
     record {
-      count = ap (λ n. n * size) c.loop-index.invariant.count ∙ sym (places_more c.loop-index.spans.items span) ∙ sym (ap places pushed);
+      count = ap (λ n. n * size) c.loop-index.invariant.count
+          ∙ sym (places_more c.loop-index.spans.items span) ∙ sym (ap places pushed);
       room = room_left c.loop-index.count size left c.loop-index.invariant.room;
       some = le-div 1 left size (omega arith) (omega (arith, c.span_of-span.ensures.last));
-      keys = ap length pushed ∙ length-append c.loop-index.spans.items (span ∷ []) ∙ ap (λ n. n + 1) c.loop-index.invariant.keys;
+      keys = ap length pushed ∙ length-append c.loop-index.spans.items (span ∷ [])
+          ∙ ap (λ n. n + 1) c.loop-index.invariant.keys;
     }

@@ -6,7 +6,9 @@ use Rattle.star_group.proofs.placed.places.find_places.Given as goal
 
 abbrev pub invariant-loop-index : goal.invariant-loop-index
 invariant-loop-index l = record {
-  behind : (row : ℕ) → row < l.batch.rows → spec.cell_place (drop l.index l.spans) (drop l.index (put_in l.batch row).keys) ≡ Some (slice_index_or l.at row 0);
+  behind : (row : ℕ) → row < l.batch.rows
+      → spec.cell_place (drop l.index l.spans) (drop l.index (put_in l.batch row).keys)
+      ≡ Some (slice_index_or l.at row 0);
   within : l.index ≤ length l.spans;
 }
 

@@ -5,7 +5,9 @@ use Rattle.star_group.proofs.placed.places.keys_at.Given as goal
 
 abbrev pub invariant-loop-index : goal.invariant-loop-index
 invariant-loop-index l = record {
-  left : (keys : List KeyValue) → spec.cell_place l.spans keys ≡ Some l.place → spec.cell_place (drop l.index l.spans) (drop l.index keys) ≡ Some l.left;
-  same : (keys : List KeyValue) → spec.cell_place l.spans keys ≡ Some l.place → take l.index l.keys ≡ take l.index keys;
+  left : (keys : List KeyValue) → spec.cell_place l.spans keys ≡ Some l.place
+      → spec.cell_place (drop l.index l.spans) (drop l.index keys) ≡ Some l.left;
+  same : (keys : List KeyValue) → spec.cell_place l.spans keys ≡ Some l.place
+      → take l.index l.keys ≡ take l.index keys;
   wide : length l.keys ≡ 6;
 }

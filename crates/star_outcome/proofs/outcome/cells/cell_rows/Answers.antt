@@ -15,7 +15,10 @@ from_cells-requires c =
     let d = c.args.declared.now in
     let shows = c.args.shows.now in
     ap length c.in_ok-cells.ensures
-    ∙ length-rows (length shows) (λ number. row_cells w d shows (row_at c.args.rows.now number)) (λ number. length-map shows (λ show. cell_of (decoded_row w d (row_view (row_at c.args.rows.now number))) show.column)) c.args.numbers.now
+    ∙ length-rows (length shows) (λ number. row_cells w d shows (row_at c.args.rows.now number))
+    (λ number. length-map shows
+    (λ show. cell_of (decoded_row w d (row_view (row_at c.args.rows.now number))) show.column))
+    c.args.numbers.now
 
 pub returns : goal.returns
 returns c =
@@ -24,4 +27,7 @@ returns c =
     let shows = c.args.shows.now in
     c.from_cells.ensures
     ∙ ap (cut (length shows) (length c.args.numbers.now)) c.in_ok-cells.ensures
-    ∙ cut_rows (length shows) (λ number. row_cells w d shows (row_at c.args.rows.now number)) (λ number. length-map shows (λ show. cell_of (decoded_row w d (row_view (row_at c.args.rows.now number))) show.column)) c.args.numbers.now
+    ∙ cut_rows (length shows) (λ number. row_cells w d shows (row_at c.args.rows.now number))
+    (λ number. length-map shows
+    (λ show. cell_of (decoded_row w d (row_view (row_at c.args.rows.now number))) show.column))
+    c.args.numbers.now

@@ -6,4 +6,7 @@ use Rattle.star_world.specs.WorldOf.{world_of}
 use Rattle.star_outcome.proofs.outcome.cells.push_cells.Given as goal
 
 abbrev pub invariant-loop-show : goal.invariant-loop-show
-invariant-loop-show l = l.cells.items ≡ l.fn.cells.items ++ map (λ show. cell_of (decoded_row (world_of l.catalogue) l.declared (row_view (row_at l.rows l.number))) show.column) (take l.show-index l.shows)
+invariant-loop-show l = l.cells.items
+    ≡ l.fn.cells.items ++ map
+    (λ show. cell_of (decoded_row (world_of l.catalogue) l.declared
+    (row_view (row_at l.rows l.number))) show.column) (take l.show-index l.shows)

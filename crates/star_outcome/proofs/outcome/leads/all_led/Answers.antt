@@ -7,4 +7,5 @@ pub loop-number-preserved : goal.loop-number-preserved
 loop-number-preserved c =
     let number = c.loop-number.number in
     c.in_ok-push.ensures.items ∙ (λ i. c.loop-number.invariant i ++ c.led_row.ensures i ∷ [])
-    ∙ sym (map-range_with_len_more (led_at c.args.sorts.now c.args.rows.now) 0 number number (omega arith))
+    ∙ sym (map-range_with_len_more (led_at c.args.sorts.now c.args.rows.now) 0 number number
+    (omega arith))

@@ -15,5 +15,9 @@ returns c =
     let all = c.sort_unstable_by.new.self.items in
     let moved : IsPermutation (map (led_at sorts rows) (range_with_len 0 (length rows))) all =
     subst (λ xs. IsPermutation xs all) c.in_ok-all.ensures c.sort_unstable_by.ensures.permutation in
-    let up = sorted_by_answers (led_cmp sorts rows) (led_total sorts rows) all c.sort_unstable_by.ensures.sorted (λ a r f' k. search rules) in
-    if_ok _ _ c.numbers_of.result (λ numbers is. in_order sorts rows all numbers.items c.requires.apart c.requires.nulls moved up (is ∙ ap (λ leds. map (λ (led : Led). led.number) leds) c.as_slice.ensures.value)) c.numbers_of.ensures
+    let up = sorted_by_answers (led_cmp sorts rows) (led_total sorts rows) all
+    c.sort_unstable_by.ensures.sorted (λ a r f' k. search rules) in
+    if_ok _ _ c.numbers_of.result
+    (λ numbers is. in_order sorts rows all numbers.items c.requires.apart c.requires.nulls moved
+    up (is ∙ ap (λ leds. map (λ (led : Led). led.number) leds) c.as_slice.ensures.value))
+    c.numbers_of.ensures

@@ -10,7 +10,8 @@ returns-in_err-parts-clause-only c = λ parts spells small.
     let p = err_from_is_err_and c.from_residual.result c.from_residual.ensures.1 in
     rw (p.1, p.2) (elim c.in_err-parts.ensures [
       | inl memory ↦ memory
-      | inr refusal ↦ let none = no_fault c.args.text.now parts spells small in absurd (let bad : ⊥ = cc (none, refusal) in bad)
+      | inr refusal ↦ let none = no_fault c.args.text.now parts spells small in
+          absurd (let bad : ⊥ = cc (none, refusal) in bad)
     ])
 
 pub returns-in_err-parts-clause-fault : goal.returns-in_err-parts-clause-fault
@@ -22,4 +23,5 @@ returns-in_err-parts-clause-fault c =
     ])
 
 pub returns-clause-only : goal.returns-clause-only
-returns-clause-only c = λ parts spells small. one_program c.args.text.now c.in_ok-parts.parts parts c.in_ok-parts.ensures.0 spells
+returns-clause-only c = λ parts spells small.
+    one_program c.args.text.now c.in_ok-parts.parts parts c.in_ok-parts.ensures.0 spells

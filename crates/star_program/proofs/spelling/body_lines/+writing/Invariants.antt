@@ -16,7 +16,9 @@ decreases-push_step l = 2 * code_size (code_of_step l.step.now)
 
 abbrev pub invariant-push_body-loop-step : goal.invariant-push_body-loop-step
 invariant-push_body-loop-step l = record {
-  lines : l.out.items ++ flat_map written_line (lines_of_code l.depth (code_of_steps (drop l.step-index l.step-items))) ≡ l.fn.out.items ++ flat_map written_line (lines_of_code l.depth l.body);
+  lines : l.out.items ++ flat_map written_line
+      (lines_of_code l.depth (code_of_steps (drop l.step-index l.step-items)))
+      ≡ l.fn.out.items ++ flat_map written_line (lines_of_code l.depth l.body);
   size : code_size (code_of_steps (drop l.step-index l.step-items)) ≤ code_size l.body;
   depth : l.depth + scan_depth (code_of_steps (drop l.step-index l.step-items)) ≤ 3;
 }

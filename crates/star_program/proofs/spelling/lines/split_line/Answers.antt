@@ -6,11 +6,13 @@ use Rattle.star_program.proofs.Text.LineLemmas.{empty_lines, first_line, one_lin
 use Rattle.star_program.proofs.spelling.lines.split_line.Goals as goal
 
 pub returns-then-is_empty-clause-line : goal.returns-then-is_empty-clause-line
-returns-then-is_empty-clause-line c = empty_lines c.args.text.now (sym c.is_empty.ensures ∙ c.if-is_empty.true)
+returns-then-is_empty-clause-line c =
+    empty_lines c.args.text.now (sym c.is_empty.ensures ∙ c.if-is_empty.true)
 
 pub returns-in-Some-clause-line : goal.returns-in-Some-clause-line
 returns-in-Some-clause-line c =
-    let found : position (λ b. b == 10) c.args.text.now ≡ Some c.in-Some.end = sym c.in-Some.ensures in
+    let found : position (λ b. b == 10) c.args.text.now ≡ Some c.in-Some.end =
+    sym c.in-Some.ensures in
     let at = position-Some (λ b. b == 10) c.args.text.now c.in-Some.end 0 found in
     let line = first_line c.args.text.now c.in-Some.end at.0 at.1 at.2 in
     rw (c.without_return.ensures, c.from_place.ensures, add-one) line

@@ -7,4 +7,5 @@ use Rattle.star_program.proofs.spelling.listed.read_column.Goals as goal
 
 pub returns : goal.returns
 unfolding column_of_word
-returns c = named_is_found column_name COLUMNS c.args.word.now c.column_named.result c.column_named.ensures column_by_name
+returns c = named_is_found column_name COLUMNS c.args.word.now c.column_named.result
+    c.column_named.ensures column_by_name

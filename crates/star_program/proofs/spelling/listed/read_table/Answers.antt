@@ -7,4 +7,5 @@ use Rattle.star_program.proofs.spelling.listed.read_table.Goals as goal
 
 pub returns : goal.returns
 unfolding table_of_word
-returns c = named_is_found table_name TABLES c.args.word.now c.table_named.result c.table_named.ensures table_by_name
+returns c = named_is_found table_name TABLES c.args.word.now c.table_named.result
+    c.table_named.ensures table_by_name

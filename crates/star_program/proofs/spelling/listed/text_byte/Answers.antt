@@ -8,24 +8,34 @@ returns-in_err-byte-clause-byte c =
 
 pub returns-then-byte-ne39-clause-byte : goal.returns-then-byte-ne39-clause-byte
 returns-then-byte-ne39-clause-byte c =
-    let is : c.args.quoted.now ≡ c.in_ok-byte.byte.now ∷ c.in_ok-byte.rest.now = c.in_ok-byte.ensures.cases.0 in
+    let is : c.args.quoted.now ≡ c.in_ok-byte.byte.now ∷ c.in_ok-byte.rest.now =
+    c.in_ok-byte.ensures.cases.0 in
     rw is (plain_byte c.in_ok-byte.byte.now c.in_ok-byte.rest.now c.if-byte-ne39.true)
 
 pub returns-in_err-next-clause-byte : goal.returns-in_err-next-clause-byte
 returns-in_err-next-clause-byte c =
-    let is : c.args.quoted.now ≡ c.in_ok-byte.byte.now ∷ c.in_ok-byte.rest.now = c.in_ok-byte.ensures.cases.0 in
+    let is : c.args.quoted.now ≡ c.in_ok-byte.byte.now ∷ c.in_ok-byte.rest.now =
+    c.in_ok-byte.ensures.cases.0 in
     let quote : c.in_ok-byte.byte.now ≡ 39 = c.if-byte-ne39.false in
-    rw (c.from_residual-in_err-next.ensures, is, quote) (last_quote c.in_ok-byte.rest.now c.in_err-next.ensures.cases)
+    rw (c.from_residual-in_err-next.ensures, is, quote)
+    (last_quote c.in_ok-byte.rest.now c.in_err-next.ensures.cases)
 
 pub returns-then-next-eq39-clause-byte : goal.returns-then-next-eq39-clause-byte
 returns-then-next-eq39-clause-byte c =
-    let is : c.args.quoted.now ≡ c.in_ok-byte.byte.now ∷ c.in_ok-byte.rest.now = c.in_ok-byte.ensures.cases.0 in
-    let then_is : c.in_ok-byte.rest.now ≡ c.in_ok-next.next.now ∷ c.in_ok-next.after.now = c.in_ok-next.ensures.cases.0 in
-    doubled_quote c.args.quoted.now c.in_ok-byte.byte.now c.in_ok-byte.rest.now c.in_ok-next.next.now c.in_ok-next.after.now is then_is c.if-byte-ne39.false c.if-next-eq39.true
+    let is : c.args.quoted.now ≡ c.in_ok-byte.byte.now ∷ c.in_ok-byte.rest.now =
+    c.in_ok-byte.ensures.cases.0 in
+    let then_is : c.in_ok-byte.rest.now ≡ c.in_ok-next.next.now ∷ c.in_ok-next.after.now =
+    c.in_ok-next.ensures.cases.0 in
+    doubled_quote c.args.quoted.now c.in_ok-byte.byte.now c.in_ok-byte.rest.now
+    c.in_ok-next.next.now c.in_ok-next.after.now is then_is c.if-byte-ne39.false
+    c.if-next-eq39.true
 
 pub returns-else-next-eq39-clause-byte : goal.returns-else-next-eq39-clause-byte
 returns-else-next-eq39-clause-byte c =
-    let is : c.args.quoted.now ≡ c.in_ok-byte.byte.now ∷ c.in_ok-byte.rest.now = c.in_ok-byte.ensures.cases.0 in
-    let then_is : c.in_ok-byte.rest.now ≡ c.in_ok-next.next.now ∷ c.in_ok-next.after.now = c.in_ok-next.ensures.cases.0 in
+    let is : c.args.quoted.now ≡ c.in_ok-byte.byte.now ∷ c.in_ok-byte.rest.now =
+    c.in_ok-byte.ensures.cases.0 in
+    let then_is : c.in_ok-byte.rest.now ≡ c.in_ok-next.next.now ∷ c.in_ok-next.after.now =
+    c.in_ok-next.ensures.cases.0 in
     let quote : c.in_ok-byte.byte.now ≡ 39 = c.if-byte-ne39.false in
-    rw (is, quote, then_is) (closing_quote c.in_ok-next.next.now c.in_ok-next.after.now c.if-next-eq39.false)
+    rw (is, quote, then_is) (closing_quote c.in_ok-next.next.now c.in_ok-next.after.now
+    c.if-next-eq39.false)

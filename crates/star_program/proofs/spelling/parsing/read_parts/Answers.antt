@@ -3,7 +3,7 @@ use Rattle.std.proofs.lemmas.Result.{err_from_is_err_and}
 use Rattle.star_program.specs.Text.Said.{said_in}
 use Rattle.star_program.specs.Private.Drafts.{told}
 use Rattle.star_program.specs.Text.Lines.{lines_of}
-use Rattle.star_program.specs.Private.Places.{fault_from}
+use Rattle.star_program.specs.Private.Places.{lines_fault}
 use Rattle.star_program.proofs.Text.PassedLines.{end_spelled, end_within, nothing_at_start, nothing_told}
 use Rattle.star_program.proofs.Text.FaultLemmas.{ended, text_fault_is}
 use Rattle.star_program.proofs.spelling.parsing.read_parts.Goals as goal
@@ -22,8 +22,11 @@ loop-first-preserved c =
     let passed = c.in_ok-place.ensures in
     let line = c.in-Some.ensures.line in
     record {
-      faults = was.faults ∙ ap (fault_from c.loop-first.place c.loop-first.line) line ∙ passed.faults (lines_of c.in-Some.after.now);
-      says = was.says ∙ ap (λ texts. map Some (told c.loop-first.place.stage c.loop-first.draft) ++ said_in texts) line ∙ passed.says (lines_of c.in-Some.after.now);
+      faults = was.faults ∙ ap (lines_fault c.loop-first.place c.loop-first.line) line
+          ∙ passed.faults (lines_of c.in-Some.after.now);
+      says = was.says ∙ ap (λ texts.
+          map Some (told c.loop-first.place.stage c.loop-first.draft) ++ said_in texts) line
+          ∙ passed.says (lines_of c.in-Some.after.now);
       at = passed.at;
       room = omega (arith, c.in-Some.ensures.shorter);
     }
@@ -34,19 +37,27 @@ returns-in_err-place c =
     rw (p.1, p.2) (elim c.in_err-place.ensures [
       | inl memory ↦ inl memory
       | inr refusal ↦
-          inr (text_fault_is c.args.text.now ∙ c.loop-first.invariant.faults ∙ ap (fault_from c.loop-first.place c.loop-first.line) c.in-Some.ensures.line ∙ refusal (lines_of c.in-Some.after.now))
+          inr (text_fault_is c.args.text.now ∙ c.loop-first.invariant.faults
+          ∙ ap (lines_fault c.loop-first.place c.loop-first.line) c.in-Some.ensures.line
+          ∙ refusal (lines_of c.in-Some.after.now))
     ])
 
 pub returns-in-Some-end_fault : goal.returns-in-Some-end_fault
 returns-in-Some-end_fault c =
-    inr (text_fault_is c.args.text.now ∙ c.loop-first.invariant.faults ∙ ap (fault_from c.loop-first.place c.loop-first.line) c.in_default.ensures.line
+    inr (text_fault_is c.args.text.now ∙ c.loop-first.invariant.faults
+    ∙ ap (lines_fault c.loop-first.place c.loop-first.line) c.in_default.ensures.line
     ∙ ended c.loop-first.place c.loop-first.line ∙ sym c.end_fault.ensures ∙ c.in-Some-end_fault.is)
 
 pub returns-in-None : goal.returns-in-None
 returns-in-None c =
     let was = c.loop-first.invariant in
     let ends = sym c.end_fault.ensures ∙ c.in-None.is in
-    let all = was.says ∙ ap (λ texts. map Some (told c.loop-first.place.stage c.loop-first.draft) ++ said_in texts) c.in_default.ensures.line
+    let all = was.says ∙ ap (λ texts.
+    map Some (told c.loop-first.place.stage c.loop-first.draft) ++ said_in texts)
+    c.in_default.ensures.line
     ∙ append-nil (map Some (told c.loop-first.place.stage c.loop-first.draft)) in
-    rw c.finish.ensures
-    (end_spelled c.loop-first.place c.loop-first.draft c.loop-first.line c.args.text.now was.at ends all, end_within c.loop-first.place c.loop-first.draft c.loop-first.line was.at ends)
+    rw c.finish.ensures (
+      end_spelled c.loop-first.place c.loop-first.draft c.loop-first.line c.args.text.now was.at ends
+          all,
+      end_within c.loop-first.place c.loop-first.draft c.loop-first.line was.at ends,
+    )

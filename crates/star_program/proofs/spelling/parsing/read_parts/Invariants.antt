@@ -3,13 +3,14 @@ use Rattle.std.proofs.Common.{◌≡◌, ◌≤◌, ◌+◌, ◌++◌, Some, len
 use Rattle.star_program.specs.Text.Said.{said_in}
 use Rattle.star_program.specs.Private.Drafts.{IsAt, told}
 use Rattle.star_program.specs.Text.Lines.{lines_of}
-use Rattle.star_program.specs.Private.Places.{fault_from, start}
+use Rattle.star_program.specs.Private.Places.{lines_fault, start}
 use Rattle.star_program.proofs.spelling.parsing.read_parts.Given as goal
 
 abbrev pub invariant-loop-first : goal.invariant-loop-first
 invariant-loop-first l = record {
-  faults : fault_from start 1 (lines_of l.text) ≡ fault_from l.place l.line (lines_of l.rest);
-  says : said_in (lines_of l.text) ≡ map Some (told l.place.stage l.draft) ++ said_in (lines_of l.rest);
+  faults : lines_fault start 1 (lines_of l.text) ≡ lines_fault l.place l.line (lines_of l.rest);
+  says : said_in (lines_of l.text)
+      ≡ map Some (told l.place.stage l.draft) ++ said_in (lines_of l.rest);
   at : IsAt l.place l.draft;
   room : l.line + length l.rest ≤ length l.text + 1;
 }

@@ -6,9 +6,14 @@ use Rattle.star_query.proofs.parser.Parser.aggregate.Goals as goal
 
 pub returns-clause-reads : goal.returns-clause-reads
 returns-clause-reads c =
-    read_aggregate c.args.function (spot_of c.args.self.now) (spot_of c.measure.new.self) (spot_of c.alias.new.self) c.in_ok-measure.measure c.in_ok-name.name c.in_ok-measure.ensures.reads c.in_ok-name.ensures.reads
+    read_aggregate c.args.function (spot_of c.args.self.now) (spot_of c.measure.new.self)
+    (spot_of c.alias.new.self) c.in_ok-measure.measure c.in_ok-name.name
+    c.in_ok-measure.ensures.reads c.in_ok-name.ensures.reads
 
 pub returns-in_err-name-clause-reads : goal.returns-in_err-name-clause-reads
 returns-in_err-name-clause-reads c =
-    let e = err_from_is_err_and c.from_residual-in_err-name.result c.from_residual-in_err-name.ensures.1 in
-    bad_aggregate c.args.function (spot_of c.args.self.now) (spot_of c.measure.new.self) (spot_of c.alias.new.self) c.in_ok-measure.measure c.from_residual-in_err-name.result _ (e.1 ∙ ap Err e.2) c.in_ok-measure.ensures.reads c.in_err-name.ensures.reads
+    let e = err_from_is_err_and c.from_residual-in_err-name.result
+    c.from_residual-in_err-name.ensures.1 in
+    bad_aggregate c.args.function (spot_of c.args.self.now) (spot_of c.measure.new.self)
+    (spot_of c.alias.new.self) c.in_ok-measure.measure c.from_residual-in_err-name.result _
+    (e.1 ∙ ap Err e.2) c.in_ok-measure.ensures.reads c.in_err-name.ensures.reads

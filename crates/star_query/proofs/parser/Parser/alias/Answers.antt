@@ -6,13 +6,17 @@ use Rattle.star_query.proofs.parser.Parser.alias.Goals as goal
 
 pub returns-then-take-clause-reads : goal.returns-then-take-clause-reads
 returns-then-take-clause-reads c =
-    read_alias (spot_of c.args.self.now) (spot_of c.take.new.self) (spot_of c.name.new.self) c.in_ok-name.name c.if-take.ensures.taken c.in_ok-name.ensures.reads
+    read_alias (spot_of c.args.self.now) (spot_of c.take.new.self) (spot_of c.name.new.self)
+    c.in_ok-name.name c.if-take.ensures.taken c.in_ok-name.ensures.reads
 
 pub returns-in_err-name-clause-reads : goal.returns-in_err-name-clause-reads
 returns-in_err-name-clause-reads c =
     let e = err_from_is_err_and c.from_residual.result c.from_residual.ensures.1 in
-    bad_alias (spot_of c.args.self.now) (spot_of c.take.new.self) (spot_of c.name.new.self) c.from_residual.result _ (e.1 ∙ ap Err e.2) c.if-take.ensures.taken c.in_err-name.ensures.reads
+    bad_alias (spot_of c.args.self.now) (spot_of c.take.new.self) (spot_of c.name.new.self)
+    c.from_residual.result _ (e.1 ∙ ap Err e.2) c.if-take.ensures.taken
+    c.in_err-name.ensures.reads
 
 pub returns-clause-reads : goal.returns-clause-reads
 returns-clause-reads c =
-    read_no_alias (spot_of c.args.self.now) (spot_of c.take.new.self) c.if-take.ensures.other.0 c.if-take.ensures.other.1
+    read_no_alias (spot_of c.args.self.now) (spot_of c.take.new.self) c.if-take.ensures.other.0
+    c.if-take.ensures.other.1

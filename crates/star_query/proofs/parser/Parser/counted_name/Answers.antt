@@ -9,8 +9,12 @@ use Rattle.star_query.proofs.parser.Parser.counted_name.Goals as goal
 pub returns-in_err-count-clause-reads : goal.returns-in_err-count-clause-reads
 returns-in_err-count-clause-reads c =
     let e = err_from_is_err_and c.from_residual.result c.from_residual.ensures.1 in
-    token_not_counted (λ n. ident (name_view n)) (Unit {0}) IsName NoName (λ none. none) c.args.part (spot_of c.args.self.now) (spot_of c.count.new.self) c.from_residual.result _ (e.1 ∙ ap Err e.2) (c.if-not-is_name.ensures.found) c.in_err-count.ensures
+    token_not_counted (λ n. ident (name_view n)) (Unit {0}) IsName NoName (λ none. none) c.args.part
+    (spot_of c.args.self.now) (spot_of c.count.new.self) c.from_residual.result _
+    (e.1 ∙ ap Err e.2) (c.if-not-is_name.ensures.found) c.in_err-count.ensures
 
 pub returns-clause-reads : goal.returns-clause-reads
 returns-clause-reads c =
-    token_counted (λ n. ident (name_view n)) (Unit {0}) IsName NoName no_name_there c.args.part (spot_of c.args.self.now) (spot_of c.count.new.self) (spot_of c.name.new.self) c.name.result (c.if-not-is_name.ensures.found) c.in_ok-count.ensures c.name.ensures.reads
+    token_counted (λ n. ident (name_view n)) (Unit {0}) IsName NoName no_name_there c.args.part
+    (spot_of c.args.self.now) (spot_of c.count.new.self) (spot_of c.name.new.self) c.name.result
+    (c.if-not-is_name.ensures.found) c.in_ok-count.ensures c.name.ensures.reads

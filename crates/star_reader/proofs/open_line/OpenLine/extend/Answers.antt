@@ -20,4 +20,5 @@ pub returns : goal.returns
 returns c = λ kinds bytes wide h.
     let all : length c.args.more.now ≤ c.loop-byte.byte-index =
     omega (arith, c.loop-byte-test.false) in
-    rw (take_all c.loop-byte.byte-index c.args.more.now all) at (c.loop-byte.invariant kinds bytes wide h)
+    rw (take_all c.loop-byte.byte-index c.args.more.now all) at
+    (c.loop-byte.invariant kinds bytes wide h)

@@ -42,7 +42,8 @@ pub returns-in-Ok : goal.returns-in-Ok
 returns-in-Ok c = λ table most parts text h.
     let at = (goal.at.returns-in-Ok c).After-read in
     let before = rw (← c.self.view_is) at h in
-    step_fine (reading_of c.self.inside) _ table most parts (parts) text (text ++ c.args.piece.now) c.read.new.columns
+    step_fine (reading_of c.self.inside) _ table most parts (parts) text (text ++ c.args.piece.now)
+    c.read.new.columns
     (no_fault at) refl refl refl (columns_are at)
     (λ was. c.in-Ok.ensures c.self.inside.table parts text
     (rw c.as_mut_slice-columns.ensures.value was)) before
@@ -51,7 +52,8 @@ pub returns-in-Err : goal.returns-in-Err
 returns-in-Err c = λ table most parts text h.
     let at = (goal.at.returns-in-Err c).After-read in
     let before = rw (← c.self.view_is) at h in
-    step_faulty (reading_of c.self.inside) _ table most parts (parts) text (text ++ c.args.piece.now) c.in-Err.fault
+    step_faulty (reading_of c.self.inside) _ table most parts (parts) text
+    (text ++ c.args.piece.now) c.in-Err.fault
     (no_fault at) refl refl refl
     (λ was. c.in-Err.ensures c.self.inside.table parts text
     (rw c.as_mut_slice-columns.ensures.value was)) before

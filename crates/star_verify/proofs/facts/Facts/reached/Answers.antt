@@ -23,7 +23,9 @@ loop-column-preserved c =
           ∙ ap (λ (items : List Reached). items ++ rest) t.in_ok-push.ensures.items
           ∙ append_assoc so_far (t.with_bounds.result ∷ []) rest
           ∙ ap (λ (x : Reached). so_far ++ x ∷ rest) (t.with_bounds.ensures w facts)
-          ∙ ap (λ items. so_far ++ items) (sym (picked p f COLUMNS c.loop-column.column-index _ c.loop-column-test.true (sym c.has.ensures ∙ t.if-has.true)))
+          ∙ ap (λ items. so_far ++ items)
+          (sym (picked p f COLUMNS c.loop-column.column-index _ c.loop-column-test.true
+          (sym c.has.ensures ∙ t.if-has.true)))
           ∙ c.loop-column.invariant w facts)
       | else-has t ↦
           (λ w facts.
@@ -31,7 +33,9 @@ loop-column-preserved c =
           let f : ColumnId → Reached = with_bounds w in
           let rest = map f (filter p (drop (c.loop-column.column-index + 1) COLUMNS)) in
           ap (λ columns. columns.items ++ rest) t.columns-is
-          ∙ ap (λ items. c.loop-column.columns.items ++ items) (sym (left_out p f COLUMNS c.loop-column.column-index _ c.loop-column-test.true (sym c.has.ensures ∙ t.if-has.false)))
+          ∙ ap (λ items. c.loop-column.columns.items ++ items)
+          (sym (left_out p f COLUMNS c.loop-column.column-index _ c.loop-column-test.true
+          (sym c.has.ensures ∙ t.if-has.false)))
           ∙ c.loop-column.invariant w facts)
     ]
 
@@ -42,5 +46,6 @@ returns c = λ w facts.
     let f : ColumnId → Reached = with_bounds w in
     c.from_vec.ensures
     ∙ sym (append-nil c.loop-column.columns.items)
-    ∙ sym (ap (λ items. c.loop-column.columns.items ++ map f (filter p items)) (drop_all c.loop-column.column-index COLUMNS c.loop-column-test.false))
+    ∙ sym (ap (λ items. c.loop-column.columns.items ++ map f (filter p items))
+    (drop_all c.loop-column.column-index COLUMNS c.loop-column-test.false))
     ∙ c.loop-column.invariant w facts

@@ -6,4 +6,5 @@ use Rattle.star_verify.proofs.rows.Front.shown.Goals as goal
 pub returns-clause-lists : goal.returns-clause-lists
 returns-clause-lists c = λ lists agree.
     subst (λ n. AgreeUpTo (n * c.args.values) (lists * c.args.values))
-    (sym (c.lesser.ensures ∙ ap (lesser c.args.self.lists) c.from.ensures)) (agree_times c.args.self.lists lists c.args.values agree)
+    (sym (c.lesser.ensures ∙ ap (lesser c.args.self.lists) c.from.ensures))
+    (agree_times c.args.self.lists lists c.args.values agree)

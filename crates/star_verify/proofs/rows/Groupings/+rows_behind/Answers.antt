@@ -6,7 +6,7 @@ use Rattle.star_safety.specs.MostRows.{each_values, possible_values}
 use Rattle.star_verify.specs.Private.Made.{IsTallyAt}
 use Rattle.star_verify.specs.Private.Views.{IsTally}
 use Rattle.star_verify.specs.Private.Rows as spec
-use Rattle.star_verify.specs.Private.Rows.{AgreeUpTo, MayHide, groupings, may_show, may_hide}
+use Rattle.star_verify.specs.Private.Rows.{AgreeUpTo, groupings}
 use Rattle.star_verify.proofs.Firsts.{first_and_others}
 use Rattle.star_verify.proofs.RowLemmas.{groupings_few, groupings_more, groupings_some, one_more}
 use Rattle.star_verify.proofs.rows.Groupings.+rows_behind.Goals as goal
@@ -44,21 +44,31 @@ rows_behind-returns-clause-rows t c = λ shares place lists tallied agree.
     let first = tallied 0 (omega (arith, c.in-len1-up.len_at_least)) in
     let tallies = c.args.self.now.tallies.now in
     let here : IsTallyAt tallies c.args.first (shares place) =
-    subst (λ p. IsTallyAt tallies c.args.first (shares p)) (let z : place + 0 ≡ place = omega arith in z)
-    (subst (λ p. IsTallyAt tallies p (shares (place + 0))) (let z : c.args.first + 0 ≡ c.args.first = omega arith in z) first) in
-    let is_tally = subst (λ tally. IsTally tally (shares place)) (c.tally_at.ensures c.tally_at.result) (here c.tally_at.result) in
-    let value : v ≡ possible_values w (shares place) (get_or keys 0 Number) = c.values.ensures.values (shares place) is_tally in
-    let later : (k : ℕ) → k < length others → IsTallyAt tallies (c.args.first + 1 + k) (shares (suc place + k)) =
-    λ k lt. subst (λ p. IsTallyAt tallies (c.args.first + 1 + k) (shares p)) (let z : place + suc k ≡ suc place + k = omega arith in z)
-    (subst (λ p. IsTallyAt tallies p (shares (place + suc k))) (let z : c.args.first + suc k ≡ c.args.first + 1 + k = omega arith in z)
+    subst (λ p. IsTallyAt tallies c.args.first (shares p))
+    (let z : place + 0 ≡ place = omega arith in z)
+    (subst (λ p. IsTallyAt tallies p (shares (place + 0)))
+    (let z : c.args.first + 0 ≡ c.args.first = omega arith in z) first) in
+    let is_tally = subst (λ tally. IsTally tally (shares place))
+    (c.tally_at.ensures c.tally_at.result) (here c.tally_at.result) in
+    let value : v ≡ possible_values w (shares place) (get_or keys 0 Number) =
+    c.values.ensures.values (shares place) is_tally in
+    let later : (k : ℕ) → k < length others
+    → IsTallyAt tallies (c.args.first + 1 + k) (shares (suc place + k)) =
+    λ k lt. subst (λ p. IsTallyAt tallies (c.args.first + 1 + k) (shares p))
+    (let z : place + suc k ≡ suc place + k = omega arith in z)
+    (subst (λ p. IsTallyAt tallies p (shares (place + suc k)))
+    (let z : c.args.first + suc k ≡ c.args.first + 1 + k = omega arith in z)
     (tallied (suc k) (omega (arith, lt, ap length e)))) in
-    let shown = c.rows_if-with_it.ensures.rows shares (suc place) (lists * v) later (c.shown-shown.ensures.lists lists agree)
+    let shown = c.rows_if-with_it.ensures.rows shares (suc place) (lists * v) later
+    (c.shown-shown.ensures.lists lists agree)
     ∙ (λ i. if c.may_show-may_show.ensures i
-    then spec.rows_behind u s (c.shown-shown.ensures.shown i) (c.shown-shown.ensures.hidden i) (lists * v) rest else 0) in
+    then spec.rows_behind u s (c.shown-shown.ensures.shown i) (c.shown-shown.ensures.hidden i)
+    (lists * v) rest else 0) in
     let hidden = c.rows_if.ensures.rows shares (suc place) lists later
     (subst (λ f. AgreeUpTo f.lists lists) (sym c.hidden.ensures) agree)
     ∙ (λ i. if c.may_hide-may_hide.ensures i
-    then spec.rows_behind u s (c.hidden.ensures i).has_shown (c.hidden.ensures i).has_hidden lists rest else 0) in
+    then spec.rows_behind u s (c.hidden.ensures i).has_shown (c.hidden.ensures i).has_hidden lists
+    rest else 0) in
     (λ i. shown i + hidden i)
     ∙ sym (one_more u s front.has_shown front.has_hidden lists v rest c.requires.hides)
     ∙ ap (spec.rows_behind u s front.has_shown front.has_hidden lists)
@@ -68,6 +78,7 @@ pub rows_if-returns-then-may_be-clause-rows : goal.rows_if-returns-then-may_be-c
 rows_if-returns-then-may_be-clause-rows t c = λ shares place lists tallied agree.
     let u = c.args.self.now.updates in
     let rest = each_values (world_of c.args.self.now.catalogue.now) shares place c.args.keys.now in
-    let rows = spec.rows_behind u c.args.self.now.shape c.args.front.has_shown c.args.front.has_hidden lists rest in
+    let rows = spec.rows_behind u c.args.self.now.shape c.args.front.has_shown
+    c.args.front.has_hidden lists rest in
     c.rows_behind.ensures.rows shares place lists tallied agree
     ∙ ap (λ b. if b then rows else 0) (sym c.if-may_be.true)

@@ -9,7 +9,8 @@ use Rattle.star_group.proofs.deferred.store.DeferredStoreGroupStore.into_rows.Go
 pub rows_of_base-requires-clause-room : goal.rows_of_base-requires-clause-room
 rows_of_base-requires-clause-room c =
     let s = c.args.self in
-    subst (λ hs. HasBaseWithRoom (group_with s.shape s.count hs) (entries_of s.rows) s.total) (sym c.as_slice-aggregates.ensures.value) s.room
+    subst (λ hs. HasBaseWithRoom (group_with s.shape s.key_count hs) (entries_of s.rows) s.total)
+    (sym c.as_slice-aggregates.ensures.value) s.room
 
 pub returns : goal.returns
 returns c =
@@ -17,6 +18,7 @@ returns c =
     let same = c.as_slice-aggregates.ensures.value in
     if_ok _ _ c.rows_of_base.result
     (λ rows are puts has.
-    subst (λ hs. AreRows (group_with s.shape s.count hs) puts rows) same
-    (are puts (subst (λ hs. IsBase (group_with s.shape s.count hs) (entries_of s.rows) s.total puts) (sym same) has)))
+    subst (λ hs. AreRows (group_with s.shape s.key_count hs) puts rows) same
+    (are puts (subst (λ hs. IsBase (group_with s.shape s.key_count hs) (entries_of s.rows) s.total
+    puts) (sym same) has)))
     c.rows_of_base.ensures

@@ -3,7 +3,8 @@ use Rattle.star_group.proofs.Totals.{nothing_none}
 use Rattle.star_group.proofs.deferred.store.DeferredStoreGroupStore.new.Goals as goal
 
 pub invariant_of-result-clause-room : goal.invariant_of-result-clause-room
-invariant_of-result-clause-room c = new_room _ _ _ c.in_ok-rows.ensures.empty (nothing_none _ c.new-3.ensures)
+invariant_of-result-clause-room c =
+    new_room _ _ _ c.in_ok-rows.ensures.empty (nothing_none _ c.new-3.ensures)
 
 pub returns-clause-empty : goal.returns-clause-empty
 returns-clause-empty c = no_base _ _ _ c.in_ok-rows.ensures.empty (nothing_none _ c.new-3.ensures)

@@ -13,6 +13,9 @@ pub returns : goal.returns
 returns c =
     let s = c.args.self in
     if_ok _ _ c.rows_given.result
-    (λ rows is puts has. subst (λ xs. AreRows (group_view s) puts xs) (sym (is ∙ (λ i. rows_given s.shape s.count (c.as_slice-aggregates.ensures.value i) s.total (shown_entries (c.into_listed-rows.ensures.rows i)))))
-    (are_rows (group_view s) puts (entries_of s.rows) s.total (omega (arith, s.wide, s.rows.trie.few)) (rows_once s.rows) has))
+    (λ rows is puts has. subst (λ xs. AreRows (group_view s) puts xs)
+    (sym (is ∙ (λ i. rows_given s.shape s.key_count (c.as_slice-aggregates.ensures.value i)
+    s.total (shown_entries (c.into_listed-rows.ensures.rows i)))))
+    (are_rows (group_view s) puts (entries_of s.rows) s.total
+    (omega (arith, s.wide, s.rows.trie.few)) (rows_once s.rows) has))
     c.rows_given.ensures

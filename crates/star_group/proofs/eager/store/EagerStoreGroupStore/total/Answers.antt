@@ -12,5 +12,7 @@ pub returns : goal.returns
 returns c = λ us has.
     let s = c.args.self.now in
     c.shown.ensures ∙ ap (shown _) c.get.ensures
-    ∙ ap (λ g. shown g (get_or s.total c.args.aggregate None)) (c.index.ensures ∙ get_or_default _ _ _ Count c.requires)
-    ∙ total_shown (group_view s) (row_found (entries_of s.rows)) s.total us c.args.aggregate has c.requires
+    ∙ ap (λ g. shown g (get_or s.total c.args.aggregate None))
+    (c.index.ensures ∙ get_or_default _ _ _ Count c.requires)
+    ∙ total_shown (group_view s) (row_found (entries_of s.rows)) s.total us c.args.aggregate has
+    c.requires

@@ -5,13 +5,21 @@ use Rattle.star_group.proofs.Contents.{put_holds, put_leaves, put_stays}
 use Rattle.star_group.proofs.eager.store.EagerStoreTryPut.try_put.Goals as goal
 
 pub returns-clause-has : goal.returns-clause-has
-returns-clause-has c = put_holds c.args.self.now (record { keys = c.args.keys.now; values = c.args.values.now }) _ _
-    c.as_slice-aggregates.ensures.value c.row_of_put-more.ensures c.requires.keys (with_total c.put_all.new.total (row_found (entries_of c.put_all.new.rows))) c.put_all.result c.put_all.ensures.ok
+returns-clause-has c = put_holds c.args.self.now
+    (record { keys = c.args.keys.now; values = c.args.values.now }) _ _
+    c.as_slice-aggregates.ensures.value c.row_of_put-more.ensures c.requires.keys
+    (with_total c.put_all.new.total (row_found (entries_of c.put_all.new.rows)))
+    c.put_all.result c.put_all.ensures.ok
 
 pub returns-clause-stays : goal.returns-clause-stays
-returns-clause-stays c = put_stays c.args.self.now (record { keys = c.args.keys.now; values = c.args.values.now }) _ _
-    c.as_slice-aggregates.ensures.value c.row_of_put-more.ensures c.requires.keys (with_total c.put_all.new.total (row_found (entries_of c.put_all.new.rows))) c.put_all.result c.put_all.ensures.ok
+returns-clause-stays c =
+    put_stays c.args.self.now (record { keys = c.args.keys.now; values = c.args.values.now }) _ _
+    c.as_slice-aggregates.ensures.value c.row_of_put-more.ensures c.requires.keys
+    (with_total c.put_all.new.total (row_found (entries_of c.put_all.new.rows)))
+    c.put_all.result c.put_all.ensures.ok
 
 pub returns-clause-overflow : goal.returns-clause-overflow
-returns-clause-overflow c = put_leaves c.args.self.now (record { keys = c.args.keys.now; values = c.args.values.now }) _ _
-    c.as_slice-aggregates.ensures.value c.row_of_put-more.ensures c.requires.keys _ c.put_all.result c.put_all.ensures.overflow
+returns-clause-overflow c =
+    put_leaves c.args.self.now (record { keys = c.args.keys.now; values = c.args.values.now }) _ _
+    c.as_slice-aggregates.ensures.value c.row_of_put-more.ensures c.requires.keys _ c.put_all.result
+    c.put_all.ensures.overflow

@@ -1,0 +1,100 @@
+use Rattle.std.proofs.Common.{◌≡◌, ◌≤◌, ◌<◌, ◌^◌, ◌-◌, ◌++◌, ◌∷◌, [], Result, Ok, Err, sym, ap, ◌∙◌, subst, length, arith}
+use Rattle.std.specs.Int.RustNames.{unsigned_abs}
+use Rattle.std.specs.List.{All}
+use Rattle.std.proofs.lemmas.List.{length-map, length_push}
+use Rattle.std.proofs.lemmas.List.Elements.{All-push}
+use Rattle.star_flat.specs.Private.Ends.{ends_of}
+use Rattle.star_flat.specs.Repeated.{places_in}
+use Rattle.std.specs.Result.{OnErr}
+use Rattle.star_flat.proofs.EndsLemmas.{end_pushed, from_upto, same_ends}
+use Rattle.star_flat.proofs.ends.Ends.push.Goals as goal
+use Rattle.star_flat.proofs.ends.Ends.push.Goals.{After-start_for}
+
+OnErr-any : {X E P : Type 0} (r : Result X E) → P → OnErr r P
+OnErr-any (Ok x) p = tt
+OnErr-any (Err e) p = p
+
+counted : (c : After-start_for) → c.len-count.result ≡ length (places_in c.self.inside.offsets)
+counted c = c.len-count.ensures ∙ sym (length-map c.self.inside.offsets unsigned_abs)
+
+-- the ends that there were stay
+stay : (c : After-start_for)
+    → ends_of c.start_for.new.starts.items (places_in c.self.inside.offsets)
+    ≡ ends_of c.self.inside.starts.items (places_in c.self.inside.offsets)
+stay c = same_ends c.start_for.new.starts.items c.self.inside.starts.items
+    (places_in c.self.inside.offsets)
+    (λ place h. c.start_for.ensures.same place (omega (arith, h, counted c)))
+
+pub invariant_of-self : goal.invariant_of-self
+invariant_of-self c =
+    let at = (goal.at.invariant_of-self c).After-start_for in (
+      omega (arith, c.start_for.ensures.room, c.len-count.ensures),
+      subst (All (λ e. e < 2 ^ 64)) (sym (stay at)) c.self.invariant.1,
+    )
+
+pub returns-in_err-from-clause-err : goal.returns-in_err-from-clause-err
+returns-in_err-from-clause-err c =
+    OnErr-any c.from_residual.result
+    (stay (goal.at.returns-in_err-from-clause-err c).After-start_for ∙ c.self.view_is)
+
+pub overflow_sub-end : goal.overflow_sub-end
+overflow_sub-end c =
+    from_upto c.self.inside.starts.items (places_in c.self.inside.offsets) c.args.start
+    c.in_ok-from.from c.args.end c.requires.start
+    (subst (All (λ e. e ≤ c.args.end)) (sym c.self.view_is) c.requires.after)
+    (rw (counted (goal.at.overflow_sub-end c).After-start_for) at c.in_ok-from.ensures.kept)
+
+pub invariant_of-self-in_err-push_place : goal.invariant_of-self-in_err-push_place
+invariant_of-self-in_err-push_place c =
+    let at = (goal.at.invariant_of-self-in_err-push_place c).After-start_for in
+    rw c.in_err-push_place.ensures.err (
+      omega (arith, c.start_for.ensures.room, c.len-count.ensures),
+      subst (All (λ e. e < 2 ^ 64)) (sym (stay at)) c.self.invariant.1,
+    )
+
+pub returns-in_err-push_place-clause-err : goal.returns-in_err-push_place-clause-err
+returns-in_err-push_place-clause-err c =
+    OnErr-any c.from_residual-in_err-push_place.result
+    (ap (λ rows. ends_of c.start_for.new.starts.items (places_in rows))
+    c.in_err-push_place.ensures.err
+    ∙ stay (goal.at.returns-in_err-push_place-clause-err c).After-start_for ∙ c.self.view_is)
+
+-- the ends that there are now
+now : (c : goal.In_ok-push_place)
+    → ends_of c.start_for.new.starts.items (places_in c.push_place.new.rows)
+    ≡ ends_of c.self.inside.starts.items (places_in c.self.inside.offsets) ++ c.args.end ∷ []
+now c =
+    let offsets = places_in c.self.inside.offsets in
+    let olds = c.self.inside.starts.items in
+    let news = c.start_for.new.starts.items in
+    let many : c.len-count.result ≡ length offsets =
+    c.len-count.ensures ∙ sym (length-map c.self.inside.offsets unsigned_abs) in
+    let upto : c.in_ok-from.from ≤ c.args.end =
+    from_upto olds offsets c.args.start c.in_ok-from.from c.args.end c.requires.start
+    (subst (All (λ e. e ≤ c.args.end)) (sym c.self.view_is) c.requires.after)
+    (rw many at c.in_ok-from.ensures.kept) in
+    ap (ends_of news) c.in_ok-push_place.ensures.ok
+    ∙ end_pushed olds news offsets c.in_ok-from.from c.args.end
+    (λ place h. c.start_for.ensures.same place (omega (arith, h, many)))
+    (rw many at c.in_ok-from.ensures.from) upto
+
+pub returns-clause-ok : goal.returns-clause-ok
+returns-clause-ok c = now c ∙ ap (λ es. es ++ c.args.end ∷ []) c.self.view_is
+
+pub invariant_of-self-2 : goal.invariant_of-self-2
+invariant_of-self-2 c =
+    let offsets = places_in c.self.inside.offsets in
+    let more = ap length c.in_ok-push_place.ensures.ok
+    ∙ length_push offsets (c.args.end - c.in_ok-from.from) in (
+      omega (
+        arith,
+        more,
+        c.in_ok-from.ensures.more,
+        c.len-count.ensures,
+        length-map c.self.inside.offsets unsigned_abs,
+        length-map c.push_place.new.rows unsigned_abs,
+      ),
+      subst (All (λ e. e < 2 ^ 64)) (sym (now c))
+          (All-push (λ e. e < 2 ^ 64) (ends_of c.self.inside.starts.items offsets) c.args.end
+          c.self.invariant.1 c.ranges.end.fits),
+    )

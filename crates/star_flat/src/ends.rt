@@ -1,0 +1,139 @@
+// Where texts end that lie one after another.
+
+ghost use Rattle.std.specs.Prelude.{◌≡◌, ◌<◌, ◌≤◌, ◌+◌, ◌-◌, ◌*◌, ◌/◌, ◌^◌, ◌++◌, ◌∷◌, ◌⊎◌, [], ℕ, All, IfOk, OnErr, OnOk, Some, length, slice_get, slice_index, take};
+
+use crate::numbers::{FlatNumbers, place_at, push_place, two_places};
+use crate::pages::release;
+use std::alloc::{AllocError, Global};
+use std::marker::Model;
+
+/// How many texts are counted from one start.
+const BLOCK: usize = 16;
+
+/// Where texts end, which a contract sees as the list of their ends.
+///
+/// Of each 16 texts it is kept where the first begins, and for each how far after that it ends. So
+/// where texts are short, an end takes a byte and a half.
+#[derive(Drop)]
+pub(crate) struct Ends {
+    starts: Vec<usize>,
+    offsets: FlatNumbers,
+}
+
+impl Model for Ends {
+    ghost use Rattle.std.specs.Prelude.{List, ℕ, All, ◌<◌, ◌≤◌, ◌*◌, ◌^◌, length};
+    ghost use Rattle.star_flat.specs.Private.Ends.{ends_of};
+    ghost use Rattle.star_flat.specs.Repeated.{places_in};
+
+    ghost Value = { List ℕ };
+
+    ghost view = { λ ends. ends_of ends.starts.items (places_in ends.offsets) };
+
+    ghost invariant = { λ ends. (length ends.offsets ≤ length ends.starts.items * 16)
+        × All (λ e. e < 2 ^ 64) (ends_of ends.starts.items (places_in ends.offsets)) };
+}
+
+/// The end at a place, which lies `offset` bytes after the start of its block.
+#[inline(always)]
+fn end_at(starts: &[usize], place: usize, offset: usize) -> usize
+    requires within { place < length starts.now * 16 }
+    requires fits { slice_index starts.now (place / 16) + offset < 2 ^ 64 }
+    ensures { result ≡ slice_index starts.now (place / 16) + offset }
+{
+    starts[place / BLOCK] + offset
+}
+
+/// Puts the start of a block after the first `block` others. No more of them stay.
+fn begin(starts: &mut Vec<usize>, block: usize, start: usize) -> Result<(), AllocError>
+    ensures ok { OnOk result (starts.new.items ≡ take block starts.old.items ++ start ∷ []) }
+    ensures err { OnErr result (starts.new.items ≡ take block starts.old.items) }
+{
+    starts.truncate(block);
+    starts.push(start)?;
+    Ok(())
+}
+
+/// From where the end after `count` others is counted: from the start of its own text where that
+/// begins a block.
+fn start_for(starts: &mut Vec<usize>, count: usize, start: usize) -> Result<usize, AllocError>
+    requires { count ≤ length starts.old.items * 16 }
+    ensures same { (place : ℕ) → place < count
+        → slice_index starts.new.items (place / 16) ≡ slice_index starts.old.items (place / 16) }
+    ensures room { count ≤ length starts.new.items * 16 }
+    ensures more { IfOk result (λ from. count < length starts.new.items * 16) }
+    ensures from { IfOk result (λ from. slice_index starts.new.items (count / 16) ≡ from) }
+    ensures kept { IfOk result (λ from. (from ≡ start)
+        ⊎ ((0 < count) × (slice_index starts.old.items ((count - 1) / 16) ≡ from))) }
+{
+    if count % BLOCK == 0 {
+        begin(starts, count / BLOCK, start)?;
+        Ok(start)
+    } else {
+        Ok(starts[count / BLOCK])
+    }
+}
+
+impl Ends {
+    /// No ends. Takes no memory.
+    pub(crate) fn new(alloc: Global) -> Ends
+        ensures { result ≡ [] }
+    {
+        Ends {
+            starts: Vec::new(alloc),
+            offsets: FlatNumbers::new(alloc),
+        }
+    }
+
+    /// How many ends there are.
+    pub(crate) fn len(&self) -> usize
+        ensures { result ≡ length self.now }
+    {
+        self.offsets.len()
+    }
+
+    /// The end at a place, from 0.
+    pub(crate) fn get(&self, place: usize) -> usize
+        requires { place < length self.now }
+        ensures { slice_get self.now place ≡ Some result }
+    {
+        end_at(
+            self.starts.as_slice(),
+            place,
+            place_at(&self.offsets, place),
+        )
+    }
+
+    /// The end before the one at a place, which isn't the first, and the one there.
+    #[inline(always)]
+    pub(crate) fn bounds_at(&self, place: usize) -> (usize, usize)
+        requires later { 0 < place }
+        requires within { place < length self.now }
+        ensures start { slice_get self.now (place - 1) ≡ Some result.0 }
+        ensures end { slice_get self.now place ≡ Some result.1 }
+    {
+        let (before, here) = two_places(&self.offsets, place - 1);
+        let start = end_at(self.starts.as_slice(), place - 1, before);
+        let end = end_at(self.starts.as_slice(), place, here);
+        (start, end)
+    }
+
+    /// Puts the end of a text that begins at `start` after the others, which are not greater, or
+    /// changes nothing where memory is refused.
+    pub(crate) fn push(&mut self, start: usize, end: usize) -> Result<(), AllocError>
+        requires start { start ≤ end }
+        requires after { All (λ e. e ≤ end) self.old }
+        ensures ok { OnOk result (self.new ≡ self.old ++ end ∷ []) }
+        ensures err { OnErr result (self.new ≡ self.old) }
+    {
+        let count = self.offsets.len();
+        let from = start_for(&mut self.starts, count, start)?;
+        push_place(&mut self.offsets, end - from)?;
+        Ok(())
+    }
+
+    /// Lets the ends go, as `release` does.
+    pub(crate) fn release(self) {
+        release(self.starts);
+        self.offsets.release();
+    }
+}

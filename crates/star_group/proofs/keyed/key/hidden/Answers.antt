@@ -1,7 +1,0 @@
-use Rattle.std.proofs.lemmas.List.{map-set}
-use Rattle.star_group.specs.Base.{key_value_view}
-use Rattle.star_group.specs.declared.keyed.key.KeyPart.TheVariants.{All}
-use Rattle.star_group.proofs.keyed.key.hidden.Goals as goal
-
-pub returns-clause-key : goal.returns-clause-key
-returns-clause-key c = map-set key_value_view c.args.parts.now c.args.place All

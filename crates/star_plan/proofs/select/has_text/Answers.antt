@@ -1,9 +1,0 @@
-use Rattle.std.proofs.Common.{◌∙◌, nat_eq}
-use Rattle.std.specs.Cmp.Lexicographic.{pointwise}
-use Rattle.star_plan.specs.Naming.{has_text}
-use Rattle.star_plan.proofs.Viewed.{any_viewed}
-use Rattle.star_plan.proofs.select.has_text.Goals as goal
-
-pub returns : goal.returns
-unfolding has_text
-returns c = c.is_among.ensures ∙ any_viewed (λ t. t.items) (λ t. pointwise nat_eq t c.args.text.now) c.args.texts.now

@@ -1,0 +1,20 @@
+-- Of what is known only a range is of a number's kind.
+use Rattle.std.specs.Option.{option_map}
+use Rattle.std.proofs.Common.{◌≡◌, false, true, Option, Some, None, refl}
+use Rattle.star_schema.specs.declared.column.ColumnId.{ColumnId}
+use Rattle.star_interval.specs.Range.{Range}
+use Rattle.star_program.specs.Faults.{is_number_kind}
+use Rattle.star_program.specs.Reads.{IsTaken}
+use Rattle.star_safety.specs.Ranges.{Known, KnownFlag, KnownNumber, KnownPlace, KnownRow, KnownText, Reach, known_kind}
+use Rattle.star_safety.proofs.law.numbers_have_ranges.Goals as goal
+
+ranged : (known : Option Known) → IsTaken is_number_kind (option_map known_kind known) → (range : Range) × (reach : Reach) × (origin : Option ColumnId) × (known ≡ Some (KnownNumber range reach origin))
+ranged None h = absurd h
+ranged (Some (KnownNumber range reach origin)) h = (range, reach, origin, refl)
+ranged (Some (KnownText c)) h = let bad : ⊥ = cc in absurd bad
+ranged (Some (KnownPlace c)) h = let bad : ⊥ = cc in absurd bad
+ranged (Some (KnownRow t)) h = let bad : ⊥ = cc in absurd bad
+ranged (Some KnownFlag) h = let bad : ⊥ = cc in absurd bad
+
+pub returns : goal.returns
+returns c = ranged
