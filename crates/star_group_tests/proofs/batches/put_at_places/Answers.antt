@@ -26,7 +26,7 @@ returns-clause-few g c =
     let few = c.requires.few in
     let b = c.args.batch.now in
     let are : ArePutsAt (g.S.GroupStore.has_place c.args.store.now) b c.find_places.new.at
-        (put_in b) =
+    (put_in b) =
     record {
       keys = c.find_places.ensures.places c.if-not-find_places.false;
       values = λ row h. refl;

@@ -16,8 +16,7 @@ put-requires-clause-room g c = (
 pub put-requires-2-clause-room : goal.put-requires-2-clause-room
 put-requires-2-clause-room g c =
     let u : Update = record { keys = Number (pos 1) ∷ Number (pos 2) ∷ []; values = pos 7 ∷ [] } in
-    let v : Update = record { keys = Number (pos 1) ∷ Number (pos 1) ∷ []; values = pos 5 ∷ [] } in
-        (
+    let v : Update = record { keys = Number (pos 1) ∷ Number (pos 1) ∷ []; values = pos 5 ∷ [] } in (
       u ∷ [],
       c.in_ok-put.ensures.ok [] c.in_ok-store.ensures.empty,
       two_room (g.S.GroupStore.group c.put.new.self) v u
