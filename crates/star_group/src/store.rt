@@ -66,7 +66,8 @@ pub trait GroupStore: Drop {
     // The condition is asked row by row: that there is room for all rows together gives no room for
     // the first, since positive sums may be greater before negative numbers come.
     /// The puts of some rows, one after another in order. Its condition is that of each of these
-    /// puts. Where memory is refused the content is that with the puts of the first rows.
+    /// puts. Where memory is refused the content is that with the puts of the first rows, of fewer than
+    /// all.
     fn put_batch(&mut self, batch: &PutBatch<'_>) -> Result<(), AllocError>
         requires declared { group_declared batch.now.declared.now ≡ group self.old }
         requires batch { IsPutBatch batch.now }
@@ -75,7 +76,8 @@ pub trait GroupStore: Drop {
         ensures ok { OnOk result ((puts : List Update) → has self.old puts
             → has self.new (puts_after (put_in batch.now) puts batch.now.rows)) }
         ensures refused { OnErr result ((puts : List Update) → has self.old puts
-            → (rows : ℕ) × has self.new (puts_after (put_in batch.now) puts rows)) }
+            → (rows : ℕ) × (rows < batch.now.rows)
+            × has self.new (puts_after (put_in batch.now) puts rows)) }
         ensures group { group self.new ≡ group self.old }
     {
         for row in 0..batch.rows {

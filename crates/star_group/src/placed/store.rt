@@ -1,6 +1,6 @@
 // A placed store is a store of groups.
 
-ghost use Rattle.std.specs.Prelude.{◌≡◌, ◌≤◌, ℕ, List, [], IfOk, OnErr, OnOk, length};
+ghost use Rattle.std.specs.Prelude.{◌≡◌, ◌≤◌, ◌<◌, ℕ, List, [], IfOk, OnErr, OnOk, length};
 ghost use Rattle.star_group.specs.Batches.{HasNumbers, HasRoomForRows, IsPutBatch, puts_after, put_in};
 ghost use Rattle.star_group.specs.Placed.{group_view, Has, HasPlace};
 ghost use Rattle.star_group.specs.Private.PlacedPut.{AreAtPlaces};
@@ -58,7 +58,8 @@ impl PlacedStore {
         ensures ok { OnOk result ((puts : List Update) → Has self.old puts
             → Has self.new (puts_after (put_in batch.now) puts batch.now.rows)) }
         ensures refused { OnErr result ((puts : List Update) → Has self.old puts
-            → (rows : ℕ) × Has self.new (puts_after (put_in batch.now) puts rows)) }
+            → (rows : ℕ) × (rows < batch.now.rows)
+            × Has self.new (puts_after (put_in batch.now) puts rows)) }
         ensures group { group_view self.new ≡ group_view self.old }
     {
         for row in 0..batch.rows {

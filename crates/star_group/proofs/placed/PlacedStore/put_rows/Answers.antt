@@ -55,6 +55,7 @@ returns-in_err-put-clause-refused c =
     err_any c.from_residual.result
     (λ puts has. (
       c.loop-row.row,
+      c.loop-row-test.true,
       c.in_err-put.ensures.refused (puts_after (put_in c.args.batch.now) puts c.loop-row.row)
           (c.loop-row.invariant.has puts has),
     ))

@@ -1,6 +1,7 @@
 use Rattle.std.proofs.Common.{◌≡◌, ◌≤◌, ◌∷◌, ◌∙◌, ap, arith, length, rules, subst, sym, take}
 use Rattle.star_group.specs.Batches.{puts_after, put_in}
 use Rattle.star_group.specs.Stores.{HasRoom}
+use Rattle.star_group.proofs.PlacedPuts.{err_any}
 use Rattle.star_group.proofs.store.GroupStore.put_batch.Goals as goal
 
 pub put-requires-clause-keys : goal.put-requires-clause-keys
@@ -47,3 +48,13 @@ put-requires-clause-room g c =
           (subst (λ u. HasRoom (g.Self.GroupStore.group c.args.self.now)
           (u ∷ puts_after (put_in b) room.0 row)) same (room.2 row c.loop-row-test.true)),
     )
+
+pub returns-in_err-put-clause-refused : goal.returns-in_err-put-clause-refused
+returns-in_err-put-clause-refused g c =
+    err_any c.from_residual.result
+    (λ puts has. (
+      c.loop-row.row,
+      c.loop-row-test.true,
+      c.in_err-put.ensures.refused (puts_after (put_in c.args.batch.now) puts c.loop-row.row)
+          (c.loop-row.invariant.has puts has),
+    ))
