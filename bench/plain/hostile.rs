@@ -6,6 +6,8 @@
 // - `texts`: customers have sparse random keys and seven texts of 4 random letters.
 // - `alike`: the same, where the random letters come behind 8 that all texts share.
 // - `shared`: customers are numbered from 1, and the random letters come behind 12 that all texts share.
+// - `letters`: customers are numbered from 1, and have seven texts of 4 random letters.
+// - `short`: the same with texts of 3 of 90 characters, which some 700,000 are.
 // - `forgotten`: customers have seven of 2,000 texts that are told apart in their middle letters alone.
 // - `unseeded`: keys of customers that collide under the hash of the index of keys, SipHash-1-3, as it is
 //   without the seed that each index has of its own.
@@ -47,6 +49,11 @@ impl Numbers {
 
     fn letters(&mut self, count: usize) -> String {
         (0..count).map(|_| char::from(LETTERS[self.below(LETTERS.len())])).collect()
+    }
+
+    /// A text of three of the 90 characters from '!' that are no bar.
+    fn short(&mut self) -> String {
+        (0..3).map(|_| char::from(b'!' + self.below(90) as u8)).collect()
     }
 
     fn one_of<'a>(&mut self, words: &[&'a str]) -> &'a str {
@@ -181,7 +188,8 @@ fn seven(mut text: impl FnMut() -> String) -> String {
 }
 
 /// The kinds of folders.
-const KINDS: [&str; 8] = ["ordinary", "keys", "pairs", "texts", "alike", "shared", "forgotten", "unseeded"];
+const KINDS: [&str; 10] =
+    ["ordinary", "keys", "pairs", "texts", "alike", "shared", "letters", "short", "forgotten", "unseeded"];
 
 fn write(folder: &Path, kind: &str, bytes: usize) -> Result<()> {
     let mut made = Folder::new(folder.join(kind), bytes)?;
@@ -201,6 +209,8 @@ fn write(folder: &Path, kind: &str, bytes: usize) -> Result<()> {
         "texts" => made.customers(|_| format!("{}|{}", numbers.sparse(), seven(|| numbers.letters(4)))),
         "alike" => made.customers(|_| format!("{}|{}", numbers.sparse(), seven(|| format!("ALLALIKE{}", numbers.letters(4))))),
         "shared" => made.customers(|place| format!("{}|{}", place + 1, seven(|| format!("ALLSHARETHIS{}", numbers.letters(4))))),
+        "letters" => made.customers(|place| format!("{}|{}", place + 1, seven(|| numbers.letters(4)))),
+        "short" => made.customers(|place| format!("{}|{}", place + 1, seven(|| numbers.short()))),
         "forgotten" => made.customers(|place| {
             format!("{}|{}", place + 1, seven(|| format!("a{}{}z", char::from(LETTERS[numbers.below(50)]), char::from(LETTERS[numbers.below(40)]))))
         }),

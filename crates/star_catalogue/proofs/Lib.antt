@@ -12,3 +12,4 @@ pub mod ReferredRows
 pub mod Loading
 pub mod SmallNumbers
 mod WorkedBounds
+mod WorkedTexts

@@ -168,17 +168,16 @@ module _ (texts : List (List ℕ)) (ordered : List Numbered)
         text_here some
         same)
 
-    pub put_new : (old new : List (List ℕ)) (text : List ℕ)
+    pub put_new : (old new : List (List ℕ))
         → old ≡ different (take place (numbered_texts texts ordered))
         → ((0 < place)
         × (slice_get (numbered_texts texts ordered) (place - 1)
         ≡ slice_get (numbered_texts texts ordered) place)
         → ⊥)
-        → slice_get texts here.number ≡ Some text → new ≡ old ++ text ∷ []
+        → new ≡ old ++ text_at texts here ∷ []
         → new ≡ different (take (place + 1) (numbered_texts texts ordered))
-    put_new old new text is other known pushed =
-        let same : text_at texts here ≡ text = some_same (sym text_known ∙ known) in
-        pushed ∙ (λ i. is i ++ sym same i ∷ [])
+    put_new old new is other pushed =
+        pushed ∙ (λ i. is i ++ text_at texts here ∷ [])
         ∙ sym (different_new (numbered_texts texts ordered) place (text_at texts here) text_here
         other)
 

@@ -7,3 +7,4 @@ pub mod InOrder
 pub mod Keys
 pub mod Pushed
 pub mod RepeatedLemmas
+mod WorkedRepeated

@@ -86,7 +86,7 @@ fn put_next(
         ≡ slice_get (numbered_texts texts.now ordered.now) place) }
 {
     if !repeats(texts, ordered, place) {
-        put.push(texts.get(ordered[place].number as usize))?;
+        ordered[place].put_text(texts, put)?;
     }
     Ok((put.len() - 1) as u32)
 }

@@ -34,13 +34,13 @@ fn count_remainders(alloc: Global, texts: &FlatTexts, count: u32) -> Result<u32,
     Ok(different)
 }
 
-/// Whether some of these texts, fewer than 2^32, may be equal. Otherwise at least three fifths of
-/// them are different. (Marks of texts that all differ leave five eighths of the remainders.)
+/// Whether many of these texts, fewer than 2^32, may be equal. Otherwise at least two fifths of them
+/// are different. (Marks of texts of which half are different leave two fifths of the remainders.)
 pub(crate) fn may_repeat(alloc: Global, texts: &FlatTexts) -> Result<bool, AllocError>
     ensures { IfOk result (λ repeat. IsTrue repeat → length texts.now < 2 ^ 32) }
 {
     match u32::try_from(texts.len()) {
-        Ok(count) => Ok(count_remainders(alloc, texts, count)? / 3 < count / 5),
+        Ok(count) => Ok(count_remainders(alloc, texts, count)? / 2 < count / 5),
         Err(_) => Ok(false),
     }
 }

@@ -1,8 +1,9 @@
 // The texts of a list with their places, in the order of their bytes.
 
-ghost use Rattle.std.specs.Prelude.{◌≡◌, ◌↔◌, ◌<◌, ◌+◌, ◌*◌, ◌^◌, [], All, IfOk, IsTrue, length, map, slice_index, slice_index_or};
+ghost use Rattle.std.specs.Prelude.{◌≡◌, ◌↔◌, ◌<◌, ◌≤◌, ◌+◌, ◌*◌, ◌%◌, ◌^◌, ◌++◌, ◌∷◌, [], All, IfOk, IsTrue, OnErr, OnOk, length, map, nat_lt, slice_index, slice_index_or, take};
+ghost use Rattle.std.specs.Int.{to_be_bytes, w32, w64};
 ghost use Rattle.std.specs.List.{range_with_len};
-ghost use Rattle.star_flat.specs.Private.Order.{AreInTextOrder, IsKeyed, IsWhole, by_key, digits, key_of, text_at};
+ghost use Rattle.star_flat.specs.Private.Order.{AreInTextOrder, IsKeyed, IsWhole, by_key, digits, ending, key_of, text_at, text_cmp};
 
 use crate::pages::release;
 use crate::texts::FlatTexts;
@@ -11,13 +12,13 @@ use std::cmp::Ordering;
 
 /// The key of a text, by which it is put in order, and its number, which is its place in a list.
 ///
-/// Most keys are told apart by their fronts, the first 12 bytes of their texts, with no look at
-/// where the texts lie.
+/// Most keys are told apart by their fronts, the first 11 bytes of their texts, with no look at
+/// where the texts lie. A text of at most 11 bytes is told by its front alone.
 #[derive(Clone, Copy)]
 pub(crate) struct Numbered {
     /// The first 8 bytes.
     pub(crate) first: u64,
-    /// The next 4.
+    /// The next 3, and how many bytes there are, up to 12.
     pub(crate) second: u32,
     pub(crate) number: u32,
 }
@@ -57,14 +58,29 @@ fn first_of(text: &[u8]) -> u64
     digits
 }
 
-/// The 4 bytes after the first 8 of a text, in the same way.
+/// How many bytes a text has, up to 12.
+fn count_of(text: &[u8]) -> u32
+    ensures short { length text.now < 12 → result ≡ length text.now }
+    ensures long { 12 ≤ length text.now → result ≡ 12 }
+{
+    if text.len() < 12 {
+        text.len() as u32
+    } else {
+        12
+    }
+}
+
+/// The 3 bytes after the first 8 of a text, in the same way, and then how many bytes it has, up to 12.
 fn second_of(text: &[u8]) -> u32
-    ensures { digits 12 text.now ≡ digits 8 text.now * 4294967296 + result }
+    ensures digits { digits 11 text.now * 256 + result % 256
+        ≡ digits 8 text.now * 4294967296 + result }
+    ensures short { length text.now < 12 → result % 256 ≡ length text.now }
+    ensures long { 12 ≤ length text.now → result % 256 ≡ 12 }
 {
     u32::from(byte_at(text, 8)) * 16_777_216
         + u32::from(byte_at(text, 9)) * 65_536
         + u32::from(byte_at(text, 10)) * 256
-        + u32::from(byte_at(text, 11))
+        + count_of(text)
 }
 
 /// The text of a number, an empty one where there is none.
@@ -95,6 +111,25 @@ impl Numbered {
         }
     }
 
+    /// Whether the front tells the text whole.
+    #[inline(always)]
+    fn is_whole(self) -> bool
+        ensures { result ≡ nat_lt (self.second % 256) 12 }
+    {
+        self.second % 256 < 12
+    }
+
+    /// What is looked at where fronts are one.
+    fn ending(self, texts: &FlatTexts) -> &[u8]
+        ensures { result.now ≡ ending texts.now self }
+    {
+        if self.is_whole() {
+            &[]
+        } else {
+            text_of(texts, self.number)
+        }
+    }
+
     /// Whether this is the key of the same text as another.
     pub(crate) fn is_of_text(self, texts: &FlatTexts, other: Numbered) -> bool
         requires keyed { IsKeyed texts.now self }
@@ -103,8 +138,42 @@ impl Numbered {
     {
         self.first == other.first
             && self.second == other.second
-            && text_of(texts, self.number) == text_of(texts, other.number)
+            && (self.is_whole() || text_of(texts, self.number) == text_of(texts, other.number))
     }
+
+    /// The first 11 bytes, with zeros for those that the text lacks.
+    fn front(self) -> [u8; 11]
+        ensures { result ≡ take 11 (to_be_bytes w64 self.first ++ to_be_bytes w32 self.second) }
+    {
+        let first = self.first.to_be_bytes();
+        let second = self.second.to_be_bytes();
+        [
+            first[0], first[1], first[2], first[3], first[4], first[5], first[6], first[7],
+            second[0], second[1], second[2],
+        ]
+    }
+
+    /// Puts the text after others. Where the front tells it whole, there is no look at where it lies.
+    pub(crate) fn put_text(self, texts: &FlatTexts, put: &mut FlatTexts) -> Result<(), AllocError>
+        requires keyed { IsKeyed texts.now self }
+        ensures ok { OnOk result (put.new ≡ put.old ++ text_at texts.now self ∷ []) }
+        ensures err { OnErr result (put.new ≡ put.old) }
+    {
+        if self.is_whole() {
+            put.push(&self.front()[..(self.second % 256) as usize])
+        } else {
+            put.push(text_of(texts, self.number))
+        }
+    }
+}
+
+/// How two keys compare whose fronts are one.
+#[cold]
+#[inline(never)]
+fn compare_endings(texts: &FlatTexts, one: Numbered, other: Numbered) -> Ordering
+    ensures { result ≡ text_cmp (ending texts.now one) (ending texts.now other) }
+{
+    one.ending(texts).cmp(&other.ending(texts))
 }
 
 /// How two keys compare: as their fronts, and where these are one, as their texts.
@@ -113,7 +182,7 @@ fn compare(texts: &FlatTexts, one: Numbered, other: Numbered) -> Ordering
     ensures { result ≡ by_key texts.now one other }
 {
     match (one.first, one.second).cmp(&(other.first, other.second)) {
-        Ordering::Equal => text_of(texts, one.number).cmp(&text_of(texts, other.number)),
+        Ordering::Equal => compare_endings(texts, one, other),
         unequal => unequal,
     }
 }
@@ -212,13 +281,13 @@ fn by_wholes(alloc: Global, texts: &FlatTexts) -> Result<Vec<Numbered>, AllocErr
     Ok(ordered)
 }
 
-/// Whether more than a third of these texts have more bytes than their fronts hold.
+/// Whether more than a third of these texts have more bytes than their fronts.
 ///
 /// Either answer is right: it only decides how texts are sorted.
 fn are_long(texts: &FlatTexts) -> bool {
     let mut long = 0;
     for place in 0..texts.len() {
-        if texts.get(place).len() > 12 {
+        if texts.get(place).len() > 11 {
             long += 1;
         }
     }
@@ -228,7 +297,7 @@ fn are_long(texts: &FlatTexts) -> bool {
 /// The keys of these texts in the order of their bytes, each with the text's place in the list.
 ///
 /// Where many texts are long, all their fronts may be equal, so it is kept where each lies. That
-/// takes three times the memory, but a long text has more than 12 bytes of its file itself.
+/// takes three times the memory, but a long text has more than 11 bytes of its file itself.
 pub(crate) fn in_order(alloc: Global, texts: &FlatTexts) -> Result<Vec<Numbered>, AllocError>
     requires { length texts.now < 2 ^ 32 }
     ensures { IfOk result (λ ordered. AreInTextOrder texts.now ordered.items) }

@@ -175,24 +175,24 @@ impl RepeatedTexts {
         keep(&mut self.kept, &mut self.rows, text)
     }
 
-    /// Keeps one of equal texts alone, where they may repeat, or changes nothing where memory is
+    /// Keeps one of equal texts alone, where many may repeat, or changes nothing where memory is
     /// refused.
     ///
-    /// After that at least as many texts are kept as are left now, and as a quarter of the rows,
-    /// before it is done again. So each text that is kept pays for the sort of two texts and for the
-    /// new places of four rows. Where they don't repeat, they are only marked, and a quarter more of
-    /// them are kept, so each pays for five marks. No choice of texts takes more than n log n.
+    /// After that at least twice as many more texts are kept as are left now, and as a quarter of the
+    /// rows, before it is done again. So each text that is kept pays for the sort of one and a half
+    /// texts and for the new places of four rows. Where few repeat, they are only marked, and as many
+    /// more of them are kept, so each pays for two marks. No choice of texts takes more than n log n.
     fn compact(&mut self) -> Result<(), AllocError>
         ensures { self.new ≡ self.old }
     {
         if may_repeat(self.alloc, &self.kept)? {
             keep_different(self.alloc, &mut self.kept, &mut self.rows)?;
             let left = self.kept.len();
-            let more = left.max(self.rows.len() / 4);
+            let more = left.saturating_add(left).max(self.rows.len() / 4);
             self.most = MANY.max(left.saturating_add(more));
         } else {
             let left = self.kept.len();
-            self.most = MANY.max(left.saturating_add(left / 4));
+            self.most = MANY.max(left.saturating_add(left));
         }
         Ok(())
     }

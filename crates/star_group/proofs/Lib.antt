@@ -33,3 +33,5 @@ pub mod PlacedCells
 pub mod PlacedRows
 pub mod PlacedPuts
 pub mod PlacedLanes
+mod WorkedPlaces
+mod WorkedBatches

@@ -14,3 +14,5 @@ pub mod Kept
 pub mod Conditions
 pub mod OnePlan
 pub mod PlannedQueries
+mod WorkedResolved
+mod WorkedNames

@@ -25,3 +25,4 @@ pub mod LineSteps
 pub mod ZeroPieces
 pub mod RowPlaces
 pub mod WorkedParts
+mod WorkedPieces

@@ -3,3 +3,4 @@ mod StatementLemmas
 mod QuestionLemmas
 pub mod DraftLemmas
 mod WorkedStatements
+mod WorkedSources

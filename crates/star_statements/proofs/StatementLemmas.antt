@@ -68,7 +68,7 @@ chosen_some : (b : Bool) (xs ys : List (List ℕ)) → HasOne xs → HasOne ys
 chosen_some true xs ys some _ = some
 chosen_some false xs ys _ some = some
 
-lines_some : (text : List ℕ) → HasOne (statement_lines text)
+pub lines_some : (text : List ℕ) → HasOne (statement_lines text)
 unfolding statement_lines
 lines_some [] = ([], ([], refl))
 lines_some (c ∷ rest) =

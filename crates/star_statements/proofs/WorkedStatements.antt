@@ -1,9 +1,10 @@
 -- Texts with their statements, and statements with what they ask for.
-use Rattle.std.proofs.Common.{◌≡◌, [], ◌∷◌, codes, refl}
+use Rattle.std.proofs.Common.{◌≡◌, ℕ, List, [], ◌∷◌, arith, codes, length, refl}
 use Rattle.star_statements.specs.Blanks.{without_blanks}
 use Rattle.star_statements.specs.Questions.{asked_by, asked_by_text, begins_with_word}
 use Rattle.star_statements.specs.Statements.{ends_statement, joined_to_first, statement_lines, statements_in, statements_of}
-use Rattle.star_statements.specs.declared.questions.Question.TheVariants.{Nothing, Query, Explain, Quote}
+use Rattle.star_statements.specs.declared.questions.Question.TheVariants.{Nothing, TooLong, Query, Explain, Quote}
+use Rattle.star_statements.proofs.QuestionLemmas.{queried, too_long}
 
 -- a line that ends with a semicolon ends a statement; the last statement may lack it
 one_a_line : statements_of (codes "a;\nb;\nc") ≡ codes "a;\n" ∷ codes "b;\n" ∷ codes "c" ∷ []
@@ -52,6 +53,22 @@ no_blank_behind : asked_by (codes "explain;") ≡ Query (codes "explain;")
 unfolding asked_by_text begins_with_word without_blanks
 no_blank_behind = refl
 
+nothing_behind : asked_by (codes "explain") ≡ Query (codes "explain")
+unfolding asked_by_text begins_with_word without_blanks
+nothing_behind = refl
+
+as_long_a_word : asked_by (codes "selects it") ≡ Query (codes "selects it")
+unfolding asked_by_text begins_with_word without_blanks
+as_long_a_word = refl
+
 blanks : asked_by (codes " \t\r\n") ≡ Nothing
 unfolding asked_by_text begins_with_word without_blanks
 blanks = refl
+
+-- 65,536 bytes, and one more
+longest : (rest : List ℕ) → length rest ≡ 65535 → asked_by_text (115 ∷ rest) ≡ Query (115 ∷ rest)
+unfolding begins_with_word
+longest rest long = queried (115 ∷ rest) (omega arith) (omega (arith, long)) refl refl
+
+one_more : (rest : List ℕ) → length rest ≡ 65536 → asked_by_text (115 ∷ rest) ≡ TooLong
+one_more rest long = too_long (115 ∷ rest) (omega (arith, long))

@@ -1,5 +1,5 @@
 -- The keys of texts, and their order.
-use Rattle.std.specs.Prelude.{◌≡◌, ◌+◌, ◌*◌, ◌<◌, ℕ, zero, suc, List, [], All, Contains, length, map, slice_index, slice_index_or}
+use Rattle.std.specs.Prelude.{◌≡◌, ◌+◌, ◌*◌, ◌%◌, ◌<◌, ◌≤◌, if◌then◌else◌, ℕ, zero, suc, List, [], All, Contains, length, map, nat_lt, slice_index, slice_index_or}
 use Rattle.std.specs.Cmp.Lexicographic.{slice_cmp}
 use Rattle.std.specs.List.Sorted.{IsSorted}
 use Rattle.std.specs.Ordering.{nat_cmp, ordering_then}
@@ -21,11 +21,19 @@ digits (suc n) text = digits n text * 256 + slice_index text n
 abbrev pub text_at : List (List ℕ) → Numbered → List ℕ
 text_at texts e = slice_index_or texts e.number []
 
--- a text of bytes, and its key, whose front is the first 12 of them
+-- a text of bytes, and its key: its front is the first 11 of them, and then how many there are, up
+-- to 12
 pub record IsKeyed (texts : List (List ℕ)) (e : Numbered) : Type 0 where
   pub first_is : e.first ≡ digits 8 (text_at texts e)
-  pub second_is : digits 12 (text_at texts e) ≡ digits 8 (text_at texts e) * 4294967296 + e.second
+  pub second_is : digits 11 (text_at texts e) * 256 + e.second % 256
+      ≡ digits 8 (text_at texts e) * 4294967296 + e.second
+  pub short : length (text_at texts e) < 12 → e.second % 256 ≡ length (text_at texts e)
+  pub long : 12 ≤ length (text_at texts e) → e.second % 256 ≡ 12
   pub bytes : All (λ byte. byte < 256) (text_at texts e)
+
+-- what is looked at where fronts are one: nothing of a text that its front tells whole
+abbrev pub ending : List (List ℕ) → Numbered → List ℕ
+ending texts e = if nat_lt (e.second % 256) 12 then [] else text_at texts e
 
 -- the key of a text
 abbrev pub key_of : Whole → Numbered
@@ -36,11 +44,11 @@ pub record IsWhole (texts : List (List ℕ)) (e : Whole) : Type 0 where
   pub keyed : IsKeyed texts (key_of e)
   pub text_is : e.text.now ≡ text_at texts (key_of e)
 
--- keys compare as their fronts, and where these are one, as their texts
+-- keys compare as their fronts, and where these are one, as their texts where these are longer
 abbrev pub by_key : List (List ℕ) → Numbered → Numbered → Ordering
 by_key texts a b =
     ordering_then (nat_cmp a.first b.first) (ordering_then (nat_cmp a.second b.second)
-    (text_cmp (text_at texts a) (text_at texts b)))
+    (text_cmp (ending texts a) (ending texts b)))
 
 -- the texts of a list by their numbers
 abbrev pub numbered_texts : List (List ℕ) → List Numbered → List (List ℕ)

@@ -1,22 +1,23 @@
-use Rattle.std.proofs.Common.{◌≡◌, ◌∙◌, ◌+◌, take, sym, arith, true≢false}
+use Rattle.std.proofs.Common.{◌≡◌, ◌∙◌, ◌+◌, get_or, take, sym, arith, true≢false}
 use Rattle.star_flat.specs.Private.Codes.{different}
-use Rattle.star_flat.specs.Private.Order.{numbered_texts}
+use Rattle.star_flat.specs.Private.Order.{numbered_texts, text_at}
 use Rattle.star_flat.proofs.CodesKept.{code_here, put_again, put_new, some_put}
+use Rattle.star_flat.proofs.Enumerated.{nothing}
 use Rattle.star_flat.proofs.Pushed.{pushed_before}
 use Rattle.star_flat.proofs.coding.put_next.Goals as goal
-use Rattle.star_flat.proofs.coding.put_next.Goals.{then-not-repeats+in_ok-push, else-not-repeats}
+use Rattle.star_flat.proofs.coding.put_next.Goals.{then-not-repeats+in_ok-put_text, else-not-repeats}
 
 pub returns-clause-put : goal.returns-clause-put
 returns-clause-put c =
     let texts = c.args.texts.now in
     let ordered = c.args.ordered.now in
     elim c.if-not-repeats.branch [
-      | then-not-repeats+in_ok-push w ↦
+      | then-not-repeats+in_ok-put_text w ↦
           rw w.put-is
           (put_new texts ordered c.requires.ordered c.args.place c.requires.within c.args.put.now
-          w.push.new.self w.get.result.now c.requires.put
-          (λ h. true≢false (sym (c.repeats.ensures.1 h) ∙ w.if-not-repeats.true)) w.get.ensures
-          w.in_ok-push.ensures.ok)
+          w.put_text.new.put c.requires.put
+          (λ h. true≢false (sym (c.repeats.ensures.1 h) ∙ w.if-not-repeats.true))
+          w.in_ok-put_text.ensures.ok)
       | else-not-repeats w ↦
           let same = c.repeats.ensures.0 w.if-not-repeats.false in
           rw w.put-is
@@ -31,12 +32,12 @@ overflow_sub-result c =
     let made : c.if-not-repeats.put
     ≡ different (take (c.args.place + 1) (numbered_texts texts ordered)) =
     elim c.if-not-repeats.branch [
-      | then-not-repeats+in_ok-push w ↦
+      | then-not-repeats+in_ok-put_text w ↦
           rw w.put-is
           (put_new texts ordered c.requires.ordered c.args.place c.requires.within c.args.put.now
-          w.push.new.self w.get.result.now c.requires.put
-          (λ h. true≢false (sym (c.repeats.ensures.1 h) ∙ w.if-not-repeats.true)) w.get.ensures
-          w.in_ok-push.ensures.ok)
+          w.put_text.new.put c.requires.put
+          (λ h. true≢false (sym (c.repeats.ensures.1 h) ∙ w.if-not-repeats.true))
+          w.in_ok-put_text.ensures.ok)
       | else-not-repeats w ↦
           let same = c.repeats.ensures.0 w.if-not-repeats.false in
           rw w.put-is
@@ -50,9 +51,10 @@ overflow_sub-result c =
 pub returns-clause-kept : goal.returns-clause-kept
 returns-clause-kept c code text at =
     elim c.if-not-repeats.branch [
-      | then-not-repeats+in_ok-push w ↦
-          rw (w.put-is, w.in_ok-push.ensures.ok)
-          (pushed_before c.args.put.now w.get.result.now code text at)
+      | then-not-repeats+in_ok-put_text w ↦
+          rw (w.put-is, w.in_ok-put_text.ensures.ok)
+          (pushed_before c.args.put.now
+          (text_at c.args.texts.now (get_or c.args.ordered.now c.args.place nothing)) code text at)
       | else-not-repeats w ↦ rw w.put-is (λ i. at i)
     ]
 
@@ -63,12 +65,12 @@ returns-clause-code c =
     let made : c.if-not-repeats.put
     ≡ different (take (c.args.place + 1) (numbered_texts texts ordered)) =
     elim c.if-not-repeats.branch [
-      | then-not-repeats+in_ok-push w ↦
+      | then-not-repeats+in_ok-put_text w ↦
           rw w.put-is
           (put_new texts ordered c.requires.ordered c.args.place c.requires.within c.args.put.now
-          w.push.new.self w.get.result.now c.requires.put
-          (λ h. true≢false (sym (c.repeats.ensures.1 h) ∙ w.if-not-repeats.true)) w.get.ensures
-          w.in_ok-push.ensures.ok)
+          w.put_text.new.put c.requires.put
+          (λ h. true≢false (sym (c.repeats.ensures.1 h) ∙ w.if-not-repeats.true))
+          w.in_ok-put_text.ensures.ok)
       | else-not-repeats w ↦
           let same = c.repeats.ensures.0 w.if-not-repeats.false in
           rw w.put-is
