@@ -22,48 +22,13 @@ returns-clause-reported g c =
     c.answer_query.ensures)
 
 pub returns-clause-noted : goal.returns-clause-noted
-returns-clause-noted g c =
-    (has_told (change g.S.Sink.contents g.S.Sink.is_failed c.args.out.now c.answer_query.new.out)
-    (change g.N.Sink.contents g.N.Sink.is_failed c.args.notes.now c.answer_query.new.notes)
-    (IsQueryQuote c.args.limits.rows (texts_view c.args.texts.now) c.args.query.now)
-    (IsQueryTold c.args.limits.rows c.args.limits.visits (texts_view c.args.texts.now)
-    c.args.query.now)
-    (IsUnanswered c.args.limits.rows c.args.limits.visits (texts_view c.args.texts.now)
-    c.args.query.now)
-    c.answer_query.result c.answer_query.ensures)
+returns-clause-noted g c = search (has_told, c.answer_query.ensures)
 
 pub returns-clause-broken : goal.returns-clause-broken
-returns-clause-broken g c =
-    (is_telling_broken_off (change g.S.Sink.contents g.S.Sink.is_failed c.args.out.now
-    c.answer_query.new.out)
-    (change g.N.Sink.contents g.N.Sink.is_failed c.args.notes.now c.answer_query.new.notes)
-    (IsQueryQuote c.args.limits.rows (texts_view c.args.texts.now) c.args.query.now)
-    (IsQueryTold c.args.limits.rows c.args.limits.visits (texts_view c.args.texts.now)
-    c.args.query.now)
-    (IsUnanswered c.args.limits.rows c.args.limits.visits (texts_view c.args.texts.now)
-    c.args.query.now)
-    c.answer_query.result c.answer_query.ensures)
+returns-clause-broken g c = search (is_telling_broken_off, c.answer_query.ensures)
 
 pub returns-clause-refused : goal.returns-clause-refused
-returns-clause-refused g c =
-    (is_telling_refused (change g.S.Sink.contents g.S.Sink.is_failed c.args.out.now
-    c.answer_query.new.out)
-    (change g.N.Sink.contents g.N.Sink.is_failed c.args.notes.now c.answer_query.new.notes)
-    (IsQueryQuote c.args.limits.rows (texts_view c.args.texts.now) c.args.query.now)
-    (IsQueryTold c.args.limits.rows c.args.limits.visits (texts_view c.args.texts.now)
-    c.args.query.now)
-    (IsUnanswered c.args.limits.rows c.args.limits.visits (texts_view c.args.texts.now)
-    c.args.query.now)
-    c.answer_query.result c.answer_query.ensures)
+returns-clause-refused g c = search (is_telling_refused, c.answer_query.ensures)
 
 pub returns-clause-memory : goal.returns-clause-memory
-returns-clause-memory g c =
-    (is_telling_untold (change g.S.Sink.contents g.S.Sink.is_failed c.args.out.now
-    c.answer_query.new.out)
-    (change g.N.Sink.contents g.N.Sink.is_failed c.args.notes.now c.answer_query.new.notes)
-    (IsQueryQuote c.args.limits.rows (texts_view c.args.texts.now) c.args.query.now)
-    (IsQueryTold c.args.limits.rows c.args.limits.visits (texts_view c.args.texts.now)
-    c.args.query.now)
-    (IsUnanswered c.args.limits.rows c.args.limits.visits (texts_view c.args.texts.now)
-    c.args.query.now)
-    c.answer_query.result c.answer_query.ensures)
+returns-clause-memory g c = search (is_telling_untold, c.answer_query.ensures)

@@ -1,34 +1,14 @@
-use Rattle.star_catalogue.specs.Load.{texts_view}
-use Rattle.star_engine.specs.Listing.{IsListing}
-use Rattle.star_engine.specs.Loads.{IsUnloaded}
-use Rattle.star_engine.specs.Answered.{change}
 use Rattle.star_engine.proofs.ByClauses.{has_written, is_broken_off, is_refused, is_untouched}
 use Rattle.star_engine.proofs.calls.check.Goals as goal
 
 pub returns-clause-written : goal.returns-clause-written
-returns-clause-written g c =
-    (has_written (change g.S.Sink.contents g.S.Sink.is_failed c.args.out.now c.check.new.out)
-    (IsListing c.args.limits.rows (texts_view c.args.texts.now))
-    (IsUnloaded c.args.limits.rows (texts_view c.args.texts.now))
-    c.check.result c.check.ensures)
+returns-clause-written g c = search (has_written, c.check.ensures)
 
 pub returns-clause-broken : goal.returns-clause-broken
-returns-clause-broken g c =
-    (is_broken_off (change g.S.Sink.contents g.S.Sink.is_failed c.args.out.now c.check.new.out)
-    (IsListing c.args.limits.rows (texts_view c.args.texts.now))
-    (IsUnloaded c.args.limits.rows (texts_view c.args.texts.now))
-    c.check.result c.check.ensures)
+returns-clause-broken g c = search (is_broken_off, c.check.ensures)
 
 pub returns-clause-refused : goal.returns-clause-refused
-returns-clause-refused g c =
-    (is_refused (change g.S.Sink.contents g.S.Sink.is_failed c.args.out.now c.check.new.out)
-    (IsListing c.args.limits.rows (texts_view c.args.texts.now))
-    (IsUnloaded c.args.limits.rows (texts_view c.args.texts.now))
-    c.check.result c.check.ensures)
+returns-clause-refused g c = search (is_refused, c.check.ensures)
 
 pub returns-clause-memory : goal.returns-clause-memory
-returns-clause-memory g c =
-    (is_untouched (change g.S.Sink.contents g.S.Sink.is_failed c.args.out.now c.check.new.out)
-    (IsListing c.args.limits.rows (texts_view c.args.texts.now))
-    (IsUnloaded c.args.limits.rows (texts_view c.args.texts.now))
-    c.check.result c.check.ensures)
+returns-clause-memory g c = search (is_untouched, c.check.ensures)

@@ -1,35 +1,14 @@
-use Rattle.star_engine.specs.Queries.{IsExplained, IsNoQuery}
-use Rattle.star_engine.specs.Answered.{change}
 use Rattle.star_engine.proofs.ByClauses.{has_written, is_broken_off, is_refused, is_untouched}
 use Rattle.star_engine.proofs.calls.explain_query.Goals as goal
 
 pub returns-clause-written : goal.returns-clause-written
-returns-clause-written g c =
-    (has_written (change g.S.Sink.contents g.S.Sink.is_failed c.args.out.now
-    c.explain_query.new.out)
-    (IsExplained c.args.query.now)
-    (IsNoQuery c.args.query.now)
-    c.explain_query.result c.explain_query.ensures)
+returns-clause-written g c = search (has_written, c.explain_query.ensures)
 
 pub returns-clause-broken : goal.returns-clause-broken
-returns-clause-broken g c =
-    (is_broken_off (change g.S.Sink.contents g.S.Sink.is_failed c.args.out.now
-    c.explain_query.new.out)
-    (IsExplained c.args.query.now)
-    (IsNoQuery c.args.query.now)
-    c.explain_query.result c.explain_query.ensures)
+returns-clause-broken g c = search (is_broken_off, c.explain_query.ensures)
 
 pub returns-clause-refused : goal.returns-clause-refused
-returns-clause-refused g c =
-    (is_refused (change g.S.Sink.contents g.S.Sink.is_failed c.args.out.now c.explain_query.new.out)
-    (IsExplained c.args.query.now)
-    (IsNoQuery c.args.query.now)
-    c.explain_query.result c.explain_query.ensures)
+returns-clause-refused g c = search (is_refused, c.explain_query.ensures)
 
 pub returns-clause-memory : goal.returns-clause-memory
-returns-clause-memory g c =
-    (is_untouched (change g.S.Sink.contents g.S.Sink.is_failed c.args.out.now
-    c.explain_query.new.out)
-    (IsExplained c.args.query.now)
-    (IsNoQuery c.args.query.now)
-    c.explain_query.result c.explain_query.ensures)
+returns-clause-memory g c = search (is_untouched, c.explain_query.ensures)

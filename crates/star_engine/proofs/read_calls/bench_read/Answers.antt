@@ -1,37 +1,22 @@
-use Rattle.star_engine.specs.Bench.{IsBench}
-use Rattle.star_engine.specs.Loads.{IsUnloaded}
-use Rattle.star_engine.specs.Answered.{change}
 use Rattle.star_engine.proofs.ByClauses.{has_written, is_broken_off, is_refused, is_untouched}
 use Rattle.star_engine.proofs.read_calls.bench_read.Goals as goal
 
 pub returns-clause-written : goal.returns-clause-written
 returns-clause-written g c = λ texts are.
-    has_written (change g.S.Sink.contents g.S.Sink.is_failed c.args.out.now c.bench_read.new.out)
-    (IsBench c.args.limits.rows c.args.limits.visits texts)
-    (IsUnloaded c.args.limits.rows texts)
-    c.bench_read.result (c.bench_read.ensures.answered texts are)
+    search (has_written, c.bench_read.ensures.answered texts are)
 
 pub returns-clause-broken : goal.returns-clause-broken
 returns-clause-broken g c = λ texts are.
-    is_broken_off (change g.S.Sink.contents g.S.Sink.is_failed c.args.out.now c.bench_read.new.out)
-    (IsBench c.args.limits.rows c.args.limits.visits texts)
-    (IsUnloaded c.args.limits.rows texts)
-    c.bench_read.result (c.bench_read.ensures.answered texts are)
+    search (is_broken_off, c.bench_read.ensures.answered texts are)
 
 pub returns-clause-refused : goal.returns-clause-refused
 returns-clause-refused g c = λ texts are.
-    is_refused (change g.S.Sink.contents g.S.Sink.is_failed c.args.out.now c.bench_read.new.out)
-    (IsBench c.args.limits.rows c.args.limits.visits texts)
-    (IsUnloaded c.args.limits.rows texts)
-    c.bench_read.result (c.bench_read.ensures.answered texts are)
+    search (is_refused, c.bench_read.ensures.answered texts are)
 
 pub returns-clause-memory : goal.returns-clause-memory
 returns-clause-memory g c =
     let (texts, are) = c.requires in
-    is_untouched (change g.S.Sink.contents g.S.Sink.is_failed c.args.out.now c.bench_read.new.out)
-    (IsBench c.args.limits.rows c.args.limits.visits texts)
-    (IsUnloaded c.args.limits.rows texts)
-    c.bench_read.result (c.bench_read.ensures.answered texts are)
+    search (is_untouched, c.bench_read.ensures.answered texts are)
 
 pub returns-clause-fits : goal.returns-clause-fits
 returns-clause-fits g c = c.bench_read.ensures.fits

@@ -1,37 +1,19 @@
-use Rattle.star_engine.specs.Trials.{IsNoTrial, IsTrialReport}
-use Rattle.star_engine.specs.Answered.{change}
 use Rattle.star_engine.proofs.ByClauses.{has_written, is_broken_off, is_refused, is_untouched}
 use Rattle.star_engine.proofs.read_calls.trial_program_read.Goals as goal
 
 pub returns-clause-written : goal.returns-clause-written
 returns-clause-written g c = λ texts are.
-    has_written (change g.S.Sink.contents g.S.Sink.is_failed c.args.out.now
-    c.trial_program_read.new.out)
-    (IsTrialReport c.args.limits.rows texts c.args.file.now c.args.visits)
-    (IsNoTrial c.args.limits.rows texts c.args.file.now c.args.visits)
-    c.trial_program_read.result (c.trial_program_read.ensures texts are)
+    search (has_written, c.trial_program_read.ensures texts are)
 
 pub returns-clause-broken : goal.returns-clause-broken
 returns-clause-broken g c = λ texts are.
-    is_broken_off (change g.S.Sink.contents g.S.Sink.is_failed c.args.out.now
-    c.trial_program_read.new.out)
-    (IsTrialReport c.args.limits.rows texts c.args.file.now c.args.visits)
-    (IsNoTrial c.args.limits.rows texts c.args.file.now c.args.visits)
-    c.trial_program_read.result (c.trial_program_read.ensures texts are)
+    search (is_broken_off, c.trial_program_read.ensures texts are)
 
 pub returns-clause-refused : goal.returns-clause-refused
 returns-clause-refused g c = λ texts are.
-    is_refused (change g.S.Sink.contents g.S.Sink.is_failed c.args.out.now
-    c.trial_program_read.new.out)
-    (IsTrialReport c.args.limits.rows texts c.args.file.now c.args.visits)
-    (IsNoTrial c.args.limits.rows texts c.args.file.now c.args.visits)
-    c.trial_program_read.result (c.trial_program_read.ensures texts are)
+    search (is_refused, c.trial_program_read.ensures texts are)
 
 pub returns-clause-memory : goal.returns-clause-memory
 returns-clause-memory g c =
     let (texts, are) = c.requires.read in
-    is_untouched (change g.S.Sink.contents g.S.Sink.is_failed c.args.out.now
-    c.trial_program_read.new.out)
-    (IsTrialReport c.args.limits.rows texts c.args.file.now c.args.visits)
-    (IsNoTrial c.args.limits.rows texts c.args.file.now c.args.visits)
-    c.trial_program_read.result (c.trial_program_read.ensures texts are)
+    search (is_untouched, c.trial_program_read.ensures texts are)

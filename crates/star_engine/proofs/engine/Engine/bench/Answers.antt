@@ -1,37 +1,19 @@
-use Rattle.star_engine.specs.Bench.{IsBenchOver}
-use Rattle.star_engine.specs.Answered.{change}
 use Rattle.star_engine.proofs.ByClauses.{has_written, is_broken_off, is_refused, is_untouched}
 use Rattle.star_engine.proofs.engine.Engine.bench.Goals as goal
 
 pub returns-clause-written : goal.returns-clause-written
 returns-clause-written g c =
-    rw (← c.self.view_is) (has_written
-    (change g.S.Sink.contents g.S.Sink.is_failed c.args.out.now c.bench_over.new.out)
-    (IsBenchOver c.self.inside.limits.visits c.self.inside.catalogue)
-    (λ fault. ⊥)
-    c.bench_over.result c.bench_over.ensures.answered)
+    rw (← c.self.view_is) (search (has_written, c.bench_over.ensures.answered))
 
 pub returns-clause-broken : goal.returns-clause-broken
 returns-clause-broken g c =
-    rw (← c.self.view_is) (is_broken_off
-    (change g.S.Sink.contents g.S.Sink.is_failed c.args.out.now c.bench_over.new.out)
-    (IsBenchOver c.self.inside.limits.visits c.self.inside.catalogue)
-    (λ fault. ⊥)
-    c.bench_over.result c.bench_over.ensures.answered)
+    rw (← c.self.view_is) (search (is_broken_off, c.bench_over.ensures.answered))
 
 pub returns-clause-refused : goal.returns-clause-refused
-returns-clause-refused g c =
-    (is_refused (change g.S.Sink.contents g.S.Sink.is_failed c.args.out.now c.bench_over.new.out)
-    (IsBenchOver c.self.inside.limits.visits c.self.inside.catalogue)
-    (λ fault. ⊥)
-    c.bench_over.result c.bench_over.ensures.answered)
+returns-clause-refused g c = search (is_refused, c.bench_over.ensures.answered)
 
 pub returns-clause-memory : goal.returns-clause-memory
-returns-clause-memory g c =
-    (is_untouched (change g.S.Sink.contents g.S.Sink.is_failed c.args.out.now c.bench_over.new.out)
-    (IsBenchOver c.self.inside.limits.visits c.self.inside.catalogue)
-    (λ fault. ⊥)
-    c.bench_over.result c.bench_over.ensures.answered)
+returns-clause-memory g c = search (is_untouched, c.bench_over.ensures.answered)
 
 pub returns-clause-fits : goal.returns-clause-fits
 returns-clause-fits g c = rw (← c.self.view_is) c.bench_over.ensures.fits

@@ -1,36 +1,15 @@
-use Rattle.star_engine.specs.QuoteTexts.{IsQuoteTextOver, IsUnquotedOver}
-use Rattle.star_engine.specs.Answered.{change}
 use Rattle.star_engine.proofs.ByClauses.{has_written, is_broken_off, is_refused, is_untouched}
 use Rattle.star_engine.proofs.engine.Engine.quote_text.Goals as goal
 
 pub returns-clause-written : goal.returns-clause-written
-returns-clause-written g c =
-    rw (← c.self.view_is) (has_written
-    (change g.S.Sink.contents g.S.Sink.is_failed c.args.out.now c.quote_text_over.new.out)
-    (IsQuoteTextOver c.self.inside.catalogue c.args.file.now)
-    (IsUnquotedOver c.args.file.now)
-    c.quote_text_over.result c.quote_text_over.ensures)
+returns-clause-written g c = rw (← c.self.view_is) (search (has_written, c.quote_text_over.ensures))
 
 pub returns-clause-broken : goal.returns-clause-broken
 returns-clause-broken g c =
-    rw (← c.self.view_is) (is_broken_off
-    (change g.S.Sink.contents g.S.Sink.is_failed c.args.out.now c.quote_text_over.new.out)
-    (IsQuoteTextOver c.self.inside.catalogue c.args.file.now)
-    (IsUnquotedOver c.args.file.now)
-    c.quote_text_over.result c.quote_text_over.ensures)
+    rw (← c.self.view_is) (search (is_broken_off, c.quote_text_over.ensures))
 
 pub returns-clause-refused : goal.returns-clause-refused
-returns-clause-refused g c =
-    (is_refused (change g.S.Sink.contents g.S.Sink.is_failed c.args.out.now
-    c.quote_text_over.new.out)
-    (IsQuoteTextOver c.self.inside.catalogue c.args.file.now)
-    (IsUnquotedOver c.args.file.now)
-    c.quote_text_over.result c.quote_text_over.ensures)
+returns-clause-refused g c = search (is_refused, c.quote_text_over.ensures)
 
 pub returns-clause-memory : goal.returns-clause-memory
-returns-clause-memory g c =
-    (is_untouched (change g.S.Sink.contents g.S.Sink.is_failed c.args.out.now
-    c.quote_text_over.new.out)
-    (IsQuoteTextOver c.self.inside.catalogue c.args.file.now)
-    (IsUnquotedOver c.args.file.now)
-    c.quote_text_over.result c.quote_text_over.ensures)
+returns-clause-memory g c = search (is_untouched, c.quote_text_over.ensures)
