@@ -17,6 +17,8 @@ mod lanes;
 #[cfg(test)]
 mod random;
 #[cfg(test)]
+mod referred;
+#[cfg(test)]
 mod scans;
 #[cfg(test)]
 mod tables;

@@ -34,7 +34,7 @@ returns-in_err-put_batch-clause-refused g c =
       c.args.made + left.0,
       (
         puts_after (put_in b) few.0 left.0,
-        left.1,
+        left.2,
         first_few b c.requires.batch c.are_narrow.ensures c.args.made few.0 few.2 left.0,
       ),
     )
