@@ -16,13 +16,11 @@ returns g c =
           (IsBench rows visits (texts_view c.args.texts.now))
           (IsUnloaded rows (texts_view c.args.texts.now)) c.bench.result) c.widest.result.rows
           c.widest.result.visits c.widest.ensures.rows c.widest.ensures.visits
-          (search (
-            is_answered,
-            c.bench.ensures.written,
-            c.bench.ensures.broken,
-            c.bench.ensures.refused,
-            c.bench.ensures.memory,
-          ));
+          (is_answered (change g.S.Sink.contents g.S.Sink.is_failed c.args.out.now c.bench.new.out)
+          (IsBench c.widest.result.rows c.widest.result.visits (texts_view c.args.texts.now))
+          (IsUnloaded c.widest.result.rows (texts_view c.args.texts.now)) c.bench.result
+          c.bench.ensures.written c.bench.ensures.broken c.bench.ensures.refused
+          c.bench.ensures.memory);
       fits = widest (λ rows visits.
           IfOk c.bench.result (λ fits. IsTrue fits
           ↔ AllFit visits (database_of (texts_view c.args.texts.now)))) c.widest.result.rows

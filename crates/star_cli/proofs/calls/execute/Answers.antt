@@ -16,12 +16,16 @@ returns g c = (
       (IsToldOf rows visits (texts_view c.args.texts.now) c.args.file.now)
       (IsUntold rows visits (texts_view c.args.texts.now) c.args.file.now) c.answer_program.result)
       c.widest.result.rows c.widest.result.visits c.widest.ensures.rows c.widest.ensures.visits
-      (search (
-        is_noted,
-        c.answer_program.ensures.noted,
-        c.answer_program.ensures.broken,
-        c.answer_program.ensures.refused,
-        c.answer_program.ensures.memory,
-      )),
+      (is_noted (change g.S.Sink.contents g.S.Sink.is_failed c.args.out.now
+      c.answer_program.new.out)
+      (change g.N.Sink.contents g.N.Sink.is_failed c.args.notes.now c.answer_program.new.notes)
+      (IsQuoteOf c.widest.result.rows (texts_view c.args.texts.now) c.args.file.now)
+      (IsToldOf c.widest.result.rows c.widest.result.visits (texts_view c.args.texts.now)
+      c.args.file.now)
+      (IsUntold c.widest.result.rows c.widest.result.visits (texts_view c.args.texts.now)
+      c.args.file.now) c.answer_program.result
+      c.answer_program.ensures.noted c.answer_program.ensures.broken
+      c.answer_program.ensures.refused
+      c.answer_program.ensures.memory),
   c.whole.ensures,
 )

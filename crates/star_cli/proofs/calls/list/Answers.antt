@@ -14,12 +14,10 @@ returns g c = (
       (IsListing rows (texts_view c.args.texts.now)) (IsUnloaded rows (texts_view c.args.texts.now))
       c.check.result) c.widest.result.rows c.widest.result.visits c.widest.ensures.rows
       c.widest.ensures.visits
-      (search (
-        is_answered,
-        c.check.ensures.written,
-        c.check.ensures.broken,
-        c.check.ensures.refused,
-        c.check.ensures.memory,
-      )),
+      (is_answered (change g.S.Sink.contents g.S.Sink.is_failed c.args.out.now c.check.new.out)
+      (IsListing c.widest.result.rows (texts_view c.args.texts.now))
+      (IsUnloaded c.widest.result.rows (texts_view c.args.texts.now)) c.check.result
+      c.check.ensures.written c.check.ensures.broken c.check.ensures.refused
+      c.check.ensures.memory),
   c.whole.ensures,
 )

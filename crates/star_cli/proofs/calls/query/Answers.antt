@@ -17,12 +17,14 @@ returns g c = (
       (IsUnanswered rows visits (texts_view c.args.texts.now) c.args.file.now)
       c.answer_query.result)
       c.widest.result.rows c.widest.result.visits c.widest.ensures.rows c.widest.ensures.visits
-      (search (
-        is_noted,
-        c.answer_query.ensures.noted,
-        c.answer_query.ensures.broken,
-        c.answer_query.ensures.refused,
-        c.answer_query.ensures.memory,
-      )),
+      (is_noted (change g.S.Sink.contents g.S.Sink.is_failed c.args.out.now c.answer_query.new.out)
+      (change g.N.Sink.contents g.N.Sink.is_failed c.args.notes.now c.answer_query.new.notes)
+      (IsQueryQuote c.widest.result.rows (texts_view c.args.texts.now) c.args.file.now)
+      (IsQueryTold c.widest.result.rows c.widest.result.visits (texts_view c.args.texts.now)
+      c.args.file.now)
+      (IsUnanswered c.widest.result.rows c.widest.result.visits (texts_view c.args.texts.now)
+      c.args.file.now) c.answer_query.result
+      c.answer_query.ensures.noted c.answer_query.ensures.broken c.answer_query.ensures.refused
+      c.answer_query.ensures.memory),
   c.whole.ensures,
 )

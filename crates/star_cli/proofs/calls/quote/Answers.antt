@@ -13,12 +13,11 @@ returns g c = (
       (IsQuoteText rows (texts_view c.args.texts.now) c.args.file.now)
       (IsUnquoted rows (texts_view c.args.texts.now) c.args.file.now) c.quote_text.result)
       c.widest.result.rows c.widest.result.visits c.widest.ensures.rows c.widest.ensures.visits
-      (search (
-        is_answered,
-        c.quote_text.ensures.written,
-        c.quote_text.ensures.broken,
-        c.quote_text.ensures.refused,
-        c.quote_text.ensures.memory,
-      )),
+      (is_answered (change g.S.Sink.contents g.S.Sink.is_failed c.args.out.now c.quote_text.new.out)
+      (IsQuoteText c.widest.result.rows (texts_view c.args.texts.now) c.args.file.now)
+      (IsUnquoted c.widest.result.rows (texts_view c.args.texts.now) c.args.file.now)
+      c.quote_text.result
+      c.quote_text.ensures.written c.quote_text.ensures.broken c.quote_text.ensures.refused
+      c.quote_text.ensures.memory),
   c.whole.ensures,
 )

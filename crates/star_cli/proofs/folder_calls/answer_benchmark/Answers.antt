@@ -14,16 +14,14 @@ returns g c = λ texts are.
           IsAnswered (change g.S.Sink.contents g.S.Sink.is_failed c.args.out.now
           c.bench_read.new.out) (IsBench rows visits texts) (IsUnloaded rows texts)
           c.bench_read.result) c.widest.result.rows c.widest.result.visits c.widest.ensures.rows
-          c.widest.ensures.visits (search (
-            is_answered,
-            c.bench_read.ensures.written texts
-                (rw c.widest.ensures.rows are),
-            c.bench_read.ensures.broken texts
-                (rw c.widest.ensures.rows are),
-            c.bench_read.ensures.refused texts
-                (rw c.widest.ensures.rows are),
-            c.bench_read.ensures.memory,
-          ));
+          c.widest.ensures.visits (is_answered
+          (change g.S.Sink.contents g.S.Sink.is_failed c.args.out.now c.bench_read.new.out)
+          (IsBench c.widest.result.rows c.widest.result.visits texts)
+          (IsUnloaded c.widest.result.rows texts) c.bench_read.result
+          (c.bench_read.ensures.written texts (rw c.widest.ensures.rows are))
+          (c.bench_read.ensures.broken texts (rw c.widest.ensures.rows are))
+          (c.bench_read.ensures.refused texts (rw c.widest.ensures.rows are))
+          c.bench_read.ensures.memory);
       fits = widest (λ rows visits.
           IfOk c.bench_read.result (λ fits. IsTrue fits ↔ AllFit visits (database_of texts)))
           c.widest.result.rows c.widest.result.visits c.widest.ensures.rows c.widest.ensures.visits

@@ -12,14 +12,13 @@ returns g c = λ texts are. (
       (change g.S.Sink.contents g.S.Sink.is_failed c.args.out.now c.check_read.new.out)
       (IsListing rows texts) (IsUnloaded rows texts) c.check_read.result) c.widest.result.rows
       c.widest.result.visits c.widest.ensures.rows c.widest.ensures.visits
-      (search (
-        is_answered,
-        c.check_read.ensures.written texts (rw c.widest.ensures.rows are),
-        c.check_read.ensures.broken texts (rw c.widest.ensures.rows are),
-        c.check_read.ensures.refused
-            texts (rw c.widest.ensures.rows are),
-        c.check_read.ensures.memory,
-      )),
+      (is_answered (change g.S.Sink.contents g.S.Sink.is_failed c.args.out.now c.check_read.new.out)
+      (IsListing c.widest.result.rows texts)
+      (IsUnloaded c.widest.result.rows texts) c.check_read.result
+      (c.check_read.ensures.written texts (rw c.widest.ensures.rows are))
+      (c.check_read.ensures.broken texts (rw c.widest.ensures.rows are))
+      (c.check_read.ensures.refused texts (rw c.widest.ensures.rows are))
+      c.check_read.ensures.memory),
   c.whole.ensures,
 )
 

@@ -14,13 +14,17 @@ returns g c = λ texts are. (
       (IsQueryQuote rows texts c.args.file.now) (IsQueryTold rows visits texts c.args.file.now)
       (IsUnanswered rows visits texts c.args.file.now) c.answer_query_read.result)
       c.widest.result.rows c.widest.result.visits c.widest.ensures.rows c.widest.ensures.visits
-      (search (
-        is_noted,
-        c.answer_query_read.ensures.noted texts (rw c.widest.ensures.rows are),
-        c.answer_query_read.ensures.broken texts (rw c.widest.ensures.rows are),
-        c.answer_query_read.ensures.refused texts (rw c.widest.ensures.rows are),
-        c.answer_query_read.ensures.memory texts (rw c.widest.ensures.rows are),
-      )),
+      (is_noted (change g.S.Sink.contents g.S.Sink.is_failed c.args.out.now
+      c.answer_query_read.new.out)
+      (change g.N.Sink.contents g.N.Sink.is_failed c.args.notes.now c.answer_query_read.new.notes)
+      (IsQueryQuote c.widest.result.rows texts c.args.file.now)
+      (IsQueryTold c.widest.result.rows c.widest.result.visits texts c.args.file.now)
+      (IsUnanswered c.widest.result.rows c.widest.result.visits texts c.args.file.now)
+      c.answer_query_read.result
+      (c.answer_query_read.ensures.noted texts (rw c.widest.ensures.rows are))
+      (c.answer_query_read.ensures.broken texts (rw c.widest.ensures.rows are))
+      (c.answer_query_read.ensures.refused texts (rw c.widest.ensures.rows are))
+      (c.answer_query_read.ensures.memory texts (rw c.widest.ensures.rows are))),
   c.whole.ensures,
 )
 

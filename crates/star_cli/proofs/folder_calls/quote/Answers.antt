@@ -11,16 +11,14 @@ returns g c = λ texts are. (
       (change g.S.Sink.contents g.S.Sink.is_failed c.args.out.now c.quote_text_read.new.out)
       (IsQuoteText rows texts c.args.file.now) (IsUnquoted rows texts c.args.file.now)
       c.quote_text_read.result) c.widest.result.rows c.widest.result.visits c.widest.ensures.rows
-      c.widest.ensures.visits (search (
-        is_answered,
-        c.quote_text_read.ensures.written texts
-            (rw c.widest.ensures.rows are),
-        c.quote_text_read.ensures.broken texts
-            (rw c.widest.ensures.rows are),
-        c.quote_text_read.ensures.refused texts
-            (rw c.widest.ensures.rows are),
-        c.quote_text_read.ensures.memory,
-      )),
+      c.widest.ensures.visits (is_answered
+      (change g.S.Sink.contents g.S.Sink.is_failed c.args.out.now c.quote_text_read.new.out)
+      (IsQuoteText c.widest.result.rows texts c.args.file.now)
+      (IsUnquoted c.widest.result.rows texts c.args.file.now) c.quote_text_read.result
+      (c.quote_text_read.ensures.written texts (rw c.widest.ensures.rows are))
+      (c.quote_text_read.ensures.broken texts (rw c.widest.ensures.rows are))
+      (c.quote_text_read.ensures.refused texts (rw c.widest.ensures.rows are))
+      c.quote_text_read.ensures.memory),
   c.whole.ensures,
 )
 

@@ -12,16 +12,15 @@ returns g c = λ texts are wide. (
       c.trial_program_read.new.out) (IsTrialReport rows texts c.args.file.now c.args.limits.visits)
       (IsNoTrial rows texts c.args.file.now c.args.limits.visits) c.trial_program_read.result)
       c.widest.result.rows c.widest.result.visits c.widest.ensures.rows c.widest.ensures.visits
-      (search (
-        is_answered,
-        c.trial_program_read.ensures.written texts
-            (rw c.widest.ensures.rows are),
-        c.trial_program_read.ensures.broken texts
-            (rw c.widest.ensures.rows are),
-        c.trial_program_read.ensures.refused texts
-            (rw c.widest.ensures.rows are),
-        c.trial_program_read.ensures.memory,
-      ))),
+      (is_answered (change g.S.Sink.contents g.S.Sink.is_failed c.args.out.now
+      c.trial_program_read.new.out)
+      (IsTrialReport c.widest.result.rows texts c.args.file.now c.args.limits.visits)
+      (IsNoTrial c.widest.result.rows texts c.args.file.now c.args.limits.visits)
+      c.trial_program_read.result
+      (c.trial_program_read.ensures.written texts (rw c.widest.ensures.rows are))
+      (c.trial_program_read.ensures.broken texts (rw c.widest.ensures.rows are))
+      (c.trial_program_read.ensures.refused texts (rw c.widest.ensures.rows are))
+      c.trial_program_read.ensures.memory)),
   c.whole.ensures,
 )
 

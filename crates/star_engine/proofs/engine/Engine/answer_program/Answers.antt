@@ -30,4 +30,10 @@ returns-clause-refused g c =
 
 pub returns-clause-memory : goal.returns-clause-memory
 returns-clause-memory g c =
-    rw (← c.self.view_is) (search (is_telling_untold, c.answer_program_over.ensures))
+    rw (← c.self.view_is) (is_telling_untold
+    (change g.S.Sink.contents g.S.Sink.is_failed c.args.out.now c.answer_program_over.new.out)
+    (change g.N.Sink.contents g.N.Sink.is_failed c.args.notes.now c.answer_program_over.new.notes)
+    (IsQuoteOver c.self.inside.catalogue c.args.file.now)
+    (IsToldOver c.self.inside.limits.visits c.self.inside.catalogue c.args.file.now)
+    (IsUntoldOver c.self.inside.limits.visits c.self.inside.catalogue c.args.file.now)
+    c.answer_program_over.result c.answer_program_over.ensures)
