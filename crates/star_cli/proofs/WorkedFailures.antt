@@ -7,9 +7,11 @@ use Rattle.std.specs.Prelude.{◌++◌, codes, map}
 use Rattle.star_query.specs.FaultTexts.{query_fault_text}
 use Rattle.star_query.specs.declared.fault.QueryFault.TheVariants.{Unexpected}
 use Rattle.star_engine.specs.FaultTexts.{engine_fault_text}
+use Rattle.star_engine.specs.declared.fault.EngineFault.TheVariants as engine
 use Rattle.star_engine.specs.declared.fault.EngineFault.TheVariants.{Query}
 use Rattle.star_cli.specs.declared.failure.Failure.TheVariants.{NotText, EmptyFolder, NoCommand, File, Part, Unnamed, NamedTwice, OfFile, Unkept, Unwritten, OutOfMemory}
-use Rattle.star_cli.specs.Failures.{failure_text, status_of}
+use Rattle.star_cli.specs.declared.reports.Halt.TheVariants as halts
+use Rattle.star_cli.specs.Failures.{failure_of_file, failure_of_halt, failure_text, status_of}
 use Rattle.star_cli.specs.Names.{printed_name}
 
 lines : map failure_text (NotText ∷ EmptyFolder ∷ NoCommand ∷ OutOfMemory ∷ [])
@@ -52,3 +54,14 @@ statuses_of_reports : (name : Bor (List ℕ))
     → map status_of (Unnamed name ∷ NamedTwice name ∷ OfFile name (Query (Unexpected 20))
     ∷ Unkept name 10 ∷ Unwritten 7 ∷ []) ≡ 2 ∷ 2 ∷ 4 ∷ 6 ∷ 6 ∷ []
 statuses_of_reports name = refl
+
+-- of files that can't be read and of reports that end before the last, want of memory as any other
+failures_of_files : (path : Bor (List ℕ))
+    → map (failure_of_file path) (engine.OutOfMemory ∷ Query (Unexpected 20) ∷ [])
+    ≡ OutOfMemory ∷ OfFile path (Query (Unexpected 20)) ∷ []
+failures_of_files path = refl
+
+failures_of_reports : (name : Bor (List ℕ))
+    → map failure_of_halt (halts.OutOfMemory ∷ halts.Unkept name 10 ∷ halts.Unwritten 7 ∷ [])
+    ≡ OutOfMemory ∷ Unkept name 10 ∷ Unwritten 7 ∷ []
+failures_of_reports name = refl

@@ -44,3 +44,8 @@ mod PlansOfTexts
 mod Commands
 mod CommandFaults
 mod CommandFailures
+mod EngineSinks
+mod EngineReads
+mod CommandReports
+mod CommandSessions
+mod CommandFolders
