@@ -90,6 +90,11 @@ class Room:
             for name in module.names:
                 self.citing[name].add(module.name)
 
+    def root(self, crate: str) -> str:
+        """The file that a crate's sources begin with: a program has no lib.rt."""
+        is_program = (self.top / "crates" / crate / "src" / "main.rt").is_file()
+        return "src/main.rt" if is_program else "src/lib.rt"
+
     def above(self, name: str) -> set[str]:
         """The modules that stand on one, itself among them."""
         return reachable([name], lambda it: self.citing[it])
@@ -157,14 +162,14 @@ class Room:
         self.libraries[CRATE] = [it for it in self.libraries if it in used]
         below = self.below([home])
         of_kit = lambda crate: ["std", *(it for it in self.libraries[crate] if it not in self.libraries)]
-        words = ["--crate-name", home, "src/lib.rt", "-L", f"dependency={self.kit}/rlibs"]
+        words = ["--crate-name", home, self.root(home), "-L", f"dependency={self.kit}/rlibs"]
         for name in sorted({"core", *(it for crate in [home, *below] for it in of_kit(crate))}):
             words += ["--extern", f"{name}={self.kit}/rlibs/{name}.rlib"]
         for crate in below:
             uses = dict.fromkeys(["core", *of_kit(crate), *self.libraries[crate]])
             rlib = f"{self.built}/crates/{crate}/out/rlib/{crate}.rlib"
             if not self.built:
-                words += ["--lib", f"{crate}:{','.join(uses)}={self.top}/crates/{crate}/src/lib.rt"]
+                words += ["--lib", f"{crate}:{','.join(uses)}={self.top}/crates/{crate}/{self.root(crate)}"]
             elif crate in self.libraries[home]:
                 words += ["--extern", f"{crate}={rlib}"]
             words += ["-L", f"dependency={Path(rlib).parent}"] if self.built else []
@@ -181,7 +186,7 @@ class Room:
                 shutil.copytree(self.top / "crates" / home / part, folder / part)
         (folder / "src").mkdir(parents=True, exist_ok=True)
         (folder / "proofs" / ANCHOR).mkdir(parents=True)
-        with (folder / "src" / "lib.rt").open("a", encoding="utf-8") as out:
+        with (folder / self.root(home)).open("a", encoding="utf-8") as out:
             out.write("//! Copies of definitions.\n#![tactic(auto)]\n" if home == CRATE else "\n")
             out.write(f"/// Reads the copies.\npub fn {ANCHOR}() {{}}\n")
         for file, text in texts.items():

@@ -92,6 +92,12 @@ module _ (most : ℕ) (database : Database) (query : List ℕ) (refusal : Refusa
       → IsOverflow (refusal_view refusal)
   then_a_range_is_too_wide many unfit = unfit.wide (omega arith)
 
+  then_the_first_such_range_is_told : (unfit : IsUnfit most database query refusal)
+      → fact_rows database ≡ most
+      → refusal_view refusal
+      ≡ option_map Refused (turn_wide (bounds_in (rows_in database)) unfit.p)
+  then_the_first_such_range_is_told unfit many = unfit.first (omega arith)
+
   one_row_more_is_too_many : fact_rows database ≡ most + 1 → IsUnfit most database query refusal
       → refusal_view refusal ≡ Some (TooCostly (fact_rows database))
   one_row_more_is_too_many many unfit = unfit.costly (omega arith)

@@ -1,2 +1,3 @@
 mod LineParts
 mod TimeLemmas
+mod WorkedTimes
