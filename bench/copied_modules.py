@@ -83,8 +83,8 @@ class Room:
         self.exported = cache(lambda name: is_exported(top, self.modules[name]))
         lines = re.findall(r"(?m)^(\w+):(.*)$", (top / "crates.txt").read_text(encoding="utf-8"))
         self.libraries = {crate: libraries.split() for crate, libraries in lines}
-        # The files whose copies were seen to name what only their own crate may name.
-        self.inside = set()
+        # The files whose copies were seen to name what only their own crate may name, and those of programs.
+        self.inside = {it.name for it in self.modules.values() if self.root(it.crate) == "src/main.rt"}
         self.citing = {name: set() for name in self.modules}
         for module in self.modules.values():
             for name in module.names:

@@ -9,8 +9,9 @@ use Rattle.star_catalogue.specs.Load.{texts_view}
 use Rattle.star_engine.specs.declared.fault.EngineFault.{EngineFault}
 use Rattle.star_engine.specs.declared.fault.EngineFault.TheVariants as engine
 use Rattle.star_engine.specs.Answered.{Change, IsAnswered}
-use Rattle.star_engine.specs.Bench.{AllFit}
+use Rattle.star_engine.specs.Bench.{AllFit, IsBench}
 use Rattle.star_engine.specs.Executions.{IsQuoteOf, IsToldOf, IsUntold}
+use Rattle.star_engine.specs.Loads.{IsUnloaded}
 use Rattle.star_engine.specs.Noted.{IsNoted}
 use Rattle.star_engine.specs.Queries.{IsQueryQuote, IsQueryTold, IsUnanswered}
 use Rattle.star_engine.specs.Trials.{IsNoTrial, IsTrialReport}
@@ -50,6 +51,10 @@ no_whole_answer_is_false IsAnswer (Err fault, is, same) = let first : true ≡ f
 -- ---- the benchmark's queries, alone and behind a listing
 
 module _ {S : Type 0} (out : Change S) (texts : TableTexts) where
+  under_the_widest_limits : (result : Result Bool EngineFault) → IsBenched out texts result
+      → IsAnswered out (IsBench most_rows most_visits texts) (IsUnloaded most_rows texts) result
+  under_the_widest_limits result benched = benched.answered
+
   each_query_fits : IsBenched out texts (Ok true) → AllFit most_visits (database_of texts)
   each_query_fits benched = benched.fits.0 refl
 

@@ -38,12 +38,16 @@ module _ (folder : Bor (List ℕ)) where
   two_words = (codes "3", refl, refl)
 
   one_word : IsAskedBy (folder.now ∷ []) Nothing
-  one_word = (λ none. let one : 1 ≡ 0 = ap length none in omega (arith, one),
-      λ first second two. let one : 1 ≡ 2 = ap length two in absurd (omega (arith, one)))
+  one_word = (
+    λ none. let one : 1 ≡ 0 = ap length none in omega (arith, one),
+    λ first second two. let one : 1 ≡ 2 = ap length two in absurd (omega (arith, one)),
+  )
 
   no_number_of_runs : IsAskedBy (folder.now ∷ codes "0" ∷ []) Nothing
-  no_number_of_runs = (λ none. let two : 2 ≡ 0 = ap length none in omega (arith, two),
-      λ first word same. subst (λ w. runs_of w ≡ None) (ap second same) refl)
+  no_number_of_runs = (
+    λ none. let two : 2 ≡ 0 = ap length none in omega (arith, two),
+    λ first word same. subst (λ w. runs_of w ≡ None) (ap second same) refl,
+  )
     where
       second : List (List ℕ) → List ℕ
       second (first ∷ (word ∷ words)) = word
