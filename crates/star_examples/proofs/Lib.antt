@@ -49,3 +49,4 @@ mod EngineReads
 mod CommandReports
 mod CommandSessions
 mod CommandFolders
+mod Accepted
