@@ -200,8 +200,8 @@ module _ {S : Type 0} (loaded : Loaded) (first second third : Errand) (out : Cha
     (halt : Halt)
     (one : IsJudged loaded first.name.now first.file.now (record out { new = told }) (Ok true))
   where
-    one_would_be_refused : IsJudged loaded second.name.now second.file.now (record out { old = told })
-        (Ok false) → AreAllJudged loaded (first ∷ second ∷ []) out (Ok false)
+    one_would_be_refused : IsJudged loaded second.name.now second.file.now
+        (record out { old = told }) (Ok false) → AreAllJudged loaded (first ∷ second ∷ []) out (Ok false)
     one_would_be_refused other = (
       true,
       (

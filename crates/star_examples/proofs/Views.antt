@@ -20,7 +20,7 @@ use Rattle.star_query.specs.declared.tree.Condition.TheVariants.{Or', And', Not'
 use Rattle.star_query.specs.declared.tree.Measure.TheVariants as measure
 use Rattle.star_query.specs.declared.tree.Item.TheVariants as item
 use Rattle.star_query.specs.Tree as tree
-use Rattle.star_query.specs.Tree.{Tree, column, constant, add, sub, mul, or, and, not, count}
+use Rattle.star_query.specs.Tree.{column, constant, add, sub, mul, or, and, not, count}
 use Rattle.star_query.specs.Views.{literal_view, expression_view, test_view, condition_view, measure_view, item_view, name_view}
 use Rattle.star_compile_laws.proofs.PlanWords.{compare, between, summed, least, greatest}
 use Rattle.star_plan.specs.Views.{row_condition_view, column_expression_view, column_measure_view}

@@ -1,5 +1,5 @@
 -- What words ask for, the best and the median of times, their lines, and what is told of them.
-use Rattle.std.proofs.Common.{◌≡◌, ◌≤◌, ◌<◌, ◌++◌, ℕ, zero, suc, Bool, false, List, [], ◌∷◌, Option, Some, None, ap, append-nil, arith, inl, inr, lit≤, refl, subst, sym}
+use Rattle.std.proofs.Common.{◌≡◌, ◌≤◌, ◌<◌, ◌++◌, ℕ, zero, suc, Bool, false, List, [], ◌∷◌, Some, None, ap, append-nil, arith, inl, inr, lit≤, refl, subst, sym}
 use Rattle.std.specs.Prelude.{codes, length, map, slice_index_or}
 use Rattle.std.specs.Borrow.{Bor}
 use Rattle.std.specs.Fmt.{digits}
