@@ -146,7 +146,7 @@ module _ (loaded : Loaded) (file : List ℕ) where
       → IsJudged loaded name file untouched (Err (Unkept named 4)) → ⊥
   nothing_is_kept_without_a_run named judged = judged
 
--- ---- three files: the first answered, the second refused, the third what ends it
+-- ---- some files: of two the second is refused, of three the second ends them
 
 module _ {K : Type 0} (loaded : Loaded) where
   nothing_of_no_file : (shelf : K) → AreDelivered loaded []

@@ -95,7 +95,7 @@ clause_of_the_part = (report, refl, gained_in_part)
 clause_of_the_refusal : IsRefused untouched (Is of_load) of_load
 clause_of_the_refusal = (refl, refl)
 
--- want of memory may be told at any time, a failed write of no call that writes nothing
+-- want of memory is always a reason, a failed write never is
 want_of_memory : OrMemory (Is of_load) OutOfMemory
 want_of_memory = tt
 
