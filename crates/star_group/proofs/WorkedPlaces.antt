@@ -1,5 +1,5 @@
 -- The places of key lists whose keys lie in ranges, and what stands there.
-use Rattle.std.proofs.Common.{◌≡◌, ℕ, zero, suc, ◌<◌, ◌≤◌, ◌^◌, ◌-◌, Bool, true, false, true≢false, ℤ, pos, negsuc, List, [], ◌∷◌, Option, Some, None, map, slice_index_or, arith, refl, sym}
+use Rattle.std.proofs.Common.{◌≡◌, ℕ, zero, suc, ◌<◌, ◌^◌, ◌-◌, true, false, true≢false, ℤ, pos, negsuc, List, [], ◌∷◌, Some, None, map, slice_index_or, arith, refl, sym}
 use Rattle.star_schema.specs.declared.column.ColumnId.TheVariants.{PBrand1}
 use Rattle.star_schema.specs.declared.group.Aggregate.TheVariants.{Count, Max, Min, Sum}
 use Rattle.star_schema.specs.declared.group.Shape.TheVariants.{Plain}
@@ -13,7 +13,7 @@ use Rattle.star_group.specs.declared.placed.span.Span.{Span}
 use Rattle.star_group.specs.ByPlace.{AreAt, IsPlaced, cell_over, neutral}
 use Rattle.star_group.specs.Cells.{held}
 use Rattle.star_group.specs.Held.{has_puts}
-use Rattle.star_group.specs.Places.{IsOf, cell_place, is_at, is_outside, offset_of, places}
+use Rattle.star_group.specs.Places.{IsOf, cell_place, offset_of, places}
 use Rattle.star_group.specs.Stores.{Group}
 
 -- ---- where a key lies in its range: the numbers from -1 to 2, and the codes 5 and 6

@@ -1,5 +1,5 @@
 -- Which turns end early, and what they and the others leave, at a few bodies and rows.
-use Rattle.std.proofs.Common.{◌≡◌, ℕ, Bool, true, false, List, [], ◌∷◌, Option, Some, None, refl}
+use Rattle.std.proofs.Common.{◌≡◌, ℕ, Bool, true, false, [], ◌∷◌, Option, Some, None, refl}
 use Rattle.std.specs.Prelude.{◌+◌, map, pos, slice_index_or}
 use Rattle.star_schema.specs.declared.column.ColumnId.TheVariants.{LoQuantity}
 use Rattle.star_schema.specs.declared.table.TableId.TheVariants.{Customer, Lineorder}
@@ -8,7 +8,6 @@ use Rattle.star_program.specs.declared.fault.TrapKind.TheVariants.{AbsentKey}
 use Rattle.star_program.specs.declared.op.Op.TheVariants.{Keep, Put}
 use Rattle.star_program.specs.declared.op.Operation.TheVariants.{Binary, Const, Find, Load, Read}
 use Rattle.star_program.specs.declared.op.Operator.TheVariants.{Less}
-use Rattle.star_program.specs.declared.program.Parts.{Parts}
 use Rattle.star_program.specs.declared.value.Value.TheVariants.{Flag, Number, Row}
 use Rattle.star_program.specs.Code.{Code, Stop, Then}
 use Rattle.star_program.specs.Effects.{State, empty_state}

@@ -8,9 +8,7 @@ use Rattle.star_schema.specs.declared.group.Shape.TheVariants.{Plain}
 use Rattle.star_schema.specs.Schema.{column_of}
 use Rattle.star_query.specs.declared.token.Fold.TheVariants.{Max, Min, Sum}
 use Rattle.star_query.specs.declared.token.Relation.TheVariants.{Equal}
-use Rattle.star_query.specs.Tree as tree
 use Rattle.star_query.specs.Tree.{Condition, Item, Literal, Measure, Name, Test, Tree, aggregate, and, between, column, compare, comparison, count, fold, not, number, or, pair, plain, test, text}
-use Rattle.star_plan.specs.declared.tree.Join.{Join}
 use Rattle.star_plan.specs.Joins.{Pair, pairs_of, where_pairs}
 use Rattle.star_plan.specs.Names.{column_called}
 use Rattle.star_plan.specs.Naming.{aggregate_names, default_name, function_word}

@@ -8,8 +8,7 @@ use Rattle.star_schema.specs.declared.group.GroupColumn.TheVariants.{Key, Aggreg
 use Rattle.star_schema.specs.declared.group.Shape.TheVariants.{Plain}
 use Rattle.star_schema.specs.Schema.{column_of}
 use Rattle.star_schema.specs.Tables.{Number}
-use Rattle.star_query.specs.declared.token.Relation.TheVariants.{Equal, Less}
-use Rattle.star_query.specs.Tree as tree
+use Rattle.star_query.specs.declared.token.Relation.TheVariants.{Equal}
 use Rattle.star_query.specs.Tree.{Condition, Expression, Name, Test, Tree, add, aggregate, and, between, column, compare, comparison, constant, count, mul, not, number, or, pair, plain, sub, test}
 use Rattle.star_plan.specs.Meaning.{Plan}
 use Rattle.star_plan.specs.Names.{column_called}

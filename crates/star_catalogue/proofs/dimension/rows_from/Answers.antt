@@ -1,4 +1,4 @@
-use Rattle.std.proofs.Common.{◌≡◌, ◌≢◌, ◌∙◌, ◌<◌, ◌-ℤ◌, ◌≤ℤ◌, ℕ, List, pos, false, FitsSigned, Some, w64, get_or, length, set, sym, ap, inr, arith, rules, to_z-of_z, length-set}
+use Rattle.std.proofs.Common.{◌≡◌, ◌≢◌, ◌∙◌, ◌<◌, ◌-ℤ◌, ◌≤ℤ◌, ℕ, List, pos, FitsSigned, Some, w64, get_or, length, set, sym, ap, inr, arith, rules, to_z-of_z, length-set}
 use Rattle.std.specs.Int.RustNames.{unsigned_abs}
 use Rattle.std.specs.List.{slice_get}
 use Rattle.std.specs.Option.{option_map}

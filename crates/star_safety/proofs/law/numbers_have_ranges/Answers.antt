@@ -1,6 +1,6 @@
 -- Of what is known only a range is of a number's kind.
 use Rattle.std.specs.Option.{option_map}
-use Rattle.std.proofs.Common.{◌≡◌, false, true, Option, Some, None, refl}
+use Rattle.std.proofs.Common.{◌≡◌, Option, Some, None, refl}
 use Rattle.star_schema.specs.declared.column.ColumnId.{ColumnId}
 use Rattle.star_interval.specs.Range.{Range}
 use Rattle.star_program.specs.Faults.{is_number_kind}
