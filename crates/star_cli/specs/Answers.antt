@@ -15,10 +15,10 @@ use Rattle.star_engine.specs.Noted.{IsNoted}
 use Rattle.star_engine.specs.Queries.{IsExplained, IsNoQuery, IsQueryQuote, IsQueryTold, IsUnanswered}
 use Rattle.star_engine.specs.QuoteTexts.{IsQuoteText, IsUnquoted}
 use Rattle.star_engine.specs.Trials.{IsNoTrial, IsTrialReport}
-use Rattle.star_cli.specs.Lines.{IsFaultTold}
+use Rattle.star_service.specs.Lines.{IsFaultTold}
 use Rattle.star_cli.specs.declared.answers.Bytes.{Bytes}
-use Rattle.star_cli.specs.declared.words.Task.{Task}
-use Rattle.star_cli.specs.declared.words.Task.TheVariants.{Sample, Check, Bench, Query, Explain, Exec, Quote, Trial}
+use Rattle.star_words.specs.declared.request.Task.{Task}
+use Rattle.star_words.specs.declared.request.Task.TheVariants.{Sample, Check, Bench, Query, Explain, Exec, Quote, Trial}
 
 -- the Ok of a call that refuses nothing by it
 abbrev pub none_refused : Result (Unit {0}) EngineFault → Result Bool EngineFault

@@ -1,29 +1,24 @@
 -- What keeps a command from an answer, its line, and its exit status.
-use Rattle.std.specs.Prelude.{◌≡◌, ◌==◌, ◌++◌, ◌⊎◌, ℕ, List, Bool, true, false, Option, Some, None, IfSome, codes, decimal}
-use Rattle.clap.specs.Values.{kind_of}
-use Rattle.clap.specs.declared.error.Error.{Error}
-use Rattle.clap.specs.declared.error.kind.ErrorKind.{ErrorKind}
-use Rattle.clap.specs.declared.error.kind.ErrorKind.TheVariants as kinds
-use Rattle.clap.specs.declared.error.kind.ErrorKind.TheVariants.{DisplayHelp, DisplayVersion}
+use Rattle.std.specs.Prelude.{◌≡◌, ◌==◌, ◌++◌, ◌⊎◌, ℕ, List, Bool, true, false, Option, Some, Result, Ok, Err, IfSome, codes, decimal}
 use Rattle.star_engine.specs.Answered.{Change, IsUntouched}
 use Rattle.star_engine.specs.FaultTexts.{engine_fault_text}
 use Rattle.star_engine.specs.declared.fault.EngineFault.{EngineFault}
 use Rattle.star_engine.specs.declared.fault.EngineFault.TheVariants as engine
 use Rattle.std.specs.Borrow.{Bor}
-use Rattle.star_cli.specs.Lines.{IsTextTold, fault_status}
-use Rattle.star_cli.specs.Names.{printed_name}
+use Rattle.star_service.specs.Lines.{IsTextTold, fault_status}
+use Rattle.star_service.specs.Names.{printed_name}
+use Rattle.star_service.specs.declared.reports.Halt.{Halt}
+use Rattle.star_service.specs.declared.reports.Halt.TheVariants as halts
+use Rattle.star_words.specs.Faults.{words_fault_status, words_fault_text}
+use Rattle.star_words.specs.declared.fault.WordsFault.{WordsFault}
+use Rattle.star_words.specs.declared.fault.WordsFault.TheVariants as words
 use Rattle.star_cli.specs.declared.failure.Failure.{Failure}
-use Rattle.star_cli.specs.declared.reports.Halt.{Halt}
-use Rattle.star_cli.specs.declared.reports.Halt.TheVariants as halts
-use Rattle.star_cli.specs.declared.failure.Failure.TheVariants.{Words, NotText, EmptyFolder, NoCommand, File, Part, Unnamed, NamedTwice, OfFile, Unkept, Unwritten, OutOfMemory}
+use Rattle.star_cli.specs.declared.failure.Failure.TheVariants.{Words, File, Part, Unnamed, NamedTwice, OfFile, Unkept, Unwritten, OutOfMemory}
 
--- an error of the parser of the words: it too may want memory
-abbrev pub failure_of_kind : Error → ErrorKind → Failure
-failure_of_kind error kinds.OutOfMemory = OutOfMemory
-failure_of_kind error kind = Words error
-
-abbrev pub failure_of_words : Error → Failure
-failure_of_words error = failure_of_kind error (kind_of error)
+-- words that ask for nothing: that too may be for want of memory
+abbrev pub failure_of_words : WordsFault → Failure
+failure_of_words words.OutOfMemory = OutOfMemory
+failure_of_words fault = Words fault
 
 -- a file that can't be read as a query or a program: that too may be for want of memory
 abbrev pub failure_of_file : Bor (List ℕ) → EngineFault → Failure
@@ -36,12 +31,9 @@ failure_of_halt halts.OutOfMemory = OutOfMemory
 failure_of_halt (halts.Unkept name sent) = Unkept name sent
 failure_of_halt (halts.Unwritten sent) = Unwritten sent
 
--- its line, where that is known: of the words it is the parser's
+-- its line, where that is known: of words it may be the parser's
 unfoldable pub failure_text : Failure → Option (List ℕ)
-failure_text (Words error) = None
-failure_text NotText = Some (codes "error: a word is not UTF-8\n")
-failure_text EmptyFolder = Some (codes "error: the folder's name is empty\n")
-failure_text NoCommand = Some (codes "error: the words are no command\n")
+failure_text (Words fault) = words_fault_text fault
 failure_text (File name) = Some (codes "file " ++ (printed_name name.now ++ codes "\n"))
 failure_text (Part number) = Some (codes "file lineorder.tbl." ++ (decimal number ++ codes "\n"))
 failure_text (Unnamed path) =
@@ -57,17 +49,8 @@ failure_text OutOfMemory = Some (codes "memory\n")
 
 -- ---- the exit status
 
--- of words that the parser lets not pass: help and the version are no fault
-abbrev pub words_status : ErrorKind → ℕ
-words_status DisplayHelp = 0
-words_status DisplayVersion = 0
-words_status kind = 2
-
 abbrev pub status_of : Failure → ℕ
-status_of (Words error) = words_status (kind_of error)
-status_of NotText = 2
-status_of EmptyFolder = 2
-status_of NoCommand = 2
+status_of (Words fault) = words_fault_status fault
 status_of (File name) = 6
 status_of (Part number) = 6
 status_of (Unnamed path) = 2
@@ -95,3 +78,12 @@ IsFailureTold failure out err status = (told : Failure)
     × ((told ≡ failure) ⊎ (told ≡ OutOfMemory))
     × ((text : List ℕ) × IsTextOf told text × IsToldOn (status == 0) out err text)
     × (status ≡ status_of told)
+
+-- ---- the end of reports
+
+-- how reports end: 0 where all files were answered, or would be, 1 where one was refused; and what
+-- ended them before the last is told with its own
+abbrev pub AreReportsEnded : {S E : Type 0} → Change S → Change E → Result Bool Halt → ℕ → Type 0
+AreReportsEnded out err (Ok true) status = IsUntouched out × IsUntouched err × (status ≡ 0)
+AreReportsEnded out err (Ok false) status = IsUntouched out × IsUntouched err × (status ≡ 1)
+AreReportsEnded out err (Err halt) status = IsFailureTold (failure_of_halt halt) out err status

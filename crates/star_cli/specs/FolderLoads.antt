@@ -8,7 +8,7 @@ use Rattle.star_engine.specs.Answered.{Change, IsUntouched}
 use Rattle.star_engine.specs.Loads.{Loaded}
 use Rattle.star_cli.specs.declared.failure.Failure.{Failure}
 use Rattle.star_cli.specs.Failures.{IsFailureTold}
-use Rattle.star_cli.specs.Lines.{IsFaultTold}
+use Rattle.star_service.specs.Lines.{IsFaultTold}
 
 -- the rows of five texts that can be loaded
 abbrev pub AreLoadableRows : Database → Type 0

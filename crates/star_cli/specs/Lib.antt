@@ -1,10 +1,5 @@
 pub mod Answers
 pub mod Failures
 pub mod FolderLoads
-pub mod Lines
-pub mod Names
 pub mod Private
 pub mod ReadFolders
-pub mod Reports
-pub mod Sessions
-pub mod Shelves

@@ -7,11 +7,11 @@ ghost use Rattle.star_cli.specs.Answers.{IsEnded, IsExit, IsExitOf, IsGiven, IsG
 ghost use Rattle.star_cli.specs.ReadFolders.{AreWidelyRead};
 ghost use Rattle.star_engine.specs.Answered.{change};
 
-use crate::lines::tell_fault;
-use crate::words::Task;
 use crate::{calls, folder_calls};
 use star_common::Sink;
 use star_engine::{EngineFault, ReadTables, Texts, sample};
+use star_service::tell_fault;
+use star_words::Task;
 use std::alloc::Global;
 
 /// The bytes that were read for a task: the five tables, and the task's file where it has

@@ -3,23 +3,21 @@
 ghost use Rattle.std.specs.Prelude.{◌≡◌, true, IfOk, IfSome};
 ghost use Rattle.star_cli.specs.ReadFolders.{AreWidelyRead};
 ghost use Rattle.star_engine.specs.Answered.{change};
-ghost use Rattle.star_cli.specs.Reports.{AreAllJudged};
+ghost use Rattle.star_service.specs.Reports.{AreAllJudged};
 
 use crate::answers::{Bytes, answer, answer_read};
+use crate::directory::Directory;
 use crate::errands::{ReadFile, errands_of, read_files};
-use crate::failure::Failure;
+use crate::failure::{Failure, end};
 use crate::files::{find_folder, read_file, read_tables};
 use crate::input::StandardInput;
-use crate::lines::tell;
 use crate::loads::load_engine;
 use crate::progress::Watch;
-use crate::reports::{Errand, Halt, deliver_all, end, judge_all};
-use crate::sessions::hold;
-use crate::shelf::Directory;
-use crate::words::{Reports, Request, Task, request_of};
 use star_common::{Out, Sink};
 use star_engine::{Engine, ReadTables, sample};
+use star_service::{Errand, Halt, deliver_all, hold, judge_all, tell};
 use star_statements::Source;
+use star_words::{Reports, Request, Task, WordsFault, request_of};
 use std::alloc::{AllocError, Global};
 use std::io::{BufReader, Write};
 use std::rt::{Env, Files};
@@ -237,7 +235,7 @@ pub fn command<R: Files + AllocGlobal, I: io::Read + Drop, P: Watch, W: Write, E
             hold_session(rt, folder, input, progress, &mut answers, &mut notes)
         }
         Ok(Request::Reports(asked)) => make_reports(rt, &asked, progress, &mut answers, &mut notes),
-        Err(failure) => failure.tell(rt.alloc(), &mut answers, &mut notes),
+        Err(fault) => Failure::from(fault).tell(rt.alloc(), &mut answers, &mut notes),
     }
 }
 
@@ -254,7 +252,7 @@ fn failure_of_words(error: &io::Error) -> Failure<'static> {
     if error.kind() == io::ErrorKind::OutOfMemory {
         Failure::from(AllocError)
     } else {
-        Failure::NotText
+        Failure::Words(WordsFault::NotText)
     }
 }
 

@@ -6,8 +6,8 @@ ghost use Rattle.std.specs.Path.{path_file_stem};
 
 use crate::failure::Failure;
 use crate::files::read_file;
-use crate::reports::Errand;
 use star_engine::check_text;
+use star_service::Errand;
 use std::alloc::{AllocError, Global};
 use std::path::Path;
 use std::rt::Files;

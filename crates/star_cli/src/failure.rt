@@ -3,30 +3,21 @@
 ghost use Rattle.std.specs.Prelude.{◌≡◌, ◌==◌, IfOk, string_bytes};
 ghost use Rattle.star_common.specs.Memory.{TellsMemory};
 ghost use Rattle.star_engine.specs.Answered.{change};
-ghost use Rattle.star_cli.specs.Failures.{IsFailureTold, IsTextOf, IsToldOn, failure_of_file, failure_of_halt, failure_of_words, failure_text, status_of, words_status};
+ghost use Rattle.star_cli.specs.Failures.{AreReportsEnded, IsFailureTold, IsTextOf, IsToldOn, failure_of_file, failure_of_halt, failure_of_words, failure_text, status_of};
 ghost use Rattle.star_cli.specs.declared.failure.Failure.TheVariants.{OutOfMemory};
 
-use crate::lines::{MEMORY_LINE, MEMORY_STATUS, status_of, tell};
-use crate::names::Shown;
-use crate::reports::Halt;
-use clap::Error;
-use clap::error::ErrorKind;
 use star_common::Sink;
 use star_engine::{EngineFault, FaultLine};
+use star_service::{Halt, MEMORY_LINE, MEMORY_STATUS, Shown, status_of, tell};
+use star_words::WordsFault;
 use std::alloc::{AllocError, Global};
 use std::fmt;
 
 /// Why a command ended without its whole answer.
 #[derive(Drop)]
 pub(crate) enum Failure<'a> {
-    /// The words are no command, or ask for help or the version.
-    Words(Error),
-    /// A word is not UTF-8.
-    NotText,
-    /// The folder's name is empty: its files would be those at the root of the file system.
-    EmptyFolder,
-    /// The words begin with no command, and the parser of words finds nothing wrong with them.
-    NoCommand,
+    /// The words ask for nothing that can be done, or for help or the version.
+    Words(WordsFault),
     /// A file could not be read, or is too large.
     File(&'a str),
     /// The part of lineorder with this number, from 1, could not be read, is too large, or is one
@@ -54,13 +45,13 @@ impl<'a> From<AllocError> for Failure<'a> {
     }
 }
 
-impl<'a> From<Error> for Failure<'a> {
-    ghost from_gives = { λ error failure. failure ≡ failure_of_words error };
+impl<'a> From<WordsFault> for Failure<'a> {
+    ghost from_gives = { λ fault failure. failure ≡ failure_of_words fault };
 
-    fn from(error: Error) -> Failure<'a> {
-        match error.kind() {
-            ErrorKind::OutOfMemory => Failure::OutOfMemory,
-            _ => Failure::Words(error),
+    fn from(fault: WordsFault) -> Failure<'a> {
+        match fault {
+            WordsFault::OutOfMemory => Failure::OutOfMemory,
+            fault => Failure::Words(fault),
         }
     }
 }
@@ -83,10 +74,7 @@ impl<'a> fmt::Display for Failure<'a> {
     #[tactic(auto, unfolding(crate::specs::Failures::failure_text))]
     fn fmt<W: fmt::Write>(&self, f: &mut fmt::Formatter<W>) -> fmt::Result {
         match self {
-            Failure::Words(error) => write!(f, "{error}"),
-            Failure::NotText => f.write_str("error: a word is not UTF-8\n"),
-            Failure::EmptyFolder => f.write_str("error: the folder's name is empty\n"),
-            Failure::NoCommand => f.write_str("error: the words are no command\n"),
+            Failure::Words(fault) => write!(f, "{fault}"),
             Failure::File(name) => writeln!(f, "file {}", Shown(name)),
             Failure::Part(number) => writeln!(f, "file lineorder.tbl.{number}"),
             Failure::Unnamed(path) => writeln!(
@@ -107,16 +95,6 @@ impl<'a> fmt::Display for Failure<'a> {
     }
 }
 
-// Help and the version are no fault.
-fn status_of_words(kind: ErrorKind) -> u8
-    ensures { result ≡ words_status kind }
-{
-    match kind {
-        ErrorKind::DisplayHelp | ErrorKind::DisplayVersion => 0,
-        _ => 2,
-    }
-}
-
 impl<'a> Failure<'a> {
     /// Why the file at a path is no query and no program; or want of memory.
     pub(crate) fn of_file(path: &'a str, fault: EngineFault) -> Failure<'a>
@@ -133,8 +111,7 @@ impl<'a> Failure<'a> {
         ensures { result ≡ status_of self.now }
     {
         match self {
-            Failure::Words(error) => status_of_words(error.kind()),
-            Failure::NotText | Failure::EmptyFolder | Failure::NoCommand => 2,
+            Failure::Words(fault) => fault.status(),
             Failure::Unnamed(_) | Failure::NamedTwice(_) => 2,
             Failure::File(_) | Failure::Part(_) => 6,
             Failure::Unkept(_, _) | Failure::Unwritten(_) => 6,
@@ -182,5 +159,23 @@ impl<'a> Failure<'a> {
                 MEMORY_STATUS
             }
         }
+    }
+}
+
+/// Tells what ended reports before the last, if anything did, and gives the exit status: 0 where no
+/// file was refused, 1 where one was.
+pub(crate) fn end<S: Sink, E: Sink>(
+    alloc: Global,
+    made: Result<bool, Halt<'_>>,
+    out: &mut S,
+    err: &mut E,
+) -> u8
+    ensures { AreReportsEnded (change S.contents S.is_failed out.old out.new)
+        (change E.contents E.is_failed err.old err.new) made.entry result }
+{
+    match made {
+        Ok(true) => 0,
+        Ok(false) => 1,
+        Err(halt) => Failure::from(halt).tell(alloc, out, err),
     }
 }

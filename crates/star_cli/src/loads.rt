@@ -7,12 +7,13 @@ ghost use Rattle.star_cli.specs.ReadFolders.{AreWidelyRead};
 
 use crate::failure::Failure;
 use crate::files::read_tables;
-use crate::lines::tell_fault;
 use crate::progress::Watch;
 use star_catalogue::Catalogue;
 use star_common::Sink;
 use star_engine::{Engine, EngineFault, ReadTables};
 use star_schema::Limits;
+use star_service::tell_fault;
+use star_words::WordsFault;
 use std::alloc::{AllocError, Global};
 use std::rt::Files;
 
@@ -42,7 +43,7 @@ fn read_named<R: Files + AllocGlobal, P: Watch>(
     ensures { IfOk result AreWidelyRead }
 {
     if folder.is_empty() {
-        return Err(Failure::EmptyFolder);
+        return Err(Failure::Words(WordsFault::EmptyFolder));
     }
     read_tables(rt, folder, progress)
 }

@@ -3,21 +3,23 @@ use Rattle.std.proofs.Common.{◌≡◌, ℕ, true, false, List, [], ◌∷◌, 
 use Rattle.std.specs.Prelude.{codes, map}
 use Rattle.clap.specs.Values.{kind_of}
 use Rattle.clap.specs.declared.error.Error.{Error}
-use Rattle.clap.specs.declared.error.kind.ErrorKind.TheVariants.{DisplayHelp, DisplayVersion, OutOfMemory, UnknownArgument}
+use Rattle.clap.specs.declared.error.kind.ErrorKind.{ErrorKind}
+use Rattle.clap.specs.declared.error.kind.ErrorKind.TheVariants.{DisplayHelp, OutOfMemory, UnknownArgument}
 use Rattle.star_engine.specs.Answered.{Change}
-use Rattle.star_cli.specs.Failures.{IsFailureTold, IsToldOn, failure_of_kind, failure_text, status_of, words_status}
-use Rattle.star_cli.specs.Lines.{IsTextTold}
+use Rattle.star_words.specs.Faults.{fault_of_kind, words_fault_text, words_status}
+use Rattle.star_cli.specs.Failures.{IsFailureTold, IsToldOn, failure_of_words, failure_text, status_of}
+use Rattle.star_cli.specs.declared.failure.Failure.{Failure}
+use Rattle.star_service.specs.Lines.{IsTextTold}
 
 -- ---- what the parser of words lets not pass: its own text, its status by its kind, and want of
 -- memory as any other
 
-statuses_of_words : map words_status (DisplayHelp ∷ DisplayVersion ∷ UnknownArgument ∷ [])
-    ≡ 0 ∷ 0 ∷ 2 ∷ []
-statuses_of_words = refl
+abbrev failure_of_kind : Error → ErrorKind → Failure
+failure_of_kind error kind = failure_of_words (fault_of_kind error kind)
 
 module _ (error : Error) where
   the_text_of_the_parser : failure_text (failure_of_kind error UnknownArgument) ≡ None
-  unfolding failure_text
+  unfolding failure_text words_fault_text
   the_text_of_the_parser = refl
 
   the_status_of_the_parser :
@@ -26,7 +28,7 @@ module _ (error : Error) where
 
   the_text_of_want_of_memory :
       failure_text (failure_of_kind error OutOfMemory) ≡ Some (codes "memory\n")
-  unfolding failure_text
+  unfolding failure_text words_fault_text
   the_text_of_want_of_memory = refl
 
   the_status_of_want_of_memory : status_of (failure_of_kind error OutOfMemory) ≡ 7
@@ -64,13 +66,13 @@ module _ {S E : Type 0} (out : Change S) (err : Change E) (error : Error) where
 
   want_of_memory_is_told : out.new ≡ out.old → IsTextTold err (codes "memory\n")
       → IsFailureTold (failure_of_kind error OutOfMemory) out err 7
-  unfolding failure_text
+  unfolding failure_text words_fault_text
   want_of_memory_is_told same told =
       (failure_of_kind error OutOfMemory, inl refl, (codes "memory\n", refl, (same, told)), refl)
 
   -- where there is no memory for a text, that is told in its place
   want_of_memory_is_told_for_another : out.new ≡ out.old → IsTextTold err (codes "memory\n")
       → IsFailureTold (failure_of_kind error UnknownArgument) out err 7
-  unfolding failure_text
+  unfolding failure_text words_fault_text
   want_of_memory_is_told_for_another same told =
       (failure_of_kind error OutOfMemory, inr refl, (codes "memory\n", refl, (same, told)), refl)

@@ -15,7 +15,7 @@ use Rattle.star_engine.specs.declared.fault.EngineFault.{EngineFault}
 use Rattle.star_engine.specs.declared.fault.EngineFault.TheVariants.{OutOfMemory, Query, Plan, Program, Load, Refused, Trial, Write}
 use Rattle.star_engine.specs.Answered.{Change, HasGained, HasGainedPart}
 use Rattle.star_engine.specs.FaultTexts.{engine_fault_text}
-use Rattle.star_cli.specs.Lines.{IsFaultTold, IsTextTold, fault_line, fault_status}
+use Rattle.star_service.specs.Lines.{IsFaultTold, IsTextTold, fault_line, fault_status}
 
 statuses : map fault_status
     (Refused (TooCostly 10) ∷ Trial Limit ∷ Load (DuplicateKey Lineorder 5) ∷ Query (Unexpected 20)

@@ -12,11 +12,11 @@ use Rattle.star_catalogue.specs.declared.read_tables.ReadTables.{ReadTables}
 use Rattle.star_engine.specs.declared.fault.EngineFault.{EngineFault}
 use Rattle.star_engine.specs.Answered.{Change}
 use Rattle.star_engine.specs.Loads.{loaded_of}
-use Rattle.star_cli.specs.declared.words.Task.TheVariants.{Bench, Explain, Sample, Trial}
+use Rattle.star_words.specs.declared.request.Task.TheVariants.{Bench, Explain, Sample, Trial}
 use Rattle.star_cli.specs.Answers.{IsOfFolder}
 use Rattle.star_cli.specs.Failures.{IsFailureTold}
 use Rattle.star_cli.specs.FolderLoads.{AreLoadableRows, IsFolderRefused, IsWidest}
-use Rattle.star_cli.specs.Lines.{IsFaultTold}
+use Rattle.star_service.specs.Lines.{IsFaultTold}
 use Rattle.star_cli.specs.ReadFolders.{AreWidelyRead, HasReadSome, StaysBetween}
 
 -- ---- which tasks load a folder

@@ -6,13 +6,13 @@ use Rattle.star_engine.specs.declared.fault.EngineFault.{EngineFault}
 use Rattle.star_engine.specs.Answered.{Change, HasGained, HasGainedPart}
 use Rattle.star_engine.specs.Loads.{Loaded}
 use Rattle.star_engine.specs.Tellings.{IsFileToldOver, IsJudgedOver, IsUnjudgedOver}
-use Rattle.star_cli.specs.Failures.{IsFailureTold, failure_of_halt}
-use Rattle.star_cli.specs.Reports.{AreAllDelivered, AreAllJudged, AreDelivered, AreJudged, AreReportsEnded, IsDelivered, IsJudged, IsRefusedLine, IsReportKept, named_line, refused_line, told_line}
-use Rattle.star_cli.specs.Shelves.{Adds, HasFailedAt, HasKept, HasKeptNone, IsUnkept, Kept, KeepsAll, Shelving, shelving}
-use Rattle.star_cli.specs.declared.reports.Errand.{Errand}
-use Rattle.star_cli.specs.declared.reports.Halt.{Halt}
-use Rattle.star_cli.specs.declared.reports.Halt.TheVariants.{OutOfMemory, Unkept, Unwritten}
-use Rattle.star_cli.specs.declared.shelf.ShelfFault.TheVariants as shelf_fault
+use Rattle.star_cli.specs.Failures.{AreReportsEnded, IsFailureTold, failure_of_halt}
+use Rattle.star_service.specs.Reports.{AreAllDelivered, AreAllJudged, AreDelivered, AreJudged, IsDelivered, IsJudged, IsRefusedLine, IsReportKept, named_line, refused_line, told_line}
+use Rattle.star_service.specs.Shelves.{Adds, HasFailedAt, HasKept, HasKeptNone, IsUnkept, Kept, KeepsAll, Shelving, shelving}
+use Rattle.star_service.specs.declared.reports.Errand.{Errand}
+use Rattle.star_service.specs.declared.reports.Halt.{Halt}
+use Rattle.star_service.specs.declared.reports.Halt.TheVariants.{OutOfMemory, Unkept, Unwritten}
+use Rattle.star_service.specs.declared.shelf.ShelfFault.TheVariants as shelf_fault
 use Rattle.star_examples.proofs.EngineSinks.{Sink, grown, report, telling, untouched}
 
 -- ---- a shelf

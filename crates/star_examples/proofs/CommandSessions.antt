@@ -16,9 +16,9 @@ use Rattle.star_engine.specs.Loads.{Loaded}
 use Rattle.star_engine.specs.Noted.{IsNoted}
 use Rattle.star_engine.specs.Queries.{IsExplained, IsNoQuery, IsQueryQuoteOver, IsQueryToldOver, IsUnansweredOver}
 use Rattle.star_engine.specs.QuoteTexts.{IsQuoteTextOver, IsUnquotedOver}
-use Rattle.star_cli.specs.Lines.{IsFaultTold, IsTextTold}
-use Rattle.star_cli.specs.Sessions.{AreAllAnswered, AreAnswered, AreRounds, IsAnswerTo, IsConversed, IsLineEnded, IsReported, IsReportEnded, IsRound, IsSession, IsSessionEnded, IsStatementUnread, IsStep, IsStepEnded, IsUnwritten, may_go_on, parting_of, prompt_of}
-use Rattle.star_cli.specs.declared.sessions.Stop.TheVariants.{Unread, Unwritten}
+use Rattle.star_service.specs.Lines.{IsFaultTold, IsTextTold}
+use Rattle.star_service.specs.Sessions.{AreAllAnswered, AreAnswered, AreRounds, IsAnswerTo, IsConversed, IsLineEnded, IsReported, IsReportEnded, IsRound, IsSession, IsSessionEnded, IsStatementUnread, IsStep, IsStepEnded, IsUnwritten, may_go_on, parting_of, prompt_of}
+use Rattle.star_service.specs.declared.sessions.Stop.TheVariants.{Unread, Unwritten}
 use Rattle.star_examples.proofs.EngineSinks.{Answer, Sink, grown, of_load, untouched, well}
 
 abbrev told_of : List ℕ → Change Sink

@@ -16,10 +16,10 @@ use Rattle.star_engine.specs.Noted.{IsNoted}
 use Rattle.star_engine.specs.Queries.{IsQueryQuote, IsQueryTold, IsUnanswered}
 use Rattle.star_engine.specs.Trials.{IsNoTrial, IsTrialReport}
 use Rattle.star_cli.specs.declared.answers.Bytes.{Bytes}
-use Rattle.star_cli.specs.declared.words.Task.{Task}
-use Rattle.star_cli.specs.declared.words.Task.TheVariants.{Sample, Check, Bench, Query, Explain, Exec, Quote, Trial}
+use Rattle.star_words.specs.declared.request.Task.{Task}
+use Rattle.star_words.specs.declared.request.Task.TheVariants.{Sample, Check, Bench, Query, Explain, Exec, Quote, Trial}
 use Rattle.star_cli.specs.Answers.{IsBenched, IsEnded, IsExecuted, IsExit, IsExplanation, IsGiven, IsListed, IsListedAndBenched, IsNoneRefused, IsQueried, IsQuoted, IsTried, none_refused}
-use Rattle.star_cli.specs.Lines.{IsFaultTold}
+use Rattle.star_service.specs.Lines.{IsFaultTold}
 
 abbrev Answer : Type 0
 Answer = Result (Unit {0}) EngineFault

@@ -10,7 +10,7 @@ use Rattle.star_engine.specs.declared.thirteen.TheConstants.{THIRTEEN}
 use Rattle.star_engine.specs.Answered.{Change, change}
 use Rattle.star_engine.specs.Thirteen.{query_name}
 use Rattle.star_cli.specs.FolderLoads.{IsFolderRefused}
-use Rattle.star_cli.specs.Lines.{IsFaultTold, IsTextTold}
+use Rattle.star_service.specs.Lines.{IsFaultTold, IsTextTold}
 use Rattle.star_timing.specs.declared.asked.Asked.TheVariants.{Nothing, Times, Usage}
 use Rattle.star_timing.specs.declared.failure.Failure.{Failure}
 use Rattle.star_timing.specs.declared.failure.Failure.TheVariants.{Clock, Engine}

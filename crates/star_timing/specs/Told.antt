@@ -1,7 +1,7 @@
 -- What the program tells, where, and its exit status.
 use Rattle.std.specs.Prelude.{◌≡◌, ◌⊎◌, ◌++◌, ℕ, List, codes}
 use Rattle.star_cli.specs.FolderLoads.{IsFolderRefused}
-use Rattle.star_cli.specs.Lines.{IsFaultTold, IsTextTold}
+use Rattle.star_service.specs.Lines.{IsFaultTold, IsTextTold}
 use Rattle.star_engine.specs.Answered.{Change, HasGained, IsUntouched}
 use Rattle.star_engine.specs.declared.thirteen.TheConstants.{THIRTEEN}
 use Rattle.star_timing.specs.Lines.{AreLines}

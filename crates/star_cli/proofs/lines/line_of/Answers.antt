@@ -1,7 +1,0 @@
-use Rattle.std.proofs.Common.{rules}
-use Rattle.star_cli.specs.Lines.{fault_line}
-use Rattle.star_cli.proofs.lines.line_of.Goals as goal
-
-pub returns : goal.returns
-unfolding fault_line
-returns c = search rules

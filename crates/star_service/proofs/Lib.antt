@@ -1,0 +1,7 @@
+mod NameLemmas
+mod Conversing
+mod ReportLemmas
+mod SessionLemmas
+mod Telling
+mod WorkedFaults
+mod WorkedReports

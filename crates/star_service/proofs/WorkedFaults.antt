@@ -1,0 +1,30 @@
+-- The lines of faults as they are read, and names of files on one line.
+use Rattle.std.proofs.Common.{◌≡◌, ℕ, List, [], ◌∷◌, true, encode_utf8_all, flat_map, refl, ap}
+use Rattle.std.proofs.lemmas.Str.{chars-encodes}
+use Rattle.std.specs.Prelude.{codes, map}
+use lib.Utf8.{encode, scalars}
+use Rattle.std.specs.Fmt.{digits}
+use Rattle.star_engine.specs.FaultTexts.{engine_fault_text}
+use Rattle.star_engine.specs.declared.fault.EngineFault.TheVariants.{OutOfMemory, Write}
+use Rattle.star_service.specs.Lines.{fault_line}
+use Rattle.star_service.specs.Names.{printed_letter, printed_name}
+
+lines : map fault_line (OutOfMemory ∷ Write 65536 ∷ [])
+    ≡ codes "memory\n" ∷ codes "write 65536\n" ∷ []
+unfolding fault_line engine_fault_text digits
+lines = refl
+
+-- of a name in UTF-8 the letters are shown
+by_letters : (letters : List ℕ) → scalars letters ≡ true
+    → printed_name (encode_utf8_all letters) ≡ flat_map printed_letter letters
+unfolding printed_name
+by_letters letters valid = ap (flat_map printed_letter) (chars-encodes letters valid)
+
+-- what would be two lines is one; a zero, a mark of ASCII and one beyond it are escaped; quotes
+-- stay, and so does a letter beyond ASCII
+names : map (flat_map printed_letter) (codes "a\nload 1" ∷ codes "a\\n" ∷ (0 ∷ 27 ∷ 127 ∷ 133 ∷ [])
+    ∷ (39 ∷ 34 ∷ 233 ∷ []) ∷ [])
+    ≡ codes "a\\nload 1" ∷ codes "a\\\\n" ∷ codes "\\0\\u{1b}\\u{7f}\\u{85}"
+    ∷ (39 ∷ 34 ∷ 195 ∷ 169 ∷ []) ∷ []
+unfolding encode
+names = refl

@@ -1,0 +1,6 @@
+pub mod Lines
+pub mod Names
+pub mod Private
+pub mod Reports
+pub mod Sessions
+pub mod Shelves

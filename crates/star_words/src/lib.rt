@@ -1,0 +1,10 @@
+//! What the words of a command line ask for, and what is told of words that ask for nothing.
+#![tactic(auto)]
+
+mod fault;
+mod help;
+mod parser;
+mod request;
+
+pub use crate::fault::WordsFault;
+pub use crate::request::{Reports, Request, Task, request_of};
