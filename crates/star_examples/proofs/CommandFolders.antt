@@ -1,5 +1,5 @@
--- What the load of a folder gives: readers of five tables, an engine over their rows, or what is
--- told.
+-- What words ask for, and what the load of a folder gives: readers of five tables, an engine over
+-- their rows, or what is told.
 use Rattle.std.proofs.Common.{◌≡◌, ◌++◌, ℕ, List, [], ◌∷◌, inl, inr, refl}
 use Rattle.star_schema.specs.declared.limits.Limits.{Limits}
 use Rattle.star_schema.specs.declared.table.TableId.{TableId}
@@ -12,6 +12,8 @@ use Rattle.star_catalogue.specs.declared.read_tables.ReadTables.{ReadTables}
 use Rattle.star_engine.specs.declared.fault.EngineFault.{EngineFault}
 use Rattle.star_engine.specs.Answered.{Change}
 use Rattle.star_engine.specs.Loads.{loaded_of}
+use Rattle.star_words.specs.Requests.{HasMostRows, IsOfMostRows}
+use Rattle.star_words.specs.declared.request.Request.TheVariants.{Answer}
 use Rattle.star_words.specs.declared.request.Task.TheVariants.{Bench, Explain, Sample, Trial}
 use Rattle.star_cli.specs.Answers.{IsOfFolder}
 use Rattle.star_cli.specs.Failures.{IsFailureTold}
@@ -33,6 +35,16 @@ with_a_folder folder = tt
 under_the_widest_limit : (folder path : _) (limits : Limits) → limits.rows ≡ most_rows
     → IsOfFolder (Trial folder path limits)
 under_the_widest_limit folder path limits widest = widest
+
+-- ---- which limits words ask for
+
+the_rows_of_a_trial : (folder path : _) (limits : Limits) → HasMostRows (Trial folder path limits)
+    → limits.rows ≡ most_rows
+the_rows_of_a_trial folder path limits rows = rows
+
+the_rows_of_an_answer : (folder path : _) (limits : Limits)
+    → IsOfMostRows (Answer (Trial folder path limits)) → limits.rows ≡ most_rows
+the_rows_of_an_answer folder path limits rows = rows
 
 -- ---- readers of tables
 

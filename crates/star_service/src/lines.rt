@@ -29,7 +29,7 @@ fn line_of(alloc: Global, fault: &EngineFault) -> Result<String, AllocError>
     format!(in alloc; "{}\n", FaultLine(fault))
 }
 
-/// Gives the exit status of a fault.
+/// Gives the exit status of `fault`.
 pub fn status_of(fault: &EngineFault) -> u8
     ensures { result ≡ fault_status fault.now }
 {

@@ -7,9 +7,9 @@ ghost use Rattle.star_engine.specs.declared.fault.EngineFault.TheVariants.{OutOf
 ghost use Rattle.star_timing.specs.Told.{IsTimingFailureTold};
 ghost use Rattle.star_timing.specs.declared.failure.Failure.TheVariants.{Engine};
 
-use star_service::{tell, tell_fault};
 use star_common::Sink;
 use star_engine::EngineFault;
+use star_service::{tell, tell_fault};
 use std::alloc::{AllocError, Global};
 
 /// Why no times are told.

@@ -44,7 +44,7 @@ impl From<Error> for WordsFault {
     }
 }
 
-/// Its line; of what the parser tells its lines, the first of which may be no fault.
+/// Writes its line with the line's end; of `Told` what the parser tells, which may be help.
 impl fmt::Display for WordsFault {
     ghost output = { words_fault_text };
 

@@ -138,7 +138,7 @@ pub(crate) fn under_limit<'a>(
 pub(crate) enum Asked {
     Nothing,
     Folder,
-    /// A file that is told to be this.
+    /// A file; help tells this of it, here and below.
     File(&'static str),
     FolderAndFile(&'static str),
     FolderFileAndLimit(&'static str),
@@ -146,7 +146,7 @@ pub(crate) enum Asked {
     FoldersAndFiles,
 }
 
-// A command that asks for this.
+// Makes a command that asks for what `asked` says.
 fn asking<'a>(alloc: Global, help: Help, asked: Asked) -> Result<Command<'a>, AllocError> {
     match asked {
         Asked::Nothing => program(alloc, help),
@@ -158,7 +158,7 @@ fn asking<'a>(alloc: Global, help: Help, asked: Asked) -> Result<Command<'a>, Al
     }
 }
 
-/// Some commands, each with what it asks for.
+/// Makes these commands, each of which asks for what stands beside its help.
 pub(crate) fn asking_all<'a>(
     alloc: Global,
     commands: &[(Help, Asked)],

@@ -97,6 +97,7 @@ const COMMANDS: [(Help, Asked); 10] = [
     (TABLES, Asked::Nothing),
 ];
 
+// Apart from the chain of calls, in which its clause, over all fields of a command, is dear to prove.
 fn versioned<'a>(star: Command<'a>) -> Command<'a> {
     star.version("0.1.0")
 }
