@@ -6,7 +6,6 @@ use Rattle.star_schema.specs.declared.column.ColumnId.{ColumnId}
 use Rattle.star_schema.specs.declared.column.ColumnId.TheVariants.{LoTax}
 use Rattle.star_schema.specs.Tables as of_table
 use Rattle.star_schema.specs.Tables.{Value}
-use Rattle.star_query.specs.declared.fault.QueryFault.TheVariants as faults
 use Rattle.star_query.specs.declared.token.Fold.TheVariants.{Sum, Min, Max}
 use Rattle.star_query.specs.declared.token.Relation.TheVariants.{Less}
 use Rattle.star_query.specs.declared.tree.Name.{Name}
