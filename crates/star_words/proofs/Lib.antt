@@ -1,3 +1,4 @@
 mod Asking
 mod Limits
 mod WorkedFaults
+mod WorkedRequests

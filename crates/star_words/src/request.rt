@@ -1,9 +1,9 @@
 // What the words of a command line ask for.
 
-ghost use Rattle.std.specs.Prelude.{◌≡◌, [], Ok, IfOk, codes};
-ghost use Rattle.star_words.specs.Private.Asked.{HasLimit, HasWord};
+ghost use Rattle.std.specs.Prelude.{◌≡◌, [], Ok, Some, IfErr, IfOk, codes, map, string_bytes};
+ghost use Rattle.star_words.specs.Private.Asked.{HasLimit, HasWord, IsCommandFault, IsFolderFault, IsParsersFault, IsReportsFault};
 ghost use Rattle.star_schema.specs.Most.{most_rows};
-ghost use Rattle.star_words.specs.Requests.{HasMostRows, IsOfMostRows};
+ghost use Rattle.star_words.specs.Requests.{HasFolders, HasMostRows, HasTaskFolder, IsFolderName, IsNamed, IsOfMostRows, IsTaskFault, IsTaskNamed, IsWordsFault, task_name};
 ghost use Rattle.star_words.specs.declared.request.Request.TheVariants.{Answer};
 ghost use Rattle.star_words.specs.declared.request.Task.TheVariants.{Sample};
 
@@ -117,6 +117,8 @@ fn given<'a>(matches: &ArgMatches<'a>, name: &str) -> &'a str
 
 fn folder_given<'a>(matches: &ArgMatches<'a>) -> Result<&'a str, WordsFault>
     requires { HasWord matches.now (codes "FOLDER") }
+    ensures name { IfOk result (λ folder. IsFolderName folder.now) }
+    ensures fault { IfErr result IsFolderFault }
 {
     let folder = given(matches, "FOLDER");
     if folder.is_empty() {
@@ -136,7 +138,10 @@ fn limits_given(matches: &ArgMatches<'_>) -> Limits
     }
 }
 
-fn folder_of<'a>(alloc: Global, help: Help, words: &'a [String]) -> Result<&'a str, WordsFault> {
+fn folder_of<'a>(alloc: Global, help: Help, words: &'a [String]) -> Result<&'a str, WordsFault>
+    ensures name { IfOk result (λ folder. IsFolderName folder.now) }
+    ensures fault { IfErr result IsFolderFault }
+{
     let command = over_folder(alloc, help)?;
     let matches = command.try_get_matches_from(words)?;
     folder_given(&matches)
@@ -147,7 +152,9 @@ fn file_of<'a>(
     help: Help,
     file: &'a str,
     words: &'a [String],
-) -> Result<&'a str, WordsFault> {
+) -> Result<&'a str, WordsFault>
+    ensures { IfErr result IsParsersFault }
+{
     let command = over_file(alloc, help, file)?;
     let matches = command.try_get_matches_from(words)?;
     Ok(given(&matches, "FILE"))
@@ -158,7 +165,10 @@ fn folder_and_file_of<'a>(
     help: Help,
     file: &'a str,
     words: &'a [String],
-) -> Result<(&'a str, &'a str), WordsFault> {
+) -> Result<(&'a str, &'a str), WordsFault>
+    ensures name { IfOk result (λ named. IsFolderName named.0.now) }
+    ensures fault { IfErr result IsFolderFault }
+{
     let command = over_folder_and_file(alloc, help, file)?;
     let matches = command.try_get_matches_from(words)?;
     Ok((folder_given(&matches)?, given(&matches, "FILE")))
@@ -168,7 +178,10 @@ fn trial_given<'a>(matches: &ArgMatches<'a>) -> Result<Task<'a>, WordsFault>
     requires folder { HasWord matches.now (codes "FOLDER") }
     requires file { HasWord matches.now (codes "FILE") }
     requires limit { HasLimit matches.now (codes "LIMIT") }
-    ensures { IfOk result HasMostRows }
+    ensures named { IfOk result (λ task. task_name task ≡ Some (codes "trial")) }
+    ensures folder { IfOk result HasTaskFolder }
+    ensures fault { IfErr result IsFolderFault }
+    ensures rows { IfOk result HasMostRows }
 {
     let folder = folder_given(matches)?;
     let file = given(matches, "FILE");
@@ -181,23 +194,32 @@ fn trial_given<'a>(matches: &ArgMatches<'a>) -> Result<Task<'a>, WordsFault>
 }
 
 fn trial_of<'a>(alloc: Global, words: &'a [String]) -> Result<Task<'a>, WordsFault>
-    ensures { IfOk result HasMostRows }
+    ensures named { IfOk result (λ task. task_name task ≡ Some (codes "trial")) }
+    ensures folder { IfOk result HasTaskFolder }
+    ensures fault { IfErr result IsFolderFault }
+    ensures rows { IfOk result HasMostRows }
 {
     let command = under_limit(alloc, TRIAL, PROGRAM_FILE)?;
     let matches = command.try_get_matches_from(words)?;
     trial_given(&matches)
 }
 
-fn parsed<'a>(alloc: Global, words: &'a [String]) -> Result<ArgMatches<'a>, WordsFault> {
+fn parsed<'a>(alloc: Global, words: &'a [String]) -> Result<ArgMatches<'a>, WordsFault>
+    ensures { IfErr result IsParsersFault }
+{
     Ok(star_command(alloc)?.try_get_matches_from(words)?)
 }
 
-fn page_of<'a>(alloc: Global, words: &'a [&'a str]) -> Result<ArgMatches<'a>, WordsFault> {
+fn page_of<'a>(alloc: Global, words: &'a [&'a str]) -> Result<ArgMatches<'a>, WordsFault>
+    ensures { IfErr result IsParsersFault }
+{
     Ok(star_command(alloc)?.try_get_matches_from(words)?)
 }
 
 // What is said of words whose first names no command: it may ask for help or the version.
-fn no_command<'a>(alloc: Global, words: &'a [String]) -> WordsFault {
+fn no_command<'a>(alloc: Global, words: &'a [String]) -> WordsFault
+    ensures { IsCommandFault result }
+{
     match parsed(alloc, words) {
         Ok(_) => WordsFault::NoCommand,
         Err(fault) => fault,
@@ -205,7 +227,9 @@ fn no_command<'a>(alloc: Global, words: &'a [String]) -> WordsFault {
 }
 
 // What help says of the tables, which is all that there is to say of them.
-fn tables_told<'a>(alloc: Global) -> WordsFault {
+fn tables_told<'a>(alloc: Global) -> WordsFault
+    ensures { IsCommandFault result }
+{
     match page_of(alloc, &["help", "tables"]) {
         Ok(_) => WordsFault::NoCommand,
         Err(fault) => fault,
@@ -217,6 +241,9 @@ fn tables_told<'a>(alloc: Global) -> WordsFault {
 // say that the required words are there, and of one inside it little more than its name.
 fn task_of<'a>(alloc: Global, words: &'a [String]) -> Result<Task<'a>, WordsFault>
     ensures none { words.now ≡ [] → result ≡ Ok Sample }
+    ensures fault { IfErr result (IsTaskFault (map string_bytes words.now)) }
+    ensures named { IfOk result (IsTaskNamed (map string_bytes words.now)) }
+    ensures folder { IfOk result HasTaskFolder }
     ensures rows { IfOk result HasMostRows }
 {
     let Some((name, rest)) = words.split_first() else {
@@ -254,7 +281,10 @@ fn task_of<'a>(alloc: Global, words: &'a [String]) -> Result<Task<'a>, WordsFaul
 }
 
 // The folder that a word names. The parser lets no word be missing.
-fn folder_named<'a>(matches: &ArgMatches<'a>, name: &str) -> Result<&'a str, WordsFault> {
+fn folder_named<'a>(matches: &ArgMatches<'a>, name: &str) -> Result<&'a str, WordsFault>
+    ensures name { IfOk result (λ folder. IsFolderName folder.now) }
+    ensures fault { IfErr result IsReportsFault }
+{
     match matches.get_str(name) {
         Some("") => Err(WordsFault::EmptyFolder),
         Some(folder) => Ok(folder),
@@ -262,7 +292,10 @@ fn folder_named<'a>(matches: &ArgMatches<'a>, name: &str) -> Result<&'a str, Wor
     }
 }
 
-fn reports_given<'a>(alloc: Global, matches: &ArgMatches<'a>) -> Result<Reports<'a>, WordsFault> {
+fn reports_given<'a>(alloc: Global, matches: &ArgMatches<'a>) -> Result<Reports<'a>, WordsFault>
+    ensures names { IfOk result (λ asked. IsFolderName asked.folder.now × IsFolderName asked.target.now) }
+    ensures fault { IfErr result IsReportsFault }
+{
     let Some(files) = matches.get_strs("FILE") else {
         return Err(WordsFault::NoCommand);
     };
@@ -276,17 +309,24 @@ fn reports_given<'a>(alloc: Global, matches: &ArgMatches<'a>) -> Result<Reports<
     })
 }
 
-fn reports_of<'a>(alloc: Global, words: &'a [String]) -> Result<Reports<'a>, WordsFault> {
+fn reports_of<'a>(alloc: Global, words: &'a [String]) -> Result<Reports<'a>, WordsFault>
+    ensures names { IfOk result (λ asked. IsFolderName asked.folder.now × IsFolderName asked.target.now) }
+    ensures fault { IfErr result IsReportsFault }
+{
     let command = over_files(alloc, REPORTS)?;
     let matches = command.try_get_matches_from(words)?;
     reports_given(alloc, &matches)
 }
 
-/// Tells what `words` ask for, which are those of a command line without the program's own name: of
-/// none an answer over the sample. Only the visits of a trial have a limit that is asked for. On `Err`
-/// the words ask for nothing that can be done, or for help or the version, or memory was refused.
+/// Tells what `words` ask for, which are those of a command line without the program's own name: the
+/// first is the name of a command, and of no words an answer over the sample is asked for. The name of
+/// no folder is empty. Only the visits of a trial have a limit that is asked for. On `Err` the words ask
+/// for nothing that can be done, or for help or the version, or memory was refused.
 pub fn request_of<'a>(alloc: Global, words: &'a [String]) -> Result<Request<'a>, WordsFault>
     ensures none { words.now ≡ [] → result ≡ Ok (Answer Sample) }
+    ensures fault { IfErr result (IsWordsFault (map string_bytes words.now)) }
+    ensures named { IfOk result (IsNamed (map string_bytes words.now)) }
+    ensures folders { IfOk result HasFolders }
     ensures rows { IfOk result IsOfMostRows }
 {
     match words.split_first() {

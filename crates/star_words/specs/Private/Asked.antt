@@ -12,6 +12,8 @@ use Rattle.clap.specs.declared.builder.command.Command.TheViews.{out-Command as 
 use Rattle.clap.specs.declared.builder.value_parser.ValueParser.TheVariants.{Signed}
 use Rattle.clap.specs.declared.parser.matches.ArgMatches.{ArgMatches}
 use Rattle.star_schema.specs.Most.{most_visits}
+use Rattle.star_words.specs.declared.fault.WordsFault.{WordsFault}
+use Rattle.star_words.specs.declared.fault.WordsFault.TheVariants.{EmptyFolder, NoCommand, OutOfMemory, Told}
 
 -- a word of this name has to be there, and excludes no other
 pub record IsWord (name : List ℕ) (word : Arg) : Type 0 where
@@ -60,3 +62,24 @@ abbrev pub HasLimit : ArgMatches → List ℕ → Type 0
 HasLimit matches name = (text : List ℕ)
     × (one_text (found_of matches) name ≡ Some (without_minus text))
     × IsSignedIn (pos 0) (pos most_visits) text
+
+-- the parser's own fault, or want of memory
+abbrev pub IsParsersFault : WordsFault → Type 0
+IsParsersFault (Told error) = ⊤
+IsParsersFault OutOfMemory = ⊤
+IsParsersFault fault = ⊥
+
+-- such a one, or an empty folder
+abbrev pub IsFolderFault : WordsFault → Type 0
+IsFolderFault EmptyFolder = ⊤
+IsFolderFault fault = IsParsersFault fault
+
+-- such a one, or no command
+abbrev pub IsCommandFault : WordsFault → Type 0
+IsCommandFault NoCommand = ⊤
+IsCommandFault fault = IsParsersFault fault
+
+-- either
+abbrev pub IsReportsFault : WordsFault → Type 0
+IsReportsFault NoCommand = ⊤
+IsReportsFault fault = IsFolderFault fault
