@@ -1,6 +1,7 @@
 -- What words ask for, and what the load of a folder gives: readers of five tables, an engine over
 -- their rows, or what is told.
-use Rattle.std.proofs.Common.{◌≡◌, ◌++◌, ℕ, List, [], ◌∷◌, inl, inr, refl}
+use Rattle.std.proofs.Common.{◌≡◌, ◌++◌, ℕ, List, [], ◌∷◌, length, inl, inr, refl, ap, arith}
+use Rattle.std.specs.Borrow.{Bor}
 use Rattle.star_schema.specs.declared.limits.Limits.{Limits}
 use Rattle.star_schema.specs.declared.table.TableId.{TableId}
 use Rattle.star_schema.specs.Database.{TableTexts}
@@ -12,9 +13,9 @@ use Rattle.star_catalogue.specs.declared.read_tables.ReadTables.{ReadTables}
 use Rattle.star_engine.specs.declared.fault.EngineFault.{EngineFault}
 use Rattle.star_engine.specs.Answered.{Change}
 use Rattle.star_engine.specs.Loads.{loaded_of}
-use Rattle.star_words.specs.Requests.{HasMostRows, IsOfMostRows}
+use Rattle.star_words.specs.Requests.{HasMostRows, HasTaskFolder, IsOfMostRows}
 use Rattle.star_words.specs.declared.request.Request.TheVariants.{Answer}
-use Rattle.star_words.specs.declared.request.Task.TheVariants.{Bench, Explain, Sample, Trial}
+use Rattle.star_words.specs.declared.request.Task.TheVariants.{Bench, Exec, Explain, Query, Quote, Sample, Trial}
 use Rattle.star_cli.specs.Answers.{IsOfFolder}
 use Rattle.star_cli.specs.Failures.{IsFailureTold}
 use Rattle.star_cli.specs.FolderLoads.{AreLoadableRows, IsFolderRefused, IsWidest}
@@ -45,6 +46,21 @@ the_rows_of_a_trial folder path limits rows = rows
 the_rows_of_an_answer : (folder path : _) (limits : Limits)
     → IsOfMostRows (Answer (Trial folder path limits)) → limits.rows ≡ most_rows
 the_rows_of_an_answer folder path limits rows = rows
+
+-- ---- which folders words name: none without a name
+
+module _ (folder path : Bor (List ℕ)) (empty : folder.now ≡ []) where
+  no_folder_of_queries : HasTaskFolder (Bench folder) → ⊥
+  no_folder_of_queries named = omega (arith, ap length empty, named)
+
+  no_folder_of_a_query : HasTaskFolder (Query folder path) → ⊥
+  no_folder_of_a_query named = omega (arith, ap length empty, named)
+
+  no_folder_of_a_program : HasTaskFolder (Exec folder path) → ⊥
+  no_folder_of_a_program named = omega (arith, ap length empty, named)
+
+  no_folder_of_a_quote : HasTaskFolder (Quote folder path) → ⊥
+  no_folder_of_a_quote named = omega (arith, ap length empty, named)
 
 -- ---- readers of tables
 
