@@ -4,7 +4,8 @@ use Rattle.std.proofs.Common.{◌≡◌, [], ◌∷◌, Some, None, true, false,
 use Rattle.std.specs.Borrow.{Bor}
 use Rattle.std.specs.Prelude.{ℕ, List, codes, map}
 use Rattle.star_schema.specs.declared.limits.Limits.{Limits}
-use Rattle.star_words.specs.Requests.{HasFolders, HasTaskFolder, IsNamed, IsTaskFault, IsTaskNamed, IsWordsFault, folder_commands, is_in, request_name, task_commands, task_name}
+use Rattle.star_words.specs.Private.Tasks.{IsTaskFault, IsTaskNamed, task_commands}
+use Rattle.star_words.specs.Requests.{HasFolders, HasTaskFolder, IsNamed, IsWordsFault, folder_commands, is_in, known_commands, request_name, task_name}
 use Rattle.star_words.specs.declared.fault.WordsFault.TheVariants.{EmptyFolder, NoCommand, NotText, OutOfMemory}
 use Rattle.star_words.specs.declared.request.Reports.{Reports}
 use Rattle.star_words.specs.declared.request.Request.TheVariants as requests
@@ -84,6 +85,10 @@ commands = codes "check" ∷ codes "bench" ∷ codes "query" ∷ codes "explain"
 that_ask_for_folders : map (is_in folder_commands) commands
     ≡ true ∷ true ∷ true ∷ false ∷ true ∷ true ∷ true ∷ true ∷ true ∷ false ∷ []
 that_ask_for_folders = refl
+
+that_are_known : map (is_in known_commands) commands
+    ≡ true ∷ true ∷ true ∷ true ∷ true ∷ true ∷ true ∷ true ∷ false ∷ false ∷ []
+that_are_known = refl
 
 of_tasks : map (is_in task_commands) commands
     ≡ true ∷ true ∷ true ∷ true ∷ true ∷ true ∷ true ∷ false ∷ false ∷ false ∷ []

@@ -44,9 +44,6 @@ first_word (word ∷ words) = Some word
 
 -- the first word is the name of the command that asks for it; where there is none, the sample is
 -- asked for
-abbrev pub IsTaskNamed : List (List ℕ) → Task → Type 0
-IsTaskNamed words task = task_name task ≡ first_word words
-
 abbrev pub IsNamed : List (List ℕ) → Request → Type 0
 IsNamed words request = request_name request ≡ first_word words
 
@@ -74,11 +71,6 @@ HasFolders (Reports reports) = IsFolderName reports.folder.now × IsFolderName r
 
 -- ---- what is told of words that ask for nothing
 
--- the commands of tasks: where the parser lets words of theirs pass, none is missing
-abbrev pub task_commands : List (List ℕ)
-task_commands = codes "check" ∷ codes "bench" ∷ codes "query" ∷ codes "explain" ∷ codes "exec"
-    ∷ codes "quote" ∷ codes "trial" ∷ []
-
 -- the commands that ask for a folder
 abbrev pub folder_commands : List (List ℕ)
 folder_commands = codes "check" ∷ codes "bench" ∷ codes "query" ∷ codes "exec" ∷ codes "quote"
@@ -88,18 +80,17 @@ folder_commands = codes "check" ∷ codes "bench" ∷ codes "query" ∷ codes "e
 abbrev pub is_in : List (List ℕ) → List ℕ → Bool
 is_in commands name = list_any (bytes_eq name) commands
 
+-- the commands whose words are never told to be no command: all but `reports` and `tables`
+abbrev pub known_commands : List (List ℕ)
+known_commands = codes "check" ∷ codes "bench" ∷ codes "query" ∷ codes "explain" ∷ codes "exec"
+    ∷ codes "quote" ∷ codes "trial" ∷ codes "session" ∷ []
+
 -- what may be told of words: that the name of a folder is empty, where the first is a command that
--- asks for one; that they are no command, where the first is none of `commands`; what the parser
--- tells, and want of memory; of no words nothing
-abbrev pub MayBeTold : List (List ℕ) → List (List ℕ) → WordsFault → Type 0
-MayBeTold commands [] fault = ⊥
-MayBeTold commands (name ∷ words) NotText = ⊥
-MayBeTold commands (name ∷ words) EmptyFolder = is_in folder_commands name ≡ true
-MayBeTold commands (name ∷ words) NoCommand = is_in commands name ≡ false
-MayBeTold commands (name ∷ words) fault = ⊤
-
-abbrev pub IsTaskFault : List (List ℕ) → WordsFault → Type 0
-IsTaskFault = MayBeTold task_commands
-
+-- asks for one; that they are no command, where the first is none of `known_commands`; what the
+-- parser tells, and want of memory; of no words nothing
 abbrev pub IsWordsFault : List (List ℕ) → WordsFault → Type 0
-IsWordsFault = MayBeTold (codes "session" ∷ task_commands)
+IsWordsFault [] fault = ⊥
+IsWordsFault (name ∷ words) NotText = ⊥
+IsWordsFault (name ∷ words) EmptyFolder = is_in folder_commands name ≡ true
+IsWordsFault (name ∷ words) NoCommand = is_in known_commands name ≡ false
+IsWordsFault (name ∷ words) fault = ⊤

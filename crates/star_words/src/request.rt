@@ -2,8 +2,9 @@
 
 ghost use Rattle.std.specs.Prelude.{◌≡◌, [], Ok, Some, IfErr, IfOk, codes, map, string_bytes};
 ghost use Rattle.star_words.specs.Private.Asked.{HasLimit, HasWord, IsCommandFault, IsFolderFault, IsParsersFault, IsReportsFault};
+ghost use Rattle.star_words.specs.Private.Tasks.{IsTaskFault, IsTaskNamed};
 ghost use Rattle.star_schema.specs.Most.{most_rows};
-ghost use Rattle.star_words.specs.Requests.{HasFolders, HasMostRows, HasTaskFolder, IsFolderName, IsNamed, IsOfMostRows, IsTaskFault, IsTaskNamed, IsWordsFault, task_name};
+ghost use Rattle.star_words.specs.Requests.{HasFolders, HasMostRows, HasTaskFolder, IsFolderName, IsNamed, IsOfMostRows, IsWordsFault, task_name};
 ghost use Rattle.star_words.specs.declared.request.Request.TheVariants.{Answer};
 ghost use Rattle.star_words.specs.declared.request.Task.TheVariants.{Sample};
 
