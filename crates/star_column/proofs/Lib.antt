@@ -4,6 +4,7 @@ pub mod Differences
 pub mod Edges
 pub mod Extremes
 pub mod Fronts
+pub mod Lowest
 pub mod Masks
 pub mod Numbers
 pub mod Repeats
