@@ -1,7 +1,8 @@
 -- Columns that are lent.
-use Rattle.std.proofs.Common.{◌≡◌, ℕ, ℤ, pos, ◌+ℤ◌, ◌<◌, List, [], Some, length, get_or, sym, ap, ◌∙◌, arith}
+use Rattle.std.proofs.Common.{◌≡◌, ℕ, ℤ, pos, ◌+◌, ◌+ℤ◌, ◌<◌, List, [], ◌∷◌, ◌++◌, Some, length, get_or, map, set, take, sym, ap, ◌∙◌, arith}
 use Rattle.std.specs.List.{All, slice_get}
 use Rattle.std.proofs.lemmas.Int.{ints}
+use Rattle.std.proofs.lemmas.List.{get_or-map, length-map, map-append, take_more, take_more_set}
 use Rattle.std.proofs.lemmas.List.Elements.{All-get_or, All-weaker}
 use Rattle.std.proofs.lemmas.Option.{get_or_from_slice_get, slice_get-get_or, slice_get_within}
 use Rattle.std.proofs.lemmas.Simd.{map-map}
@@ -62,3 +63,25 @@ module _ (dictionary : List (List ℕ)) (codes : List ℕ) (are : AreCodes dicti
   above_codes low texts low_is texts_are =
       let zero : low ≡ pos 0 = low_is ∙ sym (least-codes_of texts) in
       rw (zero, ← texts_are) same_codes
+
+-- ---- the numbers of words
+
+-- the number of a word stands where the word does
+pub number_there : {W : Type 0} (number : W → ℕ) (words : List W) (place : ℕ) (word : W)
+    → place < length words → word ≡ get_or words place word
+    → slice_get (map number words) place ≡ Some (number word)
+number_there number words place word within is =
+    slice_get-get_or (map number words) place 0
+    (omega (arith, within, length-map words number))
+    ∙ ap Some (get_or-map number words place word 0 within ∙ ap number (sym is))
+
+-- one more is written behind those of the places before
+pub one_gathered : (f : ℕ → ℤ) (places : List ℕ) (into : List ℤ) (at : ℕ) (z : ℤ)
+    → at < length places → length into ≡ length places
+    → take at into ≡ map f (take at places) → z ≡ f (get_or places at 0)
+    → take (at + 1) (set into at z) ≡ map f (take (at + 1) places)
+one_gathered f places into at z within long so_far is =
+    take_more_set into at z (omega (arith, within, long))
+    ∙ (λ i. so_far i ++ is i ∷ [])
+    ∙ sym (map-append f (take at places) (get_or places at 0 ∷ []))
+    ∙ sym (ap (map f) (take_more places at 0 within))

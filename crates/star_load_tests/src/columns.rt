@@ -158,6 +158,29 @@ fn numbers_are_packed_in_the_least_width(rt: HostRuntime) -> Result<(), Fail> {
     Ok(())
 }
 
+// Checks the values of rows of the column of two numbers: in another order, and some again.
+fn check_gathered(rt: &impl Abort, alloc: Global, numbers: [i64; 2]) -> Result<(), AllocError> {
+    let column = NumberColumn::build(numbers.to_vec(alloc)?)?;
+    let packed = PackedColumn::build(alloc, &column)?;
+    let mut values = [7; 5];
+    if packed.len() == 2 {
+        packed.view().gather(&[1, 0, 0, 1, 1], &mut values);
+    }
+    let [first, second] = numbers;
+    let expected = [second, first, first, second, second];
+    check_same(rt, values, expected, &numbers);
+    Ok(())
+}
+
+#[test]
+fn values_of_rows_are_gathered(rt: HostRuntime) -> Result<(), Fail> {
+    let alloc = rt.alloc();
+    for numbers in [[0, 255], [65_534, -1], [5, 65_541], [i64::MIN, i64::MAX]] {
+        check_gathered(&rt, alloc, numbers)?;
+    }
+    Ok(())
+}
+
 // The column of fewer than a million texts.
 fn column_of(
     rt: &impl Abort,
