@@ -62,7 +62,7 @@ all_digits (d ∷ text) h =
     let value = digit_value_digit d bounds in
     (omega (arith, bounds.0, bounds.1, value), all_digits text parts.1)
 
--- a numeral of so many places is below their power of ten
+-- a numeral of some places is below ten to their number
 pub numeral_below : (places : ℕ) (text : List ℕ) (n : ℕ) → numeral_of places text ≡ Some n
     → n < 10 ^ places
 numeral_below places text n h = go (is_numeral places text) refl h

@@ -28,7 +28,7 @@ pub rest_of : {X : Type 0} (text : List X) (sent : ℕ) → take (length text - 
 rest_of text sent =
     take_all (length text - sent) (drop sent text) (omega (arith, length-drop sent text))
 
--- so many bytes of a text were written, and where there is one the sink has not failed
+-- the first `sent` bytes of a text were written, and where there is one the sink has not failed
 pub record HasSent (old new : Option (List ℕ)) (is_failed : Bool) (text : List ℕ)
     (sent : ℕ) : Type 0 where
   pub within : sent ≤ length text

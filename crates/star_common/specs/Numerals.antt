@@ -4,7 +4,7 @@ use Rattle.std.specs.Char.{is_ascii_digit}
 use Rattle.std.specs.List.{list_all}
 use Rattle.std.specs.Str.Parse.{digits_value}
 
--- 1 to so many digits
+-- 1 to `places` digits
 abbrev pub is_numeral : ℕ → List ℕ → Bool
 is_numeral places text =
     nat_le 1 (length text) && nat_le (length text) places && list_all is_ascii_digit text

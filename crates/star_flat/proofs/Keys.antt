@@ -139,7 +139,7 @@ module _ (texts : List (List ℕ)) where
       (then_total (on_total (λ (e : Numbered). e.second) nat_cmp_total)
       (on_total (ending texts) nat_list_cmp_total))
 
-  -- how many bytes a key tells, and of which texts it tells the whole
+  -- how many bytes a key tells, and which texts it tells whole
   counted : (e : Numbered) → IsKeyed texts e → e.second % 256 < 13
   counted e keyed = ⊎_elim {C = e.second % 256 < 13}
       (λ few. omega (arith, few, keyed.short few))

@@ -10,7 +10,7 @@ places_in numbers = map unsigned_abs numbers
 abbrev pub texts_at_places : List (List ℕ) → List ℕ → List (List ℕ)
 texts_at_places texts places = map (λ place. slice_index_or texts place []) places
 
--- places among some texts: each is one, and there is none of which there is no row
+-- the place of each row's text among some texts: each text has a row
 pub record AreRepeated (texts : List (List ℕ)) (places : List ℕ) : Type 0 where
   pub within : All (λ place. place < length texts) places
   pub met : (place : ℕ) → place < length texts → Contains places place

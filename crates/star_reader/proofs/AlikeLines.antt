@@ -14,11 +14,11 @@ use Rattle.star_reader.specs.Private.Open.{AreOneRecord, run_from}
 use Rattle.star_reader.proofs.Counts.{right_count, wrong_count}
 use Rattle.star_reader.proofs.Cuts.{pieces_some}
 
--- two fields are one, or both too long, where so many bytes more stand before each
+-- two fields are equal, or both too long, where `n` bytes more stand before each
 abbrev AreAlike : ℕ → List ℕ → List ℕ → Type 0
 AreAlike n x y = (x ≡ y) ⊎ ((255 < n + length x) × (255 < n + length y))
 
--- the fields of two lines are alike, the first ones with so many bytes before them
+-- the fields of two lines are alike, the first ones with `n` bytes before them
 abbrev Alike : ℕ → List (List ℕ) → List (List ℕ) → Type 0
 Alike n [] [] = Unit {0}
 Alike n (x ∷ xs) (y ∷ ys) = AreAlike n x y × Alike 0 xs ys

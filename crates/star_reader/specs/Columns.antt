@@ -30,7 +30,7 @@ pub record Table : Type 0 where
   pub table : TableId
   pub rows : List (List Value)
 
--- these columns are those of a table with so many rows
+-- these columns are those of a table that has `rows` rows
 pub record AreColumnsOf (table : TableId) (rows : ℕ) (columns : List RawColumn) : Type 0 where
   pub kinds : map raw_kind columns ≡ kinds_of table
   pub full : All (λ column. length (values column) ≡ rows) columns

@@ -33,7 +33,7 @@ record_fault ks at_row fields =
     then cells_fault at_row 1 ks (cells_of (length ks) fields)
     else Some (fault.FieldCount at_row)
 
--- the first fault of the records of a table of at most so many rows, which count from a number
+-- the first fault of the records of a table of at most `most` rows, counted from a number
 abbrev pub records_fault : TableId → ℕ → ℕ → List (List ℕ) → Option ReadFault
 records_fault table most from lines =
     first_answer

@@ -22,8 +22,9 @@ left_fault is_start table most from left =
     if is_start then part_fault table most from left
     else records_fault table most from (records_of left)
 
--- some parts of a table's text, and so much of the next one, have been read, and no fault was found:
--- the rows of the records that ended stand in the columns, and the record that is open is carried
+-- some parts of a table's text, and the front `text` of the next one, have been read, and no fault
+-- was found: the rows of the records that ended stand in the columns, and the record that is open
+-- is carried
 pub record IsPartway (table : TableId) (most : ℕ) (parts : List (List ℕ)) (text : List ℕ)
     (progress : Progress) (columns : List RawColumn) : Type 0 where
   pub of_table : AreColumnsOf table progress.rows columns
@@ -41,7 +42,7 @@ pub record IsPartway (table : TableId) (most : ℕ) (parts : List (List ℕ)) (t
       ++ map (row_of table) (records_of (carried ++ more))
       ≡ map (row_of table) (records_in (parts ++ (text ++ more) ∷ []))
 
--- whatever follows some parts and so much of the next one, this is the first fault
+-- whatever follows some parts and the front `text` of the next one, this is the first fault
 abbrev pub IsFaultOf : TableId → ℕ → List (List ℕ) → List ℕ → ReadFault → Type 0
 IsFaultOf table most parts text fault = (more : List ℕ) (later : List (List ℕ))
     → text_fault table most (parts ++ (text ++ more) ∷ later) ≡ Some fault
@@ -54,8 +55,8 @@ pub record Reading : Type 0 where
   pub columns : List RawColumn
   pub fault : Option ReadFault
 
--- a reader of a table of at most so many rows has been given these parts of its text, and so much of
--- the next one
+-- a reader of a table of at most `most` rows has been given these parts of its text, and the front
+-- `text` of the next one
 pub record HasRead (reader : Reading) (table : TableId) (most : ℕ) (parts : List (List ℕ))
     (text : List ℕ) : Type 0 where
   pub of_table : reader.table ≡ table
@@ -65,12 +66,12 @@ pub record HasRead (reader : Reading) (table : TableId) (most : ℕ) (parts : Li
       (λ fault. UnlessMemory OutOfMemory fault
       (IsFaultOf reader.table reader.most parts text fault))
 
--- the parts of a text, the last of which counts where it has a byte
+-- the parts of a text; the last one counts where it has a byte
 abbrev pub parts_with : List (List ℕ) → List ℕ → List (List ℕ)
 parts_with parts [] = parts
 parts_with parts (b ∷ text) = parts ++ (b ∷ text) ∷ []
 
--- a reader of a table of at most so many rows has been given this text, in parts
+-- a reader of a table of at most `most` rows has been given this text, in parts
 pub record HasReadText (reader : Reading) (table : TableId) (most : ℕ) (text : List (List ℕ))
     : Type 0 where
   pub parts : List (List ℕ)

@@ -33,8 +33,8 @@ IsMasked (Some m ∷ ms) (k ∷ ks) = (m ≡ k) × IsMasked ms ks
 IsMasked (None ∷ ms) (k ∷ ks) = IsMasked ms ks
 IsMasked _ _ = ⊥
 
--- the keys of a group of some rows with so many keys: a grouping of those of a row; the grouping by
--- no key has its one group over no rows too
+-- the keys of a group of rows that have `count` keys each: a grouping of the keys of a row; the
+-- grouping by no key has its one group over no rows too
 abbrev pub IsGroup : {K : Type 0} → Shape → ℕ → List (Entry K) → List (Option K) → Type 0
 IsGroup {K} s count rows keys =
     IsTrue (is_grouping s keys)

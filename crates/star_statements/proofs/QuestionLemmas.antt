@@ -80,7 +80,7 @@ module _ where
       if_false _ _ _ (le-ltb 65536 (length (c ∷ rest)) short) ∙ if_false _ _ _ other
       ∙ if_false _ _ _ another
 
--- so many bytes of a text tell as much as the whole, if they are more than a text may have
+-- the first bytes of a text tell as much as the whole, if they are more than a text may have
 asked-many : (many : ℕ) (text : List ℕ) → 65536 < many
     → asked_by_text (take many text) ≡ asked_by_text text
 asked-many many text more =

@@ -54,7 +54,7 @@ joined_assoc piece next [] = refl
 joined_assoc piece next (first ∷ others) =
     ap (λ l. l ∷ others) (sym (append_assoc piece next first))
 
--- some pieces, of which there is one at least
+-- one piece at least
 abbrev pub HasOne : List (List ℕ) → Type 0
 HasOne pieces = (first : List ℕ) × ((others : List (List ℕ)) × (pieces ≡ first ∷ others))
 

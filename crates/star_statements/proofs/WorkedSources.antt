@@ -1,5 +1,4 @@
--- Statements that were read of a source, and some that were not; and so many bytes that no more are
--- counted.
+-- Statements that were read of a source, and some that were not; and more bytes than are counted.
 use Rattle.std.proofs.Common.{◌≡◌, ◌<◌, ◌≤◌, ◌++◌, ◌-◌, ◌^◌, ℕ, List, [], ◌∷◌, Some, None, true, false, true≢false, ap, append-nil, arith, codes, length, refl, sym}
 use Rattle.std.specs.Borrow.{Bor}
 use Rattle.star_statements.specs.Blanks.{without_blanks}

@@ -25,7 +25,7 @@ pub record IsStatementRead (old new : Option (List ℕ)) (text : List ℕ) (is_e
   pub last : is_ended ≡ false → statements_of statement ≡ statement ∷ []
   pub at_end : is_ended ≡ false → IsAtEnd new
 
--- so many bytes were read that no more are counted
+-- all bytes that can be counted were read
 pub record IsPastCounting (old new : Option (List ℕ)) (read : List ℕ) : Type 0 where
   pub consumed : Consumes old new read
   pub many : 2 ^ 64 - 1 ≤ length read

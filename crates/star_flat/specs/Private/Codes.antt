@@ -8,7 +8,7 @@ use Rattle.star_flat.specs.declared.ordered.Numbered.{Numbered}
 abbrev pub same_text : List ℕ → List ℕ → Bool
 same_text a b = pointwise nat_eq a b
 
--- texts of which no two neighbours are one
+-- the texts that differ from the one before them
 abbrev pub different : List (List ℕ) → List (List ℕ)
 different texts = dedup same_text texts
 

@@ -8,13 +8,13 @@ use Rattle.star_schema.specs.Records.{fields_of, is_bar}
 abbrev pub is_plain : ℕ → Bool
 is_plain b = not (is_bar b)
 
--- the first field of a text has so many bytes
+-- the first field of a text has `count` bytes
 pub record IsFront (text : List ℕ) (count : ℕ) : Type 0 where
   pub within : count ≤ length text
   pub plain : list_all is_plain (take count text) ≡ true
   pub end : (count ≡ length text) ⊎ ((count < length text) × (get_or text count 0 ≡ 124))
 
--- the digits at the front of a text, of which at most 19 count: so many, and what they write
+-- how many digits stand at the front of a text, counted up to 19, and the number that they write
 pub record AreDigits (text : List ℕ) (count value : ℕ) : Type 0 where
   pub few : count ≤ 19
   pub within : count ≤ length text

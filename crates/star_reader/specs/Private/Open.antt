@@ -15,7 +15,7 @@ pub record AreOneRecord (ks : List Kind) (a b : List ℕ) : Type 0 where
       → values_of ks (cells_of (length ks) (fields_of a))
       ≡ values_of ks (cells_of (length ks) (fields_of b))
 
--- how many bytes the last field of a line has, where its first has so many before the line
+-- how many bytes the last field of a line has, where `n` bytes of its first stand before the line
 unfoldable pub run_from : ℕ → List ℕ → ℕ
 run_from n [] = n
 run_from n (b ∷ line) = if is_bar b then run_from 0 line else run_from (n + 1) line
