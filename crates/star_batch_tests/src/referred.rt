@@ -305,7 +305,7 @@ const BODIES: &[&str] = &[
         "scan lineorder r0\nr1 = load lo_custkey r0\nr2 = find customer r1\nr3 = load c_custkey r2\n",
         "put 1 r3 r3 : r3 r3 r3\nr4 = load lo_tax r0\nend\n",
     ),
-    // A scan of the dimension itself, one inside another, and a group of which a total is read.
+    // A scan of the dimension itself, one inside another, and a group whose total is read.
     concat!(
         "scan customer r0\nr1 = load c_nation r0\nr2 = load c_custkey r0\nput 0 r1 r2 : r2 r2 r2\nend\n",
     ),
@@ -321,7 +321,7 @@ const BODIES: &[&str] = &[
     ),
 ];
 
-// A body's programs, each of which reports one of the two groups.
+// A body's programs; each reports one of the two groups.
 fn body_agrees(alloc: Global, catalogue: &Catalogue, shape: &str, lines: &str) -> Result<(), Fail> {
     for group in ["0", "1"] {
         let text = format!(in alloc;

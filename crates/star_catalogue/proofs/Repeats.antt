@@ -255,7 +255,7 @@ apart_no_repeat same decides keys apart =
       apart_before same decides keys apart i d.1 few,
     ) refl)
 
--- keys of which none repeats all differ
+-- where no key repeats, all differ
 pub no_repeat_apart : {K : Type 0} (same : K → K → Bool) → ((a b : K) → Decides (same a b) (a ≡ b))
     → (keys : List K) → first_repeat same keys ≡ None → AllPairs (λ a b. a ≢ b) keys
 unfolding first_repeat

@@ -5,7 +5,7 @@ use Rattle.star_schema.specs.Database.{TableTexts}
 use Rattle.star_reader.specs.Partway.{HasReadText}
 use Rattle.star_catalogue.specs.declared.read_tables.ReadTables.{ReadTables}
 
--- the readers of five tables of at most so many rows each have been given these texts
+-- the readers of five tables of at most `most` rows each have been given these texts
 pub record AreRead (read : ReadTables) (most : ℕ) (texts : TableTexts) : Type 0 where
   pub date : HasReadText read.date.value Date most (texts Date)
   pub customer : HasReadText read.customer.value Customer most (texts Customer)

@@ -26,7 +26,7 @@ fn assert_refused<R: Files + AllocGlobal + Abort>(
     Ok(())
 }
 
-// A query with so much of something is taken, and one with more is not.
+// A query with as much of something as is allowed is taken, and one with more is not.
 const BOUNDS: [(&str, &str, u32, &str, &str); 5] = [
     (
         "select count(*) from lineorder where ",

@@ -32,7 +32,7 @@ then_last (x ∷ steps) s k = ap (step.before x) (then_last steps s k)
 abbrev pub made : Code → ℕ → Completed
 made c n = record { code = c; registers = n }
 
--- an instruction that numbers so many registers
+-- an instruction that numbers as many registers as it writes
 pub act : (old new : Emitter) (o : Op) (k : Code)
     → new.steps.items ≡ old.steps.items ++ Act o ∷ []
     → new.next ≡ old.next + writes_one (target_of o)
@@ -121,7 +121,7 @@ room_for_right right o {x = x} wrote room =
     room_for_first (λ y. write (Binary o x y))
     (room_for_second (λ x. followed_by right (λ y. write (Binary o x y))) wrote room)
 
--- ---- a piece of which some is written
+-- ---- a piece that is written in part
 
 -- what is left of a piece follows what is written of it
 pub record Follows {K : Type 0} (old new : Emitter) (piece left : Env → K → Code) : Type 0 where
@@ -146,7 +146,7 @@ one_behind first after code behind so_far env k =
     (behind (so_far ++ x ∷ []) e k
     ∙ (λ j. code e (λ e xs. k e (append_assoc so_far (x ∷ []) xs j)))) i)
 
--- pieces in turn, of which those for `left` are still to be written
+-- pieces in turn; those for `left` are still to be written
 module _ {X : Type 0} (after : List X → List ℕ → Env → Rests → Code)
     (code : List X → Env → Rests → Code) (behind : (xs : List X) → Behind (after xs) (code xs))
     {old new : Emitter} (xs left : List X) (so_far : List ℕ)

@@ -66,7 +66,7 @@ ranges_of w [] = []
 ranges_of w (count ∷ ms) = ranges_of w ms
 ranges_of w (fold f a ∷ ms) = expression_range w.bounds a ∷ ranges_of w ms
 
--- a turn of the program that is met so many times
+-- a turn of the program that is met `n` times
 module _ (w : World) (p : Plan) (sound : IsSoundPlan p) (n : ℕ) (pending : ℕ → Bool) where
   abbrev turn : Turn
   turn = record {

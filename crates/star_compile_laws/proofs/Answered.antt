@@ -95,7 +95,7 @@ keys_applied w (c ∷ cs) (k ∷ ks) h =
 keys_applied w [] (k ∷ ks) h = absurd (omega arith)
 keys_applied w (c ∷ cs) [] h = absurd (omega arith)
 
--- ---- groups have so many keys
+-- ---- how many keys groups have
 
 masked_length : {K : Type 0} (m : List (Option K)) (ks : List K) → IsMasked m ks
     → length m ≡ length ks

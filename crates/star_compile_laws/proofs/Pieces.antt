@@ -89,8 +89,8 @@ module _ (w : World) (f : Parts) (may : ℕ → Bool) (at : TableId → ℕ) whe
         × (regs r ≡ Some (Row t (at t)))
 
   -- a piece came to its end: what follows runs to the same end, from registers that keep those from
-  -- before and have what the piece says; nothing is visited or put, and in all there are so many
-  -- look-ups, by the flags of the keeps that follow
+  -- before and have what the piece says; nothing is visited or put, and `total` tells how many
+  -- look-ups there are in all, by the flags of the keeps that follow
   pub record Reached {A : Type 0} (Says : ℕ → Registers → A → Type 0) (k : Env → A → Code)
       (env : Env) (regs : Registers) (s e : State) (total : List Bool → ℕ) : Type 0 where
     pub env' : Env

@@ -72,7 +72,7 @@ leaving w KnownFlag at rest e = absurd (cc)
 
 -- ---- a turn
 
--- in a scan that is met so many times, where nothing was put
+-- in a scan whose turns are met `n` times, where nothing was put
 abbrev pub in_turn : ℕ → AllKnown → (ℕ → Bool) → Context
 in_turn n known written =
     record {

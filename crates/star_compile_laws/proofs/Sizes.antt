@@ -68,11 +68,11 @@ found_once es t n h =
 
 -- ---- pieces
 
--- what follows has at most so many instructions, and two for each table whose row isn't found yet
+-- what follows has at most `m` instructions, and two for each table whose row isn't found yet
 abbrev Short : {A : Type 0} → ℕ → (Env → A → Code) → Type 0
 Short {A} m k = (e : Env) (x : A) → code_size (k e x) ≤ m + 2 * unfound e.found
 
--- a piece adds at most so many
+-- a piece adds at most `n`
 abbrev Adds : {A : Type 0} → ℕ → (Env → (Env → A → Code) → Code) → Type 0
 Adds {A} n piece =
     (env : Env) (k : Env → A → Code) (m : ℕ) → Short m k

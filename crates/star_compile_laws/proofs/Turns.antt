@@ -40,7 +40,7 @@ abbrev pub put_if : World → Plan → Joined → Bool → (ℕ → List Update)
 put_if w p row true us = with_update us 0 (update_of_row w p row)
 put_if w p row false us = us
 
--- what a turn leaves: the update of the row where it is selected, and so many look-ups in all
+-- what a turn leaves: the update of the row where it is selected, and `lookups` look-ups in all
 pub record Turned (w : World) (p : Plan) (row : Joined) (selected : Bool) (s e : State)
     (lookups : ℕ) : Type 0 where
   pub put : e.updates_of ≡ put_if w p row selected s.updates_of
@@ -352,8 +352,8 @@ module _ (w : World) (f : Parts) (may : ℕ → Bool) (at : TableId → ℕ) (p 
 
 -- ---- the scan
 
--- a run came to its end with the updates of some rows, in their order, and with so many visits and
--- look-ups
+-- a run came to its end with the updates of some rows, in their order, and with `visited` visits
+-- and `looked` look-ups
 pub record Scanned (us : List Update) (visited looked : ℕ) (s e : State) : Type 0 where
   pub put : e.updates_of 0 ≡ reverse_aux us (s.updates_of 0)
   pub visits : e.visits ≡ s.visits + visited

@@ -30,7 +30,7 @@ pub record HasGained {S : Type 0} (sink : Change S) (text : List ℕ) : Type 0 w
   pub gained : Appends (sink.contents sink.old) (sink.contents sink.new) text
   pub not_failed : sink.is_failed sink.new ≡ false
 
--- the sink has gained the first bytes of a text, so many and not all, and is failed
+-- the sink has gained the first `sent` bytes of a text, not all, and is failed
 pub record HasGainedPart {S : Type 0} (sink : Change S) (text : List ℕ) (sent : ℕ)
     : Type 0 where
   pub part : sent < length text
@@ -61,7 +61,7 @@ IsAnswered sink IsText IsDue (Err fault) = IsDue fault × IsUntouched sink
 abbrev pub HasWritten : {S : Type 0} → Change S → (List ℕ → Type 0) → Type 0
 HasWritten sink IsText = (text : List ℕ) × IsText text × HasGained sink text
 
--- of a failed write: the sink has gained so many bytes of a text that is due
+-- of a failed write: the sink has gained as many bytes as it tells of a text that is due
 abbrev pub IsBrokenOff : {S : Type 0} → Change S → (List ℕ → Type 0) → EngineFault → Type 0
 IsBrokenOff sink IsText (Write sent) =
     (text : List ℕ) × IsText text × HasGainedPart sink text sent

@@ -26,7 +26,7 @@ quote_over database program = quote (world_of database).size program
 abbrev pub IsQuote : Database → Parts → List ℕ → Type 0
 IsQuote database program text = text ≡ quote_line (quote_over database program)
 
--- nothing refuses a program over these tables where so many visits are allowed
+-- nothing refuses a program over these tables where `most` visits are allowed
 pub record IsAcceptedWithin (database : Database) (most : ℕ) (program : Parts) : Type 0 where
   pub admissible : IsAdmissible (world_of database) program
   pub cheap : quote_over database program ≤ most

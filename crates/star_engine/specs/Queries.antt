@@ -45,7 +45,7 @@ pub record IsPlanOf (query : List ℕ) (p : Plan) : Type 0 where
 abbrev pub IsQuery : List ℕ → Type 0
 IsQuery query = (p : Plan) × IsPlanOf query p
 
--- how many rows lineorder has, each of which a query visits once
+-- how many rows lineorder has; a query visits each once
 abbrev pub fact_rows : Database → ℕ
 fact_rows database = length (rows_in database Lineorder)
 

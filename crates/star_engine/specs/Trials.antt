@@ -14,8 +14,8 @@ use Rattle.star_engine.specs.declared.fault.EngineFault.{EngineFault}
 use Rattle.star_engine.specs.declared.fault.EngineFault.TheVariants.{Trial}
 use Rattle.star_engine.specs.Loads.{HoldsOfFile, HoldsOfRows, IsNoProgram, IsProgramOf, IsUnread}
 
--- the printed rows of the program that a file spells, run over these tables with so many visits at
--- most
+-- the printed rows of the program that a file spells, run over these tables with at most `visits`
+-- visits
 pub record IsBoundedReport (database : Database) (file : List ℕ) (visits : ℕ)
     (report : List ℕ) : Type 0 where
   pub program : Parts

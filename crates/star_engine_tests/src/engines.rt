@@ -54,7 +54,7 @@ fn fault_of(
     }
 }
 
-// What an engine answers, over a report's writer with so much room.
+// What an engine answers, over a report's writer with this much room.
 fn answer(
     engine: &Engine,
     alloc: Global,

@@ -1,4 +1,4 @@
-// What the calls of the engine print, over writers with so much room.
+// What the calls of the engine print, over writers with a given room.
 
 use star_common::Out;
 use star_engine::{

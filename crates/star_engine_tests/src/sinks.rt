@@ -13,14 +13,14 @@ const QUOTE: &str = "quote 5\n";
 
 const NOTES: &str = "quote 5\nvisits 5 lookups 5 updates 1\n";
 
-// What the first query of the benchmark prints over the sample, where so much is taken.
+// What the first query of the benchmark prints over the sample, where a writer takes `room`.
 fn cut(alloc: Global, room: Room) -> Result<Printed, AllocError> {
     let query = BenchmarkQuery::Q11.text().as_bytes();
     answered(alloc, &sample(), query, Limits::widest(), room)
 }
 
 fn first_bytes(text: &str, count: usize) -> Result<&[u8], Fail> {
-    Ok(text.as_bytes().get(..count).ok_or("so many bytes")?)
+    Ok(text.as_bytes().get(..count).ok_or("a shorter text")?)
 }
 
 // Notes that fail at each of their bytes: at the first line nothing was sent, and at the last the

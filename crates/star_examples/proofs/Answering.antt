@@ -240,7 +240,7 @@ cube_rows =
     ∷ (integer 1994 ∷ cell.Text (codes "AMERICA") ∷ integer 495 ∷ integer 1 ∷ [])
     ∷ (integer 1994 ∷ cell.All ∷ integer 495 ∷ integer 1 ∷ []) ∷ []
 
--- the rows of 495 stand by their keys, of which ALL is the last
+-- the rows of 495 stand by their keys, ALL last
 pub cube_answer : IsAnswer sample cube_query cube_names cube_rows
 unfolding column_of columns_of place_of pieces table_name column_called table_called are_groups
     each_mask in_order is_group is_masked is_right is_there is_there_where same_each same_value

@@ -20,7 +20,7 @@ line quantity mode =
     ∷ text (codes "0") ∷ quantity ∷ number 1000 ∷ number 3000
     ∷ number 2 ∷ number 980 ∷ number 600 ∷ number 2 ∷ number 19940105 ∷ mode ∷ [])
 
--- of which of these quantities, or modes, a condition holds
+-- for which of these quantities, or modes, a condition holds
 abbrev of_quantities : List Value → RowCondition → List Bool
 of_quantities values c = map (λ v. holds c (line v (text (codes "MAIL")))) values
 

@@ -62,7 +62,7 @@ no_load_fault_over_loaded_rows :
 no_load_fault_over_loaded_rows visits database file fault due = due
 
 module _ (texts : TableTexts) (file : List ℕ) where
-  -- over so many rows, of which so many may be visited
+  -- over at most `rows` rows, where at most `visits` may be visited
   a_refused_program : (rows visits : ℕ) (refusal : Refusal)
       → HoldsOfRows rows texts (λ database. IsRefusalOver visits database file refusal)
       → IsUntold rows visits texts file (Refused refusal)

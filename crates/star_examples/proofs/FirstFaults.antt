@@ -10,7 +10,7 @@ use Rattle.star_query.specs.Derives.{Derives, IsFirstQueryFault, Means}
 use Rattle.star_query.proofs.Verdicts.{first_fault}
 use Rattle.star_examples.proofs.Texts.{IsQuery, query, stops, tokens_of}
 
--- some bytes, so often in a row
+-- some bytes, `n` times in a row
 abbrev times : ℕ → List ℕ → List ℕ
 times zero bytes = []
 times (suc n) bytes = bytes ++ times n bytes

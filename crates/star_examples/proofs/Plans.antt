@@ -206,7 +206,7 @@ seven_keys within = let many : 7 ≤ 6 = within.keys in omega (arith, many)
 nine_measures : IsPlanWithinLimits (record largest { measures = replicate 9 count }) → ⊥
 nine_measures within = let many : 9 ≤ 8 = within.measures in omega (arith, many)
 
--- a sum of one operand more than so many
+-- a sum of `n` + 1 operands
 abbrev chain : ℕ → Expression ColumnId
 chain zero = tax
 chain (suc n) = add (chain n) tax

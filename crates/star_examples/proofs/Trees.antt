@@ -43,7 +43,7 @@ operands_counted : map operands_of
     ≡ 1 ∷ 1 ∷ 2 ∷ 3 ∷ 4 ∷ []
 operands_counted = refl
 
--- an expression of one operand more than so many, and a condition of one comparison more
+-- an expression of `n` + 1 operands, and a condition of `n` + 1 comparisons
 abbrev chain : ℕ → Expression Name
 chain zero = column a
 chain (suc n) = add (chain n) (column a)

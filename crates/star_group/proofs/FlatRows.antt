@@ -55,7 +55,7 @@ no_place w n items number place d there past =
     ∙ get_or_past (take w (drop (number * w) items)) place d
     (omega (arith, length-take w (drop (number * w) items))))
 
--- so many rows have room for each place of one
+-- `n` rows have room for each place of each of them
 pub place_within : (w n number place : ℕ) → number < n → place < w → number * w + place < n * w
 place_within w n number place there within =
     let rows : (number + 1) * w ≤ n * w = mul-le-mul_right w (omega (arith, there)) in

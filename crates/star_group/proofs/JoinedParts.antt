@@ -84,7 +84,7 @@ module _ (f : ℤ → ℤ → ℤ) (comm : (x y : ℤ) → f x y ≡ f y x)
   more_right x (Some y) (Some z) =
       ap Some (sym (assoc x y z) ∙ ap (λ w. f w z) (comm x y) ∙ assoc y x z)
 
-  -- the puts that pass one of two tests, of which none passes both
+  -- the puts that pass one of two tests, where none passes both
   apart : (number : Update → ℤ) (a b c : Update → Bool) (us : List Update)
       → ((u : Update) → c u ≡ (a u || b u)) → ((u : Update) → (a u && b u) ≡ false)
       → over f number c us ≡ both f (over f number a us) (over f number b us)

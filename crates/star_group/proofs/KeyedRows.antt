@@ -190,7 +190,7 @@ pub filled_narrow : (w : ℕ) (key : List KeyPart) → length key ≡ w
 filled_narrow w key long =
     drop_at key (drop (length key) all_hidden) w long ∙ ap (λ n. drop n all_hidden) long
 
--- ---- rows of which each key is there once
+-- ---- rows with each key once
 
 module _ (w : ℕ) (ks : List (List KeyPart)) (cs : List (List (Option ℤ)))
     (same : length ks ≡ length cs) (wide : (i : ℕ) → i < length ks → length (get_or ks i []) ≡ w)

@@ -1,4 +1,4 @@
--- Aggregates over puts of which some pass one test and the others another.
+-- Aggregates over puts where some pass one test and the others another.
 use Rattle.std.proofs.Common.{◌≡◌, ℕ, Bool, true, false, ◌&&◌, ◌||◌, ℤ, pos, List, [], ◌∷◌, Option, Some, None, cond, ap, sym, ◌∙◌, refl, subst, true≢false}
 use Rattle.std.specs.List.{list_any, filter, AllByRecursion}
 use Rattle.star_schema.specs.declared.group.Aggregate.{Aggregate}

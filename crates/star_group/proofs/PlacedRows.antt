@@ -1,4 +1,4 @@
--- The rows and the total of puts of which some stand by their places.
+-- The rows and the total of puts, some of which stand by their places.
 use Rattle.std.proofs.Common.{◌≡◌, ℕ, suc, ◌*◌, ◌<◌, Bool, true, false, ◌&&◌, ◌||◌, nat_eq, nat_lt, cond, ℤ, pos, List, [], ◌∷◌, Option, Some, None, length, get_or, refl, ap, sym, ◌∙◌, subst, arith, true≢false}
 use Rattle.std.specs.List.{filter, AllByRecursion}
 use Rattle.std.specs.Option.{option_eq, is_none, unwrap_or}

@@ -19,7 +19,7 @@ use Rattle.star_group.proofs.ContentMade.{made, made_content}
 use Rattle.star_group.proofs.KeyLists.{keys_decide}
 use Rattle.star_group.proofs.JoinedParts.{flipped, more, no_two, over, over_more}
 
--- ---- a measure of numbers of which a sum has no more than its parts
+-- ---- a measure of numbers that is no more for a sum than for its parts together
 
 -- the measures of the numbers of the puts that pass, added
 abbrev weight : (ℤ → ℕ) → (Update → ℤ) → (Update → Bool) → List Update → ℕ

@@ -105,7 +105,7 @@ pub apart_when : {P : Type 0} (b : Bool) → MatchBool b P (P → ⊥) → b ≡
 apart_when true told e = absurd (true≢false e)
 apart_when false told e = told
 
--- so many digits lead to this node, and no row on the way has the key
+-- `depth` digits lead to this node, and no row on the way has the key
 pub record IsGoneDown (width : ℕ) (ks : List (List KeyPart)) (links : List (List ℕ))
     (key : List KeyPart) (depth node : ℕ) : Type 0 where
   pub leads : Leads width links key depth node

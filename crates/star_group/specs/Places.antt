@@ -17,7 +17,7 @@ abbrev pub offset_of : Span → KeyValue → Option ℕ
 offset_of s (Number z) = if s.is_code then None else place_up_to s.last (z -ℤ s.low)
 offset_of s (Code n) = if s.is_code then place_up_to s.last (pos n -ℤ s.low) else None
 
--- the place of a key in front of others, of which each place has so many
+-- the place of a key list whose first key lies in `size` places, and whose others have theirs
 abbrev pub above : Option ℕ → ℕ → Option ℕ → Option ℕ
 above (Some offset) size (Some rest) = Some (offset + size * rest)
 above (Some offset) size None = None

@@ -11,7 +11,7 @@ use Rattle.star_program.specs.declared.key.KeyValue.{KeyValue}
 use Rattle.star_program.specs.Keys.{key_value_cmp, same_keys}
 use Rattle.star_program.specs.Puts.{Update, aggregate_at}
 
--- what a store is made for: a shape, so many keys, and its aggregates
+-- what a store is made for: a shape, how many keys there are, and its aggregates
 pub record Group : Type 0 where
   pub shape : Shape
   pub count : ℕ

@@ -25,11 +25,11 @@ pub record IsOfRows (b : PutBatch) : Type 0 where
   pub keys : b.keys.now ≡ 0 ∷ 1 ∷ []
   pub values : b.values.now ≡ 2 ∷ 2 ∷ 2 ∷ []
 
--- so many puts, of numbers of 64 bits
+-- `count` puts, of numbers of 64 bits
 pub record AreFew (count : ℕ) (puts : List Update) : Type 0 where
   pub many : length puts ≡ count
   pub small : All (λ put. All (λ z. is_i64 z ≡ true) put.values) puts
 
--- what has the content of some puts has that of so many such puts
+-- what has the content of some puts has that of `count` such puts
 abbrev pub HasFew : (List Update → Type 0) → ℕ → Type 0
 HasFew has count = (puts : List Update) × has puts × AreFew count puts

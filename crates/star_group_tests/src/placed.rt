@@ -244,7 +244,7 @@ fn placed_rows_are_those_of_other_stores(rt: HostRuntime) -> Result<(), Fail> {
 
 // ---- numbers
 
-// The totals of one number that is put so often, under a key.
+// The totals of one number that is put `count` times, under a key.
 fn of_number(
     alloc: Global,
     key: i64,

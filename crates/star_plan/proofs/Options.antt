@@ -49,7 +49,7 @@ drop_past [] (suc i) past = refl
 drop_past (y ∷ ys) zero past = absurd (omega arith)
 drop_past (y ∷ ys) (suc i) past = drop_past ys i (omega arith)
 
--- so many results, and those of the elements that are left
+-- the results so far, and those of the elements that are left
 abbrev pub with_rest : {B : Type 0} → List B → Option (List B) → Option (List B)
 with_rest done rest = option_map (λ ys. done ++ ys) rest
 

@@ -64,7 +64,7 @@ resolved_measures [] = Some []
 resolved_measures (tree.plain n ∷ is') = resolved_measures is'
 resolved_measures (tree.aggregate a ∷ is') = option_both (λ m ms. m ∷ ms) (resolved_measure a.measure) (resolved_measures is')
 
--- what an item shows, where so many aggregates come before it
+-- what an item shows, where `before` aggregates come before it
 abbrev pub item_column : List Name → ℕ → Item → Option GroupColumn
 item_column groups before (tree.plain n) = key_column groups n.text
 item_column groups before (tree.aggregate a) = Some (group.Aggregate before)

@@ -50,7 +50,7 @@ abbrev pub are_distinct : List Join → Bool
 are_distinct [] = true
 are_distinct (j ∷ js) = list_all (λ q. negated (is_table (table_of q.key) (table_of j.key))) js && are_distinct js
 
--- a group with so many keys and aggregates has this column
+-- a group with these numbers of keys and aggregates has this column
 abbrev pub is_group_column : (keys aggregates : ℕ) → GroupColumn → Bool
 is_group_column keys aggregates (group.Key n) = nat_lt n keys
 is_group_column keys aggregates (group.Aggregate n) = nat_lt n aggregates

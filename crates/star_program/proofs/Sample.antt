@@ -176,7 +176,7 @@ two_keys = record {
       aggregate.Sum ∷ aggregate.Count ∷ [];
 }
 
--- one update of a cube of these keys, of which all is shown
+-- one update of a cube of these keys, with all of its columns shown
 abbrev pub one_put : Parts
 one_put = record {
   registers = 3;

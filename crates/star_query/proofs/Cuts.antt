@@ -142,7 +142,7 @@ no_more_of_it n (b ∷ bs) digits letter =
     by_bool (is_ascii_digit b) (λ wrong. absurd (let h = rw wrong at digits in cc))
     (λ other. rw (letter, other) refl)
 
--- the digits at the front are a numeral of so many places
+-- the digits at the front, at most `places`, are a numeral of these places
 numeral_front : (places : ℕ) (bytes : List ℕ) → 1 ≤ prefix_len is_ascii_digit bytes
     → prefix_len is_ascii_digit bytes ≤ places
     → is_numeral places (take (prefix_len is_ascii_digit bytes) bytes) ≡ true
@@ -700,7 +700,7 @@ behind_token place word bytes x (Err fault) is over (tokens, end, left, are, sto
   stops,
 )
 
--- of so many bytes at most
+-- of at most `n` bytes
 cut_so : (n place : ℕ) (bytes : List ℕ) → length bytes ≤ n
     → Cut place bytes (cut_from place 0 bytes)
 unfolding cut_from

@@ -7,7 +7,7 @@ use Rattle.star_query.specs.Maxima.{most_digits, most_name_bytes}
 use Rattle.star_query.specs.Leaves.{of_operands, of_tests}
 use Rattle.star_query.specs.Tree.{Name, Literal, number, text, Expression, Comparison, compare, between, Test, pair, comparison, Condition, Measure, fold, count, Item, plain, aggregate, Tree}
 
--- 1 to 64 letters, digits and _, of which the first is no digit
+-- 1 to 64 letters, digits and _, and no digit first
 unfoldable pub is_name : List ℕ → Bool
 is_name word = begins_with_letter word && (list_all is_word_byte word && nat_le (length word) most_name_bytes)
 

@@ -1,4 +1,4 @@
--- The symbols of a query: its tokens, of which names and functions keep their place.
+-- The symbols of a query: its tokens; those of names and functions keep their place.
 use Rattle.std.specs.Prelude.{ℕ, List, [], ◌∷◌, codes, map}
 use Rattle.std.specs.Char.{to_ascii_lowercase}
 use Rattle.star_query.specs.declared.token.Keyword.{Keyword}

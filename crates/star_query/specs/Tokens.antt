@@ -15,8 +15,8 @@ use Rattle.star_common.specs.WhiteSpace.{is_blank}
 
 -- ---- tokens
 
--- the bytes of a token that begins at a place, and its symbol: a word of letters, digits and _, of which the first is no
--- digit; a number; a text in quotes; or a sign
+-- the bytes of a token that begins at a place, and its symbol: a word of letters, digits and _ that
+-- begins with no digit; a number; a text in quotes; or a sign
 pub data IsToken (place : ℕ) (bytes : List ℕ) (x : Symbol) : Type 0 where
   a_word : begins_with_letter bytes ≡ true → list_all is_word_byte bytes ≡ true → x ≡ word_of place bytes → IsToken place bytes x
   a_number : (n : ℕ) → numeral_of most_digits bytes ≡ Some n → x ≡ number n → IsToken place bytes x

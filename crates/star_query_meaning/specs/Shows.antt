@@ -23,7 +23,7 @@ item_names items = item_names_from 1 items
 
 -- ---- columns of groups
 
--- what the items show, where so many aggregates come before them
+-- what the items show, where `before` aggregates come before them
 abbrev pub columns_from : List Name → ℕ → List Item → List GroupColumn
 columns_from columns before [] = []
 columns_from columns before (plain n ∷ items) =

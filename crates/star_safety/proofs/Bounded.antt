@@ -1,5 +1,5 @@
--- No run makes more turns than are quoted, and one that may make so many is the run without a
--- bound.
+-- No run makes more turns than are quoted, and one that may make as many as that is the run without
+-- a bound.
 use Rattle.std.proofs.Common.{◌≡◌, ℕ, zero, suc, ◌+◌, ◌*◌, ◌≤◌, ◌<◌, Bool, true, false, Option, Some, None, refl, sym, ap, subst, ◌∙◌, arith, zero-add, le_trans}
 use Rattle.std.specs.Prelude.{nat_lt, if◌then◌else◌}
 use Rattle.std.proofs.lemmas.Bool.{lt-ltb}
@@ -55,7 +55,7 @@ acts_none w parts inside regs s op =
     unless_none s.visits (trap_of w parts inside regs s op) (effect_of w parts regs s op)
     (does_none w parts regs s op)
 
--- ---- one run as the other, within so many visits
+-- ---- one run as the other, within a number of visits
 
 abbrev Quoted : ℕ → End → Type 0
 Quoted v (Ended s) = s.visits ≤ v
@@ -101,7 +101,7 @@ same_begin : (v : ℕ) (b : Bool) (s : State) (f g : State → End) → b ≡ tr
 same_begin v true s f g e h = h
 same_begin v false s f g e h = absurd (cc)
 
--- each of whose turns begins at most so many turns beside itself
+-- where each turn begins at most `inner` turns beside itself
 same_turns : (start inner rows : ℕ) (may : ℕ → Bool) (f g : ℕ → State → End)
     → ((k : ℕ) → k < start + rows * (inner + 1) → may k ≡ true)
     → ((j : ℕ) (s : State) → j < rows → s.visits ≤ start + j * (inner + 1) + 1

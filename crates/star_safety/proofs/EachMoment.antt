@@ -24,7 +24,7 @@ after_ended (Ended s) Next go t C h is next = next s h is
 after_ended (Trapped at trap) Next go t C h is next = absurd h
 after_ended Limited Next go t C h is next = absurd h
 
--- in the turn behind so many others
+-- in the turn behind `k` others
 in_one_turn : (k count from : ℕ) (turn : ℕ → State → End) (Holding : ℕ → State → Type 0)
     (s t : State) → k < count → InEachTurn count from turn Holding s
     → turns (λ visits. true) k from turn s ≡ Ended t → Holding (from + k) (visited t)

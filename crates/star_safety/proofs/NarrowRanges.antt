@@ -1,5 +1,5 @@
 -- What is known where nothing is refused lies within 2 ^ 63 of zero, each result of it within
--- 2 ^ 126, and so does what so few numbers add up to.
+-- 2 ^ 126, and so does the sum of fewer than 2 ^ 63 numbers.
 use Rattle.std.proofs.Common.{◌≡◌, ℕ, zero, suc, ◌+◌, ◌*◌, ◌^◌, ◌≤◌, ◌<◌, Bool, true, false, List, [], ◌∷◌, ◌++◌, Option, Some, None, refl, arith, FitsSigned, w64}
 use Rattle.std.specs.Prelude.{ℤ, pos, negsuc, ◌+ℤ◌, ◌-ℤ◌, ◌*ℤ◌, map, nat_eq, slice_index_or, unsigned_abs, if◌then◌else◌}
 use Rattle.std.specs.List.{AllByRecursion}
@@ -107,7 +107,7 @@ share_narrow parts x g vs a fits =
 
 -- ---- what adds up
 
--- so many numbers of 64 bits each add up to no more than this
+-- numbers of 64 bits add up to no more than 2 ^ 63 for each of them
 pub sum_small : (ss : List Share) → AllNarrow ss → Small (most_of ss * 2 ^ 63) (sum_range ss)
 sum_small [] all = only_small 0 (pos 0) (omega arith)
 sum_small (s ∷ ss) all =
@@ -119,7 +119,7 @@ sum_small (s ∷ ss) all =
         → unsigned_abs (x +ℤ y) ≤ (most_of ss + s.met) * 2 ^ 63
     both x y p q = let h = sum_abs x y (x +ℤ y) refl in omega (arith, h, p, q)
 
--- so few of them add up within 128 bits
+-- fewer than 2 ^ 63 of them add up within 128 bits
 pub sum_fits : (ss : List Share) → AllNarrow ss → most_of ss < 2 ^ 63 → FitsI128 (sum_range ss)
 sum_fits ss all few =
     small_fits (most_of ss * 2 ^ 63) (sum_range ss) (omega (arith, few)) (sum_small ss all)

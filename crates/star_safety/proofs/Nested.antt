@@ -15,7 +15,7 @@ pub deeper_right : (b : Bool) (m n k : ℕ) → nat_lt m n ≡ b → (if b then 
 deeper_right true m n k e h = h
 deeper_right false m n k e h = let le : n ≤ m = ltb-false m n e in omega (arith, le, h)
 
--- so often in a scan of a table of so few rows, where one scan fewer may stand in another
+-- how often something is met in a scan of a table of few rows, where one scan fewer may stand in it
 scanned : (base most times size n : ℕ) → size < base → times * base ^ suc n ≤ most
     → times * size * base ^ n ≤ most
 scanned base most times size n small h =

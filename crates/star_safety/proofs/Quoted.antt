@@ -16,7 +16,7 @@ use Rattle.star_safety.specs.Standing.{instructions_of, reason_of}
 use Rattle.star_safety.proofs.Nested.{body_nested, rest_nested, met_within}
 
 module _ (size : TableId → ℕ) (small : (t : TableId) → size t < 2 ^ 32) where
-  -- of each instruction, so often met as scans that stand one in another allow
+  -- of each instruction, met as often as scans that stand one in another allow
   turns_within : (c : Code) (times : ℕ) → times * (2 ^ 32) ^ scan_depth c ≤ 2 ^ 96
       → turns_met size times c ≤ code_size c * 2 ^ 96
   turns_within Stop times deep = omega arith

@@ -226,7 +226,7 @@ pub nothing_tallied : AreTallied no_tallies empty_state
 nothing_tallied g a =
     record { above = omega arith; below = omega arith; many = omega arith; each = tt }
 
--- where so many turns may begin
+-- where as many turns may begin as are quoted
 pub never_traps : (w : World) (parts : Parts) (may : ℕ → Bool) → IsAccepted w parts
     → ((k : ℕ) → k < quote w.size parts → may k ≡ true)
     → Safe (whole_gain w parts) (quote w.size parts) (meaning_of w may parts)

@@ -128,7 +128,7 @@ one_put w parts x (Put h ks vs) g a = go (nat_eq g h)
     go true = omega arith
     go false = omega arith
 
--- so many more where each is met so often
+-- how many more there are where each instruction is met as often as can be quoted
 end_count : (w : World) (parts : Parts) (c : Code) (x : Context)
     → x.met + turns_met w.size x.met c ≤ 1 + 10 ^ 15 → (g a : ℕ)
     → most_of ((at_end w parts x c).so_far g a)

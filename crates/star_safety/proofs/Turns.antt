@@ -13,7 +13,7 @@ use Rattle.star_safety.proofs.Tallied.{tallied_more}
 use Rattle.star_safety.specs.Fitting.{Agrees}
 use Rattle.star_safety.proofs.Instructions.{AreTallied, IsGood}
 
--- the run ends with no trap, within these sums and so many visits
+-- the run ends with no trap, within these sums and `v` visits
 abbrev pub Safe : Tallies → ℕ → End → Type 0
 Safe y v (Ended s) = AreTallied y s × (s.visits ≤ v)
 Safe y v (Trapped at trap) = ⊥
@@ -57,8 +57,7 @@ safe_begin : (y : Tallies) (v : ℕ) (b : Bool) (s : State) (turn : State → En
 safe_begin y v true s turn e h = h
 safe_begin y v false s turn e h = absurd (cc)
 
--- the turns of a scan, each of which adds at most `add` and makes at most `inner` turns beside
--- itself
+-- the turns of a scan, where each adds at most `add` and makes at most `inner` turns beside itself
 pub safe_turns : (y add : Tallies) (start inner rows : ℕ) (may : ℕ → Bool) (turn : ℕ → State → End)
     → ((k : ℕ) → k < start + rows * (inner + 1) → may k ≡ true)
     → ((j : ℕ) (s : State) → j < rows → AreTallied (plus_all y (times_all j add)) s

@@ -18,7 +18,7 @@ use Rattle.star_safety.specs.Laws.{IsAccepted}
 use Rattle.star_safety.specs.Standing.{instructions_of, reason_of}
 use Rattle.star_safety.proofs.Words.{over}
 
--- each table has so many rows, each number is 7, and each key is that of the first row
+-- each table has `n` rows, each number is 7, and each key is that of the first row
 abbrev of_size : ℕ → World
 of_size n = record sample {
   size = λ t. n;

@@ -25,7 +25,7 @@ abbrev groups : List GroupDecl
 groups = plain (Count ∷ Sum ∷ [])
     ∷ record { shape = Plain; keys = key.Text CRegion ∷ []; aggregates = Count ∷ [] } ∷ []
 
--- what refuses a body over the sample, where so many visits are allowed
+-- what refuses a body over the sample, where 15 visits are allowed
 abbrev refusal : Code → Option Refusal
 refusal body = first_refusal sample 15 (over groups body)
 

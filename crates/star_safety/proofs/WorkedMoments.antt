@@ -127,7 +127,7 @@ row_undeclared h = let p = h.1 in omega (arith, p)
 
 -- ---- the moments of a run
 
--- a scan of the dates, of which each turn makes a number, and a number behind it
+-- a scan of the dates whose turns each make a number, and a number behind it
 abbrev each_date : Parts
 each_date = over [] (Each Date 0 (acts (const 1 (pos 7) ∷ []) Stop)
     (acts (const 2 (pos 9) ∷ []) Stop))
@@ -227,7 +227,7 @@ two_puts z = over (plain (Sum ∷ []) ∷ [])
 no_greater_sum : SumsFit sample (two_puts (pos 170141183460469231731687303715884105727)) → ⊥
 no_greater_sum h = let p = (h.sums 0 0 (omega arith) refl).1.sfits in omega (arith, p)
 
--- and a count of so many rows leaves 64
+-- and a count of 2 ^ 63 rows leaves 64
 abbrev vast : World
 vast = record sample { size = λ t. 9223372036854775808 }
 

@@ -27,7 +27,7 @@ abbrev pub cost_refusal : ℕ → Bool → Option Refusal
 cost_refusal visits true = None
 cost_refusal visits false = Some (TooCostly visits)
 
--- the first refusal of a program where so many visits are allowed
+-- the first refusal of a program where `most` visits are allowed
 abbrev pub first_refusal : World → ℕ → Parts → Option Refusal
 first_refusal w most parts =
     option_or (cost_refusal (quote w.size parts) (nat_le (quote w.size parts) most))

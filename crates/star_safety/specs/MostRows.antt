@@ -54,14 +54,14 @@ lists_of [] = 1
 lists_of (None ∷ counts) = lists_of counts
 lists_of (Some count ∷ counts) = count * lists_of counts
 
--- the grouping that shows no key has one row; another no more than there are updates, each of which
--- is in one row of it, and than there are lists of values, none of which is in two rows
+-- the grouping that shows no key has one row; another no more than there are updates, as each is in
+-- one row of it, and no more than there are lists of values, as none is in two rows
 unfoldable pub rows_of_grouping : ℕ → List (Option ℕ) → ℕ
 rows_of_grouping updates counts =
     if list_all is_none counts then 1
     else (if nat_le updates (lists_of counts) then updates else lists_of counts)
 
--- over all groupings of a shape, of keys that have so many values each
+-- over all groupings of a shape, where each key has as many values as `counts` has at its place
 abbrev pub rows_of_groupings : Shape → ℕ → List ℕ → ℕ
 rows_of_groupings s updates counts =
     sum_by (rows_of_grouping updates) (filter (is_grouping s) (masks counts))

@@ -4,8 +4,8 @@ use Rattle.star_schema.specs.declared.table.TableId.{TableId}
 use Rattle.star_program.specs.declared.program.Parts.{Parts}
 use Rattle.star_program.specs.Code.{Code, Stop, Then, Each}
 
--- the turns of what is met so many times: for each scan the product of its rows and of those of the
--- scans round it
+-- the turns of code that is met `times` times: for each scan the product of its rows and of those
+-- of the scans round it
 abbrev pub turns_met : (TableId → ℕ) → ℕ → Code → ℕ
 turns_met size times Stop = 0
 turns_met size times (Then op rest) = turns_met size times rest

@@ -13,7 +13,7 @@ use Rattle.star_service.specs.declared.sessions.Stop.TheVariants.{Unread, Unwrit
 use Rattle.star_service.specs.Private.Turns.{IsPrompted, IsStatementAnswered, IsTurn}
 use Rattle.star_service.proofs.SessionLemmas.{all_answered, answered_more, none_answered}
 
--- statements were answered, one after another, which have at least so many bytes
+-- statements were answered, one after another, which have at least `many` bytes
 pub record IsUnderWay {S E : Type 0} (loaded : Loaded) (is_terminal : Bool)
     (old new : Option (List ℕ))
     (out : Change S) (err : Change E) (many : ℕ) : Type 0 where

@@ -10,7 +10,7 @@ timing_line query best median =
     codes "query " ++ (query_name query ++ (codes " " ++ (seconds_text best
     ++ (codes " " ++ (seconds_text median ++ codes "\n")))))
 
--- the line of a query that was run so many times
+-- the line of a query that was run `runs` times
 pub record IsLine (runs : ℕ) (query : BenchmarkQuery) (line : List ℕ) : Type 0 where
   pub times : List ℕ
   pub each : length times ≡ runs

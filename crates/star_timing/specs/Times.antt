@@ -14,7 +14,7 @@ pub record IsMedian (times : List ℕ) (median : ℕ) : Type 0 where
   pub order : IsNonDecreasing sorted
   pub middle : slice_get sorted (length times / 2) ≡ Some median
 
--- a number in at least so many digits, zeros before it
+-- a number in at least `places` digits, zeros before it
 abbrev pub padded_decimal : (places : ℕ) → ℕ → List ℕ
 padded_decimal places n = replicate (places - length (decimal n)) 48 ++ decimal n
 

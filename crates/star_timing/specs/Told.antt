@@ -28,7 +28,7 @@ IsTimingFailureTold err (Engine fault) status = IsFaultTold err fault status
 IsTimingFailureTold err Clock status =
     IsTextTold err (codes "error: the clock can't be read\n") × (status ≡ 6)
 
--- the lines of the thirteen queries are written, each of which ran so often
+-- the lines of the thirteen queries are written, for `runs` runs of each
 abbrev pub AreWritten : {S : Type 0} → (runs : ℕ) → Change S → Type 0
 AreWritten runs out = (text : List ℕ) × AreLines runs THIRTEEN text × HasGained out text
 

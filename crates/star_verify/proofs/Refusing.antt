@@ -28,7 +28,7 @@ pub same_quote : (w : World) (facts : Facts) → AreFacts w facts → (parts : P
 same_quote w facts are parts visits e =
     e ∙ ap (λ size. quote size parts) (λ i t. are.sizes t i)
 
--- of a program that so many visits are quoted of, and whose parts a check holds
+-- of a program that is quoted `visits` visits, and whose parts a check holds
 module _ (w : World) (most : ℕ) (parts : Parts) (facts : Facts) (are : AreFacts w facts)
     (visits : ℕ) (quoted : visits ≡ quote (size_of facts.sizes) parts) where
   abbrev later : Option (ℕ × Reason) → Option ℕ → Option admissible.Refusal

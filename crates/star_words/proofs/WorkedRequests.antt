@@ -76,7 +76,7 @@ module _ (name file : Bor (List ℕ)) (limits : Limits) where
   a_file_without_a_name : name.now ≡ [] → HasTaskFolder (Explain name)
   a_file_without_a_name empty = tt
 
--- ---- which fault may be told of which words
+-- ---- which fault may be told, by the words
 
 abbrev commands : List (List ℕ)
 commands = codes "check" ∷ codes "bench" ∷ codes "query" ∷ codes "explain" ∷ codes "exec"

@@ -158,7 +158,7 @@ fn asking<'a>(alloc: Global, help: Help, asked: Asked) -> Result<Command<'a>, Al
     }
 }
 
-/// Makes these commands, each of which asks for what stands beside its help.
+/// Makes these commands; each asks for what stands beside its help.
 pub(crate) fn asking_all<'a>(
     alloc: Global,
     commands: &[(Help, Asked)],

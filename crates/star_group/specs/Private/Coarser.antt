@@ -58,8 +58,8 @@ abbrev pub first_hidden : Shape → ℕ → ℕ
 first_hidden Plain count = count
 first_hidden _ count = 0
 
--- the first row of which a pass makes a coarser one, where there were so many before the pass before it:
--- the rows of a rollup are made each of those that were made last
+-- the first row that a pass makes a coarser one of, where there were `row_count` before the pass
+-- before it: the rows of a rollup are made each of those that were made last
 abbrev pub first_finer : Shape → ℕ → ℕ
 first_finer Rollup row_count = row_count
 first_finer _ row_count = 0

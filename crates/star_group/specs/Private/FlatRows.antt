@@ -4,14 +4,14 @@ use Rattle.std.specs.List.{flat_map, AllByRecursion}
 use Rattle.star_program.specs.declared.key.KeyValue.{KeyValue}
 use Rattle.star_group.specs.declared.group_row.GroupRow.{GroupRow}
 
--- so many rows, of so many keys and aggregates each
+-- some rows, with `key_count` keys and `aggregate_count` aggregates each
 unfoldable pub flat_rows : ℕ → ℕ → ℕ → List (Option KeyValue) → List (Option ℤ) → List GroupRow
 flat_rows key_count aggregate_count zero keys aggregates = []
 flat_rows key_count aggregate_count (suc count) keys aggregates =
     record { keys = take key_count keys; aggregates = take aggregate_count aggregates }
     ∷ flat_rows key_count aggregate_count count (drop key_count keys) (drop aggregate_count aggregates)
 
--- a row of so many keys and aggregates
+-- a row with these numbers of keys and aggregates
 pub record HasWidths (key_count aggregate_count : ℕ) (row : GroupRow) : Type 0 where
   pub keys : length row.keys ≡ key_count
   pub aggregates : length row.aggregates ≡ aggregate_count

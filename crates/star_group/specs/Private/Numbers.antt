@@ -16,7 +16,7 @@ use Rattle.star_group.specs.declared.keyed.trie.Place.TheVariants.{Held, Missing
 abbrev pub keys_in : KeyedRows → List (List KeyPart)
 keys_in rows = cut rows.trie.width rows.trie.len rows.trie.keys.items
 
--- past so many places a key has ALL
+-- past `width` places a key has ALL
 abbrev pub IsNarrow : ℕ → List KeyPart → Type 0
 IsNarrow width key = drop width key ≡ drop width all_hidden
 
@@ -64,13 +64,13 @@ pub record IsGrown (old new : KeyedRows) : Type 0 where
   pub keys : new.trie.len ≡ old.trie.len → keys_in new ≡ keys_in old
   pub links : new.trie.len ≡ old.trie.len → new.trie.links.items ≡ old.trie.links.items
 
--- so many more keys fit in without memory
+-- `count` more keys fit in without memory
 pub record HasTrieSpace (trie : Trie) (count : ℕ) : Type 0 where
   pub keys : vec_len trie.keys + count * trie.width ≤ vec_capacity trie.keys
   pub links : vec_len trie.links + count ≤ vec_capacity trie.links
   pub nodes : vec_len trie.links + count ≤ 2 ^ 32
 
--- and so many more rows
+-- and `count` more rows
 pub record HasSpace (rows : KeyedRows) (count : ℕ) : Type 0 where
   pub trie : HasTrieSpace rows.trie count
   pub cells : vec_len rows.cells + count * rows.aggregate_count ≤ vec_capacity rows.cells

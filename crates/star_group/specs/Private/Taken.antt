@@ -9,7 +9,7 @@ use Rattle.star_group.specs.Batches.{put_in}
 use Rattle.star_group.specs.Cells.{step}
 use Rattle.star_group.specs.Stores.{put_number}
 
--- the items after the first rows, of which each changes that at its place
+-- the items after the first rows, where each row changes the item at its place
 unfoldable pub after_rows : {A : Type 0} → A → (ℕ → A → A) → List ℕ → List A → ℕ → List A
 after_rows none change at items zero = items
 after_rows none change at items (suc row) =

@@ -52,7 +52,7 @@ unfoldable pub node_at : ℕ → List (List ℕ) → List KeyPart → ℕ → �
 node_at width links key zero = 0
 node_at width links key (suc depth) = child links (node_at width links key depth) (digit_at width key depth)
 
--- so many of the key's digits lead from node to node to this one
+-- the key's first `depth` digits lead from node to node to this one
 pub record Leads (width : ℕ) (links : List (List ℕ)) (key : List KeyPart) (depth node : ℕ) : Type 0 where
   pub steps : (i : ℕ) → i < depth → 0 < node_at width links key (suc i)
   pub end : node_at width links key depth ≡ node

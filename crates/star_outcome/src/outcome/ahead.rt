@@ -1,4 +1,4 @@
-// Rows that are read before they are wanted.
+// Rows that are read before they are asked for.
 
 use super::order::part_at;
 use star_group::{GroupRows, KeyValue};

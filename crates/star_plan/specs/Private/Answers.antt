@@ -21,7 +21,7 @@ Tells fault (Err e) = UnlessMemory OutOfMemory e (fault ≡ Some e)
 abbrev pub Resolves : {X A F : Type 0} → (X → A) → Option A → Result X F → Type 0
 Resolves shown there result = IfOk result (λ x. Some (shown x) ≡ there)
 
--- an aggregate that so many come before has its name among all at that place
+-- an aggregate that `before` others come before has its name among all at that place
 abbrev pub IsNamedAt : List (List ℕ) → (before : ℕ) → Item → Type 0
 IsNamedAt names before (plain n) = Unit {0}
 IsNamedAt names before (aggregate a) =

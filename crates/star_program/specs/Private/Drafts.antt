@@ -95,12 +95,12 @@ IsInOrder stage.Body d = (d.shows ≡ []) × (d.sorts ≡ [])
 IsInOrder stage.Shows d = (d.scans ≡ []) × (d.sorts ≡ [])
 IsInOrder stage.Sorts d = d.scans ≡ []
 
--- so many groups, each of them small
+-- `count` groups, each of them small
 pub record AreSmallGroups (count : ℕ) (groups : List GroupDecl) : Type 0 where
   pub many : length groups ≡ count
   pub each : All IsSmall groups
 
--- a body in which so many scans are open, of so many instructions
+-- a body of `instructions` instructions in which `depth` scans are open
 pub record IsBody (instructions depth : ℕ) (scans : List OpenScan) (body : Code) : Type 0 where
   pub open_scans : length scans ≡ depth
   pub many : code_size (closed scans body) ≡ instructions

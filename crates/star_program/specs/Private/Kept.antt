@@ -1,4 +1,4 @@
--- The cell of which this is kept.
+-- The cell that something kept stands for.
 use Rattle.star_program.specs.declared.outcome.Cell.{Cell}
 use Rattle.star_program.specs.declared.outcome.Cell.TheVariants as cell
 use Rattle.star_program.specs.declared.outcome.Kept.{Kept}

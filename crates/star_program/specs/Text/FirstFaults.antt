@@ -10,7 +10,7 @@ use Rattle.star_program.specs.declared.spelling.fault.TextFault.{TextFault}
 use Rattle.star_program.specs.declared.spelling.fault.TextFault.TheVariants as fault
 use Rattle.star_program.specs.declared.spelling.statement.Statement.{Statement}
 
--- these lines say the first statements of some program, of which this holds
+-- these lines say the first statements of some program for which this holds
 pub record BeginsProgram (Holds : Parts → Type 0) (lines : List (List ℕ)) : Type 0 where
   pub program : Parts
   pub holds : Holds program

@@ -43,7 +43,7 @@ abbrev pub begins_with_digit : List ℕ → Bool
 begins_with_digit [] = false
 begins_with_digit (b ∷ bs) = is_ascii_digit b
 
--- within so many bytes
+-- within `size` bytes
 abbrev pub IsEndingWithin : Ending → ℕ → Type 0
 IsEndingWithin (endings.Closed n) size = (1 ≤ n) × (n ≤ size)
 IsEndingWithin (endings.Stopped n) size = n < size
@@ -62,13 +62,13 @@ IsLexical (BadNumber place) = Unit {0}
 IsLexical (OpenText place) = Unit {0}
 IsLexical _ = ⊥
 
--- a token within so many bytes, or a fault of the cut
+-- a token within `size` bytes, or a fault of the cut
 abbrev pub IsPieceWithin : ℕ → Piece → Type 0
 IsPieceWithin size pieces.Blank = Unit {0}
 IsPieceWithin size (pieces.Token kind width) = (1 ≤ width) × (width ≤ size)
 IsPieceWithin size (pieces.Bad fault) = IsLexical fault
 
--- what was found at a place, within so many bytes, is this piece of the cut
+-- what was found at a place, within `size` bytes, is this piece of the cut
 pub record IsPiece (place : ℕ) (piece : spec.Piece) (size : ℕ) (found : Piece) : Type 0 where
   pub same : piece_of place found ≡ piece
   pub within : IsPieceWithin size found

@@ -130,7 +130,7 @@ Nests x ps d old new (Err (errors.Fault Unexpected)) = ⊥
 Nests x ps d old new (Err (errors.Fault TooDeep)) = (most_nestings ≤ d) × (head_of old.left ≡ Some x) × (new ≡ old)
 Nests x ps d old new (Err (errors.Fault TooMany)) = (d < most_nestings) × (head_of old.left ≡ Some x) × IsBeyond ps old.counts old.left × (new ≡ old)
 
--- a phrase is read wherever one is wanted, or the machine ends with the fault
+-- a phrase is read wherever one may stand, or the machine ends with the fault
 abbrev pub ReadsPhrase : {A T P H : Type 0} → (A → T) → (P → T) → (H → Type 0) → (H → ParserState) → (P → H → ParserState) → Spot → Spot → Result A ParseError → Type 0
 ReadsPhrase {A} {T} {P} {H} view tree IsHole wanted given old new (Ok x) =
     (p : P) × (tree p ≡ view x) × ((h : H) → IsHole h → verdict old (wanted h) ≡ verdict new (given p h))

@@ -72,13 +72,14 @@ fault_at at (stop.Trap kind) = fault.Trap at kind
 abbrev pub work : Run → ℕ
 work run = run.lookups + run.updates
 
--- what was done, and so many instructions more, is no more than 4,096 a visit and 4,096 outside scans
+-- what was done, and `instructions` more, is no more than 4,096 a visit and 4,096 outside scans
 pub record IsFew (most : ℕ) (run : Run) (instructions : ℕ) : Type 0 where
   pub visits : run.visits ≤ most
   pub work : work run + instructions ≤ 4096 * run.visits + 4096
 
--- a walk over so many instructions more, with scans so deep, may go on from here: these registers
--- hold what is sound, the frames have room, and the run has done something, and not too much
+-- a walk over `instructions` more, with scans nested `depth` deep, may go on from here: these
+-- registers hold what is sound, the frames have room, and the run has done something, and not too
+-- much
 pub record IsWalkReady (m : Machine) (registers frames : List (Option Value)) (run : Run)
     (depth instructions : ℕ) : Type 0 where
   pub wide : length registers ≡ m.parts.now.registers
@@ -87,7 +88,7 @@ pub record IsWalkReady (m : Machine) (registers frames : List (Option Value)) (r
   pub sound : AreSound m.catalogue.now (registers_view registers)
   pub done : HasRun m run
 
--- what was done by so many instructions and by the turns of the scans among them
+-- what was done by `instructions` instructions and by the turns of the scans among them
 pub record HasWorked (most : ℕ) (old new : Run) (instructions : ℕ) : Type 0 where
   pub visits : new.visits ≤ most
   pub more : old.visits ≤ new.visits

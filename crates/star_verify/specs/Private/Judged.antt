@@ -32,7 +32,7 @@ IsFirst _ found = ⊥
 
 -- ---- what is kept
 
--- so many registers as are declared, a flag for each, and eight tallies of aggregates and eight of
+-- as many registers as are declared, a flag for each, and eight tallies of aggregates and eight of
 -- keys for each of eight groups
 pub record IsSized (parts : Parts) (noted : Noted) : Type 0 where
   pub wide : length noted.registers.items ≡ parts.registers

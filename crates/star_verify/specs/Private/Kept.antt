@@ -33,17 +33,17 @@ numbers_known aggregates known values =
 
 -- ---- how much is put
 
--- a tally takes so many numbers more
+-- a tally takes `times` numbers more
 pub record HasTallyRoom (tally : Tally) (times : ℕ) : Type 0 where
   pub bounded : IsBounded tally
   pub room : tally.many + times ≤ 2 ^ 62
 
--- of at most so many numbers more than before
+-- of at most `times` numbers more than before
 pub record IsTallyGrown (old new : Tally) (times : ℕ) : Type 0 where
   pub bounded : IsBounded new
   pub many : new.many ≤ old.many + times
 
--- each tally is of at most so many numbers
+-- each tally is of at most `most` numbers
 abbrev pub AreTalliesFew : List Tally → ℕ → Type 0
 AreTalliesFew tallies most =
     (p : ℕ) (t : Tally) → p < length tallies

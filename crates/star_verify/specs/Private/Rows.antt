@@ -17,7 +17,8 @@ abbrev pub MayHide : Shape → Bool → Type 0
 MayHide Plain true = ⊥
 MayHide _ _ = Unit {0}
 
--- what keys that are left show and hide is a grouping behind keys of which one is hidden or none
+-- what the keys that are left show and hide is a grouping behind others; the flag tells whether one
+-- of the others is hidden
 abbrev pub grouping_goes_on : Shape → Bool → List (Option ℕ) → Bool
 grouping_goes_on s true counts = is_grouping s (None ∷ counts)
 grouping_goes_on s false counts = is_grouping s counts
@@ -34,7 +35,8 @@ may_hide _ = true
 abbrev pub lesser : ℕ → ℕ → ℕ
 lesser a b = if nat_le a b then a else b
 
--- the rows of one grouping behind keys of which some are shown, with so many lists of their values
+-- the rows of one grouping behind other keys; the flag tells whether some of these are shown, and
+-- `lists` how many lists of values they have
 unfoldable pub rows_of_rest : ℕ → Bool → ℕ → List (Option ℕ) → ℕ
 rows_of_rest updates has_shown lists counts =
     if not has_shown && list_all is_none counts then 1
@@ -45,7 +47,7 @@ abbrev pub rows_behind : ℕ → Shape → Bool → Bool → ℕ → List ℕ �
 rows_behind updates s has_shown has_hidden lists counts =
     sum_by (rows_of_rest updates has_shown lists) (filter (grouping_goes_on s has_hidden) (masks counts))
 
--- how many groupings there are of so many keys at most
+-- how many groupings there are at most of a number of keys
 unfoldable pub groupings : ℕ → ℕ
 groupings zero = 1
 groupings (suc n) = groupings n + groupings n

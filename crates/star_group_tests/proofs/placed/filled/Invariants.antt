@@ -1,4 +1,4 @@
--- So many puts so far.
+-- The puts so far.
 use Rattle.star_group_tests.specs.Few.{HasFew, IsOfTests}
 use Rattle.star_group_tests.proofs.placed.filled.Given as goal
 
