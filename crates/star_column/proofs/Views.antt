@@ -76,11 +76,11 @@ number_there number words place word within is =
     ∙ ap Some (get_or-map number words place word 0 within ∙ ap number (sym is))
 
 -- one more is written behind those of the places before
-pub one_gathered : (f : ℕ → ℤ) (places : List ℕ) (into : List ℤ) (at : ℕ) (z : ℤ)
+pub one_gathered : {A : Type 0} (f : ℕ → A) (places : List ℕ) (into : List A) (at : ℕ) (z : A)
     → at < length places → length into ≡ length places
     → take at into ≡ map f (take at places) → z ≡ f (get_or places at 0)
     → take (at + 1) (set into at z) ≡ map f (take (at + 1) places)
-one_gathered f places into at z within long so_far is =
+one_gathered {A} f places into at z within long so_far is =
     take_more_set into at z (omega (arith, within, long))
     ∙ (λ i. so_far i ++ is i ∷ [])
     ∙ sym (map-append f (take at places) (get_or places at 0 ∷ []))

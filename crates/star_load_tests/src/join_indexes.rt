@@ -4,7 +4,7 @@
 ghost use Rattle.std.specs.Prelude.{◌≡◌, ◌<◌, ◌+◌, ◌≤◌, All, IfOk, length};
 
 use crate::asserts::check_same;
-use star_column::JoinIndex;
+use star_column::{ColumnData, ColumnView, JoinIndex, NumberColumn, PackedColumn};
 use std::alloc::{AllocError, Global};
 use std::process::Abort;
 use std::test::Fail;
@@ -95,6 +95,81 @@ fn rows_are_read_back(rt: HostRuntime) -> Result<(), Fail> {
             (130, None),
         ] {
             check_same(&rt, row_at(&index, row), expected, &(table, row));
+        }
+    }
+    Ok(())
+}
+
+// The rows that some of 130 rows refer to: in another order, and some again.
+fn gathered(index: &JoinIndex) -> Option<[u32; 5]> {
+    let mut rows = [7; 5];
+    if index.len() == 130 {
+        index.gather(&[2, 129, 1, 2, 1], &mut rows);
+        Some(rows)
+    } else {
+        None
+    }
+}
+
+#[test]
+fn rows_that_are_referred_to_are_gathered(rt: HostRuntime) -> Result<(), Fail> {
+    let alloc = rt.alloc();
+    for table in [1, 2, 256, 257, 65_536, 65_537, u32::MAX] {
+        let index = index_of(alloc, table, 130)?;
+        let [first, middle, last] = [0, table / 2, table.saturating_sub(1)];
+        let expected = Some([last, first, middle, last, middle]);
+        check_same(&rt, gathered(&index), expected, &table);
+    }
+    Ok(())
+}
+
+// The values of a column in the rows that some of 130 rows refer to: in another order, and some
+// again.
+fn values_gathered(index: &JoinIndex, column: &ColumnView<'_>) -> Option<[i64; 5]>
+    requires { All (λ row. row < length column.now) index.now }
+{
+    let mut values = [7; 5];
+    if index.len() == 130 {
+        index.gather_values(column, &[2, 129, 1, 2, 1], &mut values);
+        Some(values)
+    } else {
+        None
+    }
+}
+
+// The column of a table whose first row, whose one in the middle and whose last have these numbers,
+// and the others the first's.
+fn column_of(alloc: Global, table: u32, numbers: [i64; 3]) -> Result<PackedColumn, AllocError>
+    requires { 0 < table }
+{
+    let [first, middle, last] = numbers;
+    let mut rows = vec![in alloc; first; table as usize]?;
+    rows[(table / 2) as usize] = middle;
+    rows[(table - 1) as usize] = last;
+    let column = NumberColumn::build(rows)?;
+    PackedColumn::build(alloc, &column)
+}
+
+#[test]
+fn values_that_are_referred_to_are_gathered(rt: HostRuntime) -> Result<(), Fail> {
+    let alloc = rt.alloc();
+    for table in [3, 257, 65_537] {
+        for numbers in [
+            [0, 255, 1],
+            [-1, 65_534, 7],
+            [0, 65_541, 3],
+            [i64::MIN, i64::MAX, 0],
+        ] {
+            let index = index_of(alloc, table, 130)?;
+            let column = column_of(alloc, table, numbers)?;
+            let values = if column.len() == table {
+                values_gathered(&index, &column.view())
+            } else {
+                None
+            };
+            let [first, middle, last] = numbers;
+            let expected = Some([last, first, middle, last, middle]);
+            check_same(&rt, values, expected, &(table, numbers));
         }
     }
     Ok(())
