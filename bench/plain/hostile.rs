@@ -1,5 +1,5 @@
 // Writes folders of tables of one size: `ordinary`, as the benchmark's generator makes them, and hostile
-// ones, each of which is meant to make one step of a load slow:
+// ones, each meant to make one step of a load slow:
 //
 // - `keys`: each dimension has sparse random keys, and the lines refer to them in random order.
 // - `pairs`: the pairs of keys of lineorder come in random order, in lines as short as can be.

@@ -10,7 +10,7 @@ use Kind::{Number, Text};
 const BYTE_ORDER_MARK: &[u8] = b"\xEF\xBB\xBF";
 const MOST_RECORDS: usize = 1_000_000_000;
 const MOST_BYTES_OF_CELL: usize = 255;
-/// So many digits always fit an `i64`.
+/// As many digits as always fit an `i64`.
 const MOST_DIGITS: usize = 18;
 
 pub enum Kind {
