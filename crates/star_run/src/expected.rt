@@ -8,7 +8,7 @@ use star_schema::is_text;
 use star_verify::Verified;
 use std::alloc::{AllocError, Global};
 
-// At most every sixteenth turn of a run has a place of its own.
+// A group with keys has places only where as many turns are quoted for each.
 const TURNS_A_PLACE: u128 = 16;
 
 // The range of the codes of `entries` texts, if there is one.
@@ -80,7 +80,8 @@ fn are_few(ranges: &[Interval], turns: u128) -> bool {
 }
 
 // The ranges in which the keys of a group are expected. None is given where totals of the group are
-// read, which would be added up each time, nor where more places would be cleared than a run fills.
+// read, which would be added up each time, nor where more places would be cleared than a run fills. (A
+// group without keys has its one place all the same.)
 fn ranges_of(
     alloc: Global,
     verified: &Verified<'_>,
