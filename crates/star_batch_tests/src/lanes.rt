@@ -71,6 +71,36 @@ const BODIES: &[&str] = &[
         "scan lineorder r0\nr1 = load lo_tax r0\nr2 = load lo_discount r0\nr3 = add r1 r2\nput 1 r1 r2 : r3 r1 r2\nend\n",
         "scan customer r4\nr5 = load c_custkey r4\nr6 = const 3\nr7 = sub r5 r6\nput 1 r6 r6 : r7 r5 r6\nend\n",
     ),
+    // Look-ups and places of texts behind operations: of a part, of rows in which either of two
+    // dimensions has a region, before keeps and behind them, and of dates by both keys.
+    concat!(
+        "scan lineorder r0\nr1 = load lo_tax r0\nr2 = add r1 r1\nr3 = load lo_partkey r0\nr4 = find part r3\n",
+        "r5 = load p_size r4\nput 1 r1 r2 : r5 r5 r5\nend\n",
+    ),
+    concat!(
+        "scan lineorder r0\nr1 = load lo_custkey r0\nr2 = find customer r1\nr3 = load c_region r2\n",
+        "r4 = low c_region 'REGION2'\nr5 = high c_region 'REGION2'\nr6 = within r3 r4 r5\n",
+        "r7 = load lo_suppkey r0\nr8 = find supplier r7\nr9 = load s_region r8\n",
+        "r10 = low s_region 'REGION1'\nr11 = high s_region 'REGION1'\nr12 = within r9 r10 r11\n",
+        "r13 = or r6 r12\nkeep r13\nr14 = load lo_partkey r0\nr15 = find part r14\nr16 = load p_size r15\n",
+        "r17 = load lo_tax r0\nput 1 r17 r16 : r16 r17 r16\nend\n",
+    ),
+    concat!(
+        "scan lineorder r0\nr1 = load lo_orderdate r0\nr2 = load lo_commitdate r0\nr3 = lt r1 r2\nr4 = find date r1\n",
+        "r5 = load d_year r4\nkeep r3\nr6 = find date r2\nr7 = load d_year r6\nr8 = lt r5 r7\nkeep r8\n",
+        "r9 = find date r1\nr10 = load d_monthnuminyear r9\nr11 = sub r7 r5\nput 1 r5 r11 : r10 r7 r11\nend\n",
+    ),
+    // A keep that leaves none, with look-ups before it and behind it.
+    concat!(
+        "scan lineorder r0\nr1 = load lo_tax r0\nr2 = mul r1 r1\nr3 = load lo_suppkey r0\nr4 = find supplier r3\n",
+        "r5 = lt r2 r1\nr6 = eq r2 r1\nr7 = and r5 r6\nkeep r7\nr8 = find supplier r3\nr9 = load s_suppkey r8\n",
+        "put 1 r1 r9 : r9 r9 r9\nend\n",
+    ),
+    // A keep behind an operation.
+    concat!(
+        "scan lineorder r0\nr1 = load lo_tax r0\nr2 = load lo_discount r0\nr3 = mul r1 r2\nr4 = const 20\n",
+        "r5 = lt r3 r4\nkeep r5\nput 1 r1 r2 : r3 r4 r3\nend\n",
+    ),
     // These go row by row: two puts into one group, into two groups, and one that isn't last.
     concat!(
         "scan lineorder r0\nr1 = load lo_tax r0\nr2 = load lo_discount r0\nput 1 r1 r2 : r1 r1 r1\n",
@@ -81,15 +111,7 @@ const BODIES: &[&str] = &[
         "put 1 r1 r2 : r3 r3 r3\nend\n",
     ),
     "scan lineorder r0\nr1 = load lo_tax r0\nput 1 r1 r1 : r1 r1 r1\nr2 = load lo_discount r0\nend\n",
-    // A look-up after an operation, a keep after one, a read, and a scan inside.
-    concat!(
-        "scan lineorder r0\nr1 = load lo_tax r0\nr2 = add r1 r1\nr3 = load lo_partkey r0\nr4 = find part r3\n",
-        "r5 = load p_size r4\nput 1 r1 r2 : r5 r5 r5\nend\n",
-    ),
-    concat!(
-        "scan lineorder r0\nr1 = load lo_tax r0\nr2 = load lo_discount r0\nr3 = mul r1 r2\nr4 = const 20\n",
-        "r5 = lt r3 r4\nkeep r5\nput 1 r1 r2 : r3 r4 r3\nend\n",
-    ),
+    // A read, and a scan inside.
     concat!(
         "scan lineorder r0\nr1 = load lo_tax r0\nput 0 : r1\nend\n",
         "scan lineorder r2\nr3 = load lo_discount r2\nr4 = add r3 r3\nr5 = read 0 1 0\nput 1 r3 r4 : r5 r3 r4\nend\n",
