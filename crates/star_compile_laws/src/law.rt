@@ -26,7 +26,8 @@ pub fn compiled_plans_are_programs()
         → IsPlanWithinLimits p → IsSoundPlan p → IsSpelledPlan p → IsSpellable (compiled p) }
 {}
 
-/// A compiled program visits each row of the fact once: lineorder's row count is its quote.
+/// A compiled program's quote is lineorder's row count: its one scan visits each row of the fact
+/// once.
 pub fn compiled_programs_visit_each_row_once()
     ensures { (rows : TableId → ℕ) (p : Plan) → quote rows (compiled p) ≡ rows Lineorder }
 {}

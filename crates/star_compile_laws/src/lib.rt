@@ -1,8 +1,8 @@
-//! The program of a query.
+//! Laws of the program of a query.
 //!
-//! What it is stands in `specs/Compiled.antt`, what its runs put and answer in
+//! What the program is stands in `specs/Compiled.antt`, what its runs put and answer in
 //! `specs/Answers.antt`, and what refuses it in `specs/Judged.antt`. There is no code here: the
-//! functions of `law`, `answers` and `acceptance` are laws of it. Nothing here names what checks
+//! functions of `law`, `answers` and `acceptance` are the laws. Nothing here names what checks
 //! programs or runs them.
 #![tactic(auto)]
 

@@ -30,9 +30,9 @@ pub data IsBroken {S N : Type 0} (out : Change S) (notes : Change N) (IsQuote : 
       → HasGainedPart notes (telling.quoted ++ telling.done) noted → HasGained out telling.report
       → sent ≡ length telling.report → IsBroken out notes IsQuote IsTold sent
 
--- Ok: both sinks have gained the whole of what is told of a run. Want of memory leaves the report's
--- sink as it was. A refusal of the program is told behind the note of its quote, and any other fault
--- that is due before all notes
+-- Ok: both sinks have gained the whole of what is told of a run. Every fault but a failed write
+-- leaves the report's sink as it was. A refusal of the program is told behind the note of its quote,
+-- want of memory behind it or before all notes, and any other fault that is due before all notes
 abbrev pub IsNoted : {S N : Type 0} → Change S → Change N → (List ℕ → Type 0)
     → (Telling → Type 0) → (EngineFault → Type 0) → Result (Unit {0}) EngineFault → Type 0
 IsNoted out notes IsQuote IsTold IsDue (Ok answer) =

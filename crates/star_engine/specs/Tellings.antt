@@ -75,7 +75,7 @@ abbrev pub IsFileToldOver : (visits : ℕ) → Database → (file : List ℕ) �
 IsFileToldOver visits database file telling =
     IsToldOfKind (is_program_file file) visits database file telling
 
--- the texts that are handed over
+-- the telling whose three texts a call hands over
 abbrev pub telling_of : Told → Telling
 telling_of told = record {
   quoted = string_bytes told.quoted;
@@ -83,7 +83,7 @@ telling_of told = record {
   done = string_bytes told.done;
 }
 
--- why there is none: the file is read first, and then it is checked
+-- why a file has no such line: it is read first, and then it is checked
 abbrev pub IsUnjudgedOver : (visits : ℕ) → Database → (file : List ℕ) → EngineFault → Type 0
 IsUnjudgedOver visits database file fault =
     IsUnjudgedOfKind (is_program_file file) visits database file fault

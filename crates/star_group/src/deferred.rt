@@ -15,9 +15,9 @@ use star_schema::{Aggregate, Shape};
 use std::alloc::Global;
 
 /// The rows of all keys and the row of all puts, each up to date after every put. The rows of a
-/// cube in which keys are ALL are made in the end, each from those in which one key fewer is. The
-/// keys stand in a trie of their digits, so that no keys are slow to find; rows that were made
-/// lately are mostly found with one look.
+/// cube or a rollup in which keys are ALL are made in the end, each from those in which one key fewer
+/// is. The keys stand in a trie of their digits, so that no keys are slow to find; rows that were
+/// made lately are mostly found with one look.
 #[derive(Drop)]
 pub struct DeferredStore {
     pub(crate) alloc: Global,

@@ -1,5 +1,6 @@
 //! The rows of a group: what the traits of stores promise, a store that keeps every row up to date,
-//! and one that makes the rows in which keys are ALL in the end.
+//! one that makes the rows in which keys are ALL in the end, and one that has a place for each row of
+//! keys in known ranges.
 //!
 //! A store is told by lists of puts: it has the content of some puts, the newest first, and then
 //! its rows are the groups of these puts with their aggregates, and its totals are the aggregates

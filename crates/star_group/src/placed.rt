@@ -18,7 +18,7 @@ use span::Span;
 /// The rows of all keys. Where each key lies in a range that is known beforehand, the row's place
 /// among those of all such keys is a number, by which its cells are found: one for each aggregate,
 /// and whether there was a put. All other puts go to a deferred store. The total, and the rows of a
-/// cube in which keys are ALL, are made where they are asked for.
+/// cube or a rollup in which keys are ALL, are made where they are asked for.
 #[derive(Drop)]
 pub struct PlacedStore {
     rest: DeferredStore,

@@ -34,8 +34,10 @@ pub trait GroupStore: Drop {
         ensures group { IfOk result (λ store. group store ≡ group_declared declared.now) }
         ensures empty { IfOk result (λ store. has store []) };
 
-    /// The same, where the keys are expected in these ranges, of numbers or of codes of texts. A store
-    /// may be faster for keys that lie in them; all keys serve, whether or not they do.
+    /// A store of no puts, as `new` makes it, where the keys are expected in `_ranges`: a range of
+    /// numbers, or of codes of texts, for each key in the order of the keys. A store may be faster for
+    /// keys that lie in them; all keys serve, whether or not they do, and so do ranges of another
+    /// number of keys.
     fn with_ranges(
         alloc: Global,
         declared: &GroupDecl,
@@ -91,8 +93,9 @@ pub trait GroupStore: Drop {
         Ok(())
     }
 
-    /// The place of the row of these keys, where rows stand by places and it has one. No clause says
-    /// when it has: who isn't told a place puts by keys.
+    /// The place of the row of these keys, a value for each key of the group in order, where rows
+    /// stand by places and it has one; for use in `put_batch_at`. No clause says when it has: who
+    /// isn't told a place puts by keys.
     fn place_of(&self, _keys: &[KeyValue]) -> Option<u32>
         requires { length _keys.now ≡ (group self.now).count }
         ensures { IfSome result (λ place. has_place self.now _keys.now place) }

@@ -26,7 +26,7 @@ pub record IsWithin (a b : Range) : Type 0 where
 abbrev pub FitsI64 : Range → Type 0
 FitsI64 r = FitsSigned w64 r.low × FitsSigned w64 r.high
 
--- that fact as a test: `negsuc n` is -(n + 1)
+-- whether a number is one of 64 bits, where `negsuc n` is -(n + 1)
 unfoldable pub is_i64 : ℤ → Bool
 is_i64 (pos n) = nat_lt n (2 ^ 63)
 is_i64 (negsuc n) = nat_lt n (2 ^ 63)

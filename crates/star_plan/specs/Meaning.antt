@@ -88,8 +88,8 @@ tests sign.AtMost o = is_le o
 tests sign.Greater o = is_gt o
 tests sign.AtLeast o = is_ge o
 
--- numbers compare by value, texts by their bytes
--- where columns have these values, and others stand for these; BETWEEN has both its ends
+-- whether a comparison holds where `values` has the value of each column and `stands` that of each
+-- operand: numbers compare by value, texts by their bytes, and BETWEEN has both its ends
 abbrev pub comparison_holds : {C V : Type 0} → (C → Value) → (V → Value) → Comparison C V → Bool
 comparison_holds values stands (compare c s v) = tests s (value_cmp (values c) (stands v))
 comparison_holds values stands (between c from upto) =

@@ -14,7 +14,8 @@ use Rattle.star_program.specs.declared.program.Parts.{Parts}
 use Rattle.star_program.specs.Faults.{group_at}
 use Rattle.star_program.specs.World.{World}
 
--- of a key: a number or a text of its column, as it is declared, or ALL
+-- of a key, as it is declared: a number, or what the world has as the text of some code of its column
+-- (a code that no row has isn't ruled out); or ALL
 abbrev pub IsKeyCell : World → GroupKey → Cell → Type 0
 IsKeyCell w key cell.All = Unit {0}
 IsKeyCell w declared.Number (cell.Number z) = Unit {0}

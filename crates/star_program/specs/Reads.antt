@@ -1,4 +1,5 @@
--- What an instruction reads: registers in which something of the right kind stands, and groups that are there.
+-- What an instruction reads: registers in which something stands of a kind that the operand may have, each for
+-- itself (that two sides of a comparison are of one kind is not told here), and groups that are there.
 use Rattle.std.specs.Prelude.{◌≡◌, ◌<◌, Bool, true, length, All, Option, Some, None}
 use Rattle.std.specs.List.{AllZip}
 use Rattle.star_schema.specs.Schema.{table_of}

@@ -28,7 +28,7 @@ pub data Piece : Type 0 where
   token : Symbol → (width : ℕ) → Piece
   bad : QueryFault → Piece
 
--- whether a word is a reserved word, in any case
+-- whether a word is this reserved word, in any case
 abbrev pub is_spelled : List ℕ → Word → Bool
 is_spelled word reserved = pointwise nat_eq (spelling reserved) (lowered word)
 

@@ -81,7 +81,7 @@ QueryFails Unexpected front left = NoQueryGoesOn (symbols_at front) left
 QueryFails TooDeep front left = Breaks IsTooDeep front left
 QueryFails TooMany front left = Breaks IsTooMany front left
 
--- the symbols before what is left begin a query within the limits, and the next one is at fault
+-- the symbols before what is left begin some query, within the limits so far, and the next one is at fault
 pub record FirstQueryFault (xs : List Symbol) (fault : Fault) (left : List Symbol) : Type 0 where
   pub front : List Mark
   pub cut : xs ≡ symbols_at front ++ left

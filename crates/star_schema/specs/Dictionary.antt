@@ -36,7 +36,7 @@ low_in dictionary text = count_by (λ d. is_lt (text_cmp d text)) dictionary
 abbrev pub high_in : List (List ℕ) → List ℕ → ℕ
 high_in dictionary text = count_by (λ d. is_le (text_cmp d text)) dictionary
 
--- a column of texts as a column of values: each text as its code, which is the number of texts
--- below it
+-- a column of texts as a column of values: each text as its code, which is how many of the
+-- column's different texts are less than it
 abbrev pub codes_of : List (List ℕ) → List ℤ
 codes_of texts = map (λ text. pos (low_in (dictionary_of texts) text)) texts

@@ -56,7 +56,7 @@ abbrev pub row_cmp : {K : Type 0} → (K → K → Ordering) → List SortKey �
 row_cmp cmp [] a b = slice_cmp (key_cmp cmp) a.keys b.keys
 row_cmp cmp (sort ∷ sorts) a b = ordering_then (sort_cmp cmp sort a b) (row_cmp cmp sorts a b)
 
--- each row stands before the next, so no two have the same keys
+-- each row stands before every later one; so no row stands twice
 abbrev pub AreInOrder : {K : Type 0} → (K → K → Ordering) → List SortKey → List (GroupRow K)
     → Type 0
 AreInOrder cmp sorts rows = IsStrictlySortedBy (row_cmp cmp sorts) rows

@@ -13,7 +13,7 @@ use Rattle.star_program.specs.World.{World}
 abbrev pub is_key : ℤ → List ℤ → Bool
 is_key n key = pointwise int_eq key (n ∷ [])
 
--- the code of a text is how many texts of its column are below it
+-- the code of a text is how many of its column's different texts are less than it
 abbrev pub world_of : Database → World
 world_of database = record {
   size = λ t. length (rows_in database t);

@@ -6,8 +6,8 @@ ghost use Rattle.star_program.specs.World.{IsLoaded};
 ghost use Rattle.star_world.specs.RowsSeen.{IsWorldOf};
 ghost use Rattle.star_world.specs.WorldOf.{world_of};
 
-/// In the world of sound rows each column's bounds hold its numbers, its codes lie below how many
-/// texts it has, and each foreign key is found.
+/// In the world of sound rows each column's bounds hold its numbers, the codes of a column are less
+/// than the number of its different texts, and each foreign key is found.
 pub fn sound_rows_are_loaded()
     ensures { (database : Database) → IsSound database → IsLoaded (world_of database) }
 {}
