@@ -13,7 +13,7 @@ use Rattle.star_schema.specs.Tables.{kind_of_value}
 use Rattle.star_schema.proofs.Same.{table_same, column_same}
 use Rattle.star_plan.specs.declared.tree.Join.{Join}
 use Rattle.star_query.specs.Tree.{Expression, column, constant, add, sub, mul, or, and, not, test, compare, between}
-use Rattle.star_plan.specs.Meaning.{Joined, joined_value, holds, expression_number, value_number, RowCondition}
+use Rattle.star_plan.specs.Meaning.{Joined, joined_value, holds, number_with, value_number, RowCondition}
 use Rattle.star_plan.specs.Names.{same_kind}
 use Rattle.star_plan.specs.Sound.{joins_table, in_scope, condition_is_sound, expression_is_sound}
 use Rattle.star_program.specs.declared.op.Op.TheVariants.{Assign}
@@ -227,7 +227,8 @@ module _ (w : World) (f : Parts) (may : ℕ → Bool) (at : TableId → ℕ) whe
     shown_number c i v true p q shows = absurd (cc)
 
     pub expression_runs : (a : Expression ColumnId) → expression_is_sound js a ≡ true
-        → Runs w f may at (At w f may at (Number (expression_number a row))) (expression_code js a)
+        → Runs w f may at (At w f may at (Number (number_with (λ c. joined_value c row) a)))
+        (expression_code js a)
     expression_runs (column c) ok =
         let oks = and_parts (in_scope js (table_of c)) (same_kind (kind_of c) kind.Number) ok in
         subst (λ v. Runs w f may at (At w f may at v) (column_code js c))
@@ -241,15 +242,18 @@ module _ (w : World) (f : Parts) (may : ℕ → Bool) (at : TableId → ℕ) whe
     expression_runs (add a b) ok =
         let oks = and_parts (expression_is_sound js a) (expression_is_sound js b) ok in
         binary_runs w f may at (expression_code js a) (expression_code js b) operator.Add
-        (Number (expression_number a row)) (Number (expression_number b row))
+        (Number (number_with (λ c. joined_value c row) a))
+        (Number (number_with (λ c. joined_value c row) b))
         (expression_runs a oks.0) (expression_runs b oks.1)
     expression_runs (sub a b) ok =
         let oks = and_parts (expression_is_sound js a) (expression_is_sound js b) ok in
         binary_runs w f may at (expression_code js a) (expression_code js b) operator.Sub
-        (Number (expression_number a row)) (Number (expression_number b row))
+        (Number (number_with (λ c. joined_value c row) a))
+        (Number (number_with (λ c. joined_value c row) b))
         (expression_runs a oks.0) (expression_runs b oks.1)
     expression_runs (mul a b) ok =
         let oks = and_parts (expression_is_sound js a) (expression_is_sound js b) ok in
         binary_runs w f may at (expression_code js a) (expression_code js b) operator.Mul
-        (Number (expression_number a row)) (Number (expression_number b row))
+        (Number (number_with (λ c. joined_value c row) a))
+        (Number (number_with (λ c. joined_value c row) b))
         (expression_runs a oks.0) (expression_runs b oks.1)

@@ -12,7 +12,7 @@ use Rattle.star_schema.specs.Schema.{table_of}
 use Rattle.star_schema.specs.Tables as held
 use Rattle.star_query.specs.declared.token.Fold.TheVariants.{Sum, Min, Max}
 use Rattle.star_query.specs.Tree.{Expression, Measure, count, fold}
-use Rattle.star_plan.specs.Meaning.{Joined, joined_value, holds, all_hold, expression_number, measured, aggregate_of, Plan, RowCondition}
+use Rattle.star_plan.specs.Meaning.{Joined, joined_value, holds, all_hold, number_with, measured, aggregate_of, Plan, RowCondition}
 use Rattle.star_plan.specs.Sound.{in_scope, condition_is_sound, expression_is_sound, measure_is_sound, IsSoundPlan}
 use Rattle.star_program.specs.declared.key.KeyValue.TheVariants as key
 use Rattle.star_program.specs.declared.op.Op.TheVariants.{Keep, Put}
@@ -196,15 +196,15 @@ module _ (w : World) (f : Parts) (may : ℕ → Bool) (at : TableId → ℕ) (p 
   abbrev values_of : List (Measure ColumnId) → List Value
   values_of [] = []
   values_of (count ∷ ms) = values_of ms
-  values_of (fold f a ∷ ms) = Number (expression_number a row) ∷ values_of ms
+  values_of (fold f a ∷ ms) = Number (number_with (λ c. joined_value c row) a) ∷ values_of ms
 
   value_runs : (a : Expression ColumnId) (ms : List (Measure ColumnId))
       → expression_is_sound p.joins a ≡ true
       → Runs w f may at (Stand (values_of ms)) (values_code p.joins ms)
-      → Runs w f may at (Stand (Number (expression_number a row) ∷ values_of ms))
+      → Runs w f may at (Stand (Number (number_with (λ c. joined_value c row) a) ∷ values_of ms))
       (one_before (expression_code p.joins a) (values_code p.joins ms))
   value_runs a ms ok more =
-      before_runs (Number (expression_number a row)) (values_of ms) (expression_code p.joins a)
+      before_runs (Number (number_with (λ c. joined_value c row) a)) (values_of ms) (expression_code p.joins a)
       (values_code p.joins ms)
       (expression_runs w f may at p.joins row turn a ok) more
 

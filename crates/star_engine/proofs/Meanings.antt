@@ -3,7 +3,7 @@ use Rattle.std.proofs.Common.{◌≡◌, ◌∙◌, ◌≤◌, ℕ, List, [], No
 use Rattle.star_query.specs.declared.fault.QueryFault.{QueryFault}
 use Rattle.star_query.specs.Symbols.{Placed, symbols}
 use Rattle.star_query.specs.Cut.{cut_of}
-use Rattle.star_query.specs.Grammar.{Query, query_tree, one, plain, ungrouped}
+use Rattle.star_query.specs.Private.Phrases.{Query, query_tree, one, plain, ungrouped}
 use Rattle.star_query.specs.Tree.{Name, Tree}
 use Rattle.star_query.specs.Derives.{Means}
 use Rattle.star_query.specs.Private.Machine.{Verdict, Whole, Bad}

@@ -2,7 +2,7 @@
 use Rattle.std.proofs.Common.{◌≡◌, ℕ, ◌≤◌, List, Option, Some, None, length, refl, ap}
 use Rattle.star_query.specs.Symbols.{Symbol, symbols}
 use Rattle.star_query.specs.Maxima.{most_bytes}
-use Rattle.star_query.specs.Grammar.{query_tree}
+use Rattle.star_query.specs.Private.Phrases.{query_tree}
 use Rattle.star_query.specs.Derives.{Derives, Means}
 use Rattle.star_query.specs.Tree.{Tree}
 use Rattle.star_query.specs.Private.Machine.{Verdict, Whole, Bad}

@@ -11,7 +11,7 @@ use Rattle.star_schema.specs.Records.{pieces}
 use Rattle.star_schema.specs.Schema.{column_of, place_of, columns_of}
 use Rattle.star_schema.specs.Tables.{Value, row_of}
 use Rattle.star_query.specs.Tree.{constant, add, sub, mul, count}
-use Rattle.star_plan.specs.Meaning.{Joined, Plan, only_row, joined_value, expression_number, measured, aggregate_of, entry_of, plan_rows}
+use Rattle.star_plan.specs.Meaning.{Joined, Plan, only_row, joined_value, number_with, measured, aggregate_of, entry_of, plan_rows}
 use Rattle.star_compile_laws.proofs.PlanWords.{summed, least, greatest}
 use Rattle.star_examples.proofs.Sample.{number, sample, by_order, revenue, cost, discount}
 
@@ -22,19 +22,19 @@ abbrev line : Joined
 line = only_row Lineorder
     (row_of Lineorder (codes "1|1|1|1|2|19930210|2-HIGH|0|10|1000|3000|2|980|600|2|19940105|MAIL|"))
 
-operands : map (λ e. expression_number e line) (revenue ∷ constant (neg_ℤ (pos 3)) ∷ [])
+operands : map (number_with (λ c. joined_value c line)) (revenue ∷ constant (neg_ℤ (pos 3)) ∷ [])
     ≡ pos 980 ∷ neg_ℤ (pos 3) ∷ []
 unfolding column_of columns_of place_of pieces
 operands = refl
 
-operators : map (λ e. expression_number e line)
+operators : map (number_with (λ c. joined_value c line))
     (add revenue cost ∷ sub revenue cost ∷ sub cost revenue ∷ mul revenue cost
     ∷ mul (constant (neg_ℤ (pos 3))) discount ∷ [])
     ≡ pos 1580 ∷ pos 380 ∷ neg_ℤ (pos 380) ∷ pos 588000 ∷ neg_ℤ (pos 6) ∷ []
 unfolding column_of columns_of place_of pieces
 operators = refl
 
-nested : map (λ e. expression_number e line)
+nested : map (number_with (λ c. joined_value c line))
     (sub (sub revenue cost) discount ∷ sub revenue (sub cost discount)
     ∷ mul (add revenue cost) discount ∷ [])
     ≡ pos 378 ∷ pos 382 ∷ pos 3160 ∷ []

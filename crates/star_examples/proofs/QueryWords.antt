@@ -8,7 +8,7 @@ use Rattle.star_query.specs.declared.token.Relation.TheVariants.{AtLeast, Less}
 use Rattle.star_query.specs.Symbols.{Placed, Symbol, symbols, number, relation}
 use Rattle.star_query.specs.Cut.{cut_from, cut_of}
 use Rattle.star_query.specs.Derives.{Breaks, IsFirstQueryFault, IsTooDeep, IsTooMany, first_place}
-use Rattle.star_query.specs.Grammar.{ascending, cube, descending, grouped, groups_tree, hiding, key_tree, one, rollup, ungrouped, unmarked}
+use Rattle.star_query.specs.Private.Phrases.{ascending, cube, descending, grouped, groups_tree, hiding, key_tree, one, rollup, ungrouped, unmarked}
 use Rattle.star_query.specs.Maxima.{most_bytes}
 use Rattle.star_query.specs.Tree as tree
 

@@ -4,7 +4,7 @@ use Rattle.star_query.specs.declared.fault.QueryFault.{QueryFault}
 use Rattle.star_query.specs.Symbols.{Symbol, Placed, symbols}
 use Rattle.star_query.specs.Maxima.{most_bytes}
 use Rattle.star_query.specs.Cut.{cut_of}
-use Rattle.star_query.specs.Grammar.{query_tree}
+use Rattle.star_query.specs.Private.Phrases.{query_tree}
 use Rattle.star_query.specs.Derives.{Derives, Means, StopsAt}
 use Rattle.star_query.specs.Tree.{Tree}
 use Rattle.star_query.specs.Private.Machine.{Verdict, Whole, Bad}

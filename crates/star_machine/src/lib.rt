@@ -4,5 +4,6 @@
 
 pub mod law;
 
+pub use star_program::{Cell, Outcome};
 pub use star_run::run;
 pub use star_trial::{TrialFault, trial};

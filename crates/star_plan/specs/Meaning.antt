@@ -119,9 +119,6 @@ number_with values (add a b) = number_with values a +ℤ number_with values b
 number_with values (sub a b) = number_with values a -ℤ number_with values b
 number_with values (mul a b) = number_with values a *ℤ number_with values b
 
-abbrev pub expression_number : Expression ColumnId → Joined → ℤ
-expression_number e row = number_with (λ c. joined_value c row) e
-
 -- 1 to a count
 abbrev pub measured : {C : Type 0} → (C → Value) → Measure C → ℤ
 measured values count = pos 1

@@ -7,11 +7,12 @@ use Rattle.star_query.specs.declared.token.Relation.{Relation}
 use Rattle.star_query.specs.declared.token.Relation.TheVariants as r
 use Rattle.star_query.specs.Symbols.{keyword, sign, additive}
 use Rattle.star_query.specs.Tree.{Name}
-use Rattle.star_query.specs.Grammar.{Several, one, more, Expr, lone_term, plus_or_minus, Term, lone_factor, times, Factor, column, constant, negative, parens, Lit, unsigned_literal}
-use Rattle.star_query.specs.Grammar.{negative_literal, string_literal, Cond, lone_conj, or_conj, Conj, lone_unit, and_unit, Unary, not_unit, group, pair, compare, between, Agg}
-use Rattle.star_query.specs.Grammar.{folded, counted, Item, plain, aggregate, Key, unmarked, ascending, descending, Groups, ungrouped, grouped, hiding, Query, Mark, at, ident}
-use Rattle.star_query.specs.Grammar.{expr_marks, term_marks, factor_marks, lit_marks, cond_marks, conj_marks, unit_marks, agg_marks, item_marks, table_marks, column_marks}
-use Rattle.star_query.specs.Grammar.{key_marks, several_marks, where_marks, groups_marks, keys_marks, end_marks, query_marks, Hiding, cube, rollup, hiding_word}
+use Rattle.star_query.specs.Grammar.{Mark}
+use Rattle.star_query.specs.Private.Phrases.{Several, one, more, Expr, lone_term, plus_or_minus, Term, lone_factor, times, Factor, column, constant, negative, parens, Lit, unsigned_literal}
+use Rattle.star_query.specs.Private.Phrases.{negative_literal, string_literal, Cond, lone_conj, or_conj, Conj, lone_unit, and_unit, Unary, not_unit, group, pair, compare, between, Agg}
+use Rattle.star_query.specs.Private.Phrases.{folded, counted, Item, plain, aggregate, Key, unmarked, ascending, descending, Groups, ungrouped, grouped, hiding, Query, at, ident}
+use Rattle.star_query.specs.Private.Phrases.{expr_marks, term_marks, factor_marks, lit_marks, cond_marks, conj_marks, unit_marks, agg_marks, item_marks, table_marks, column_marks}
+use Rattle.star_query.specs.Private.Phrases.{key_marks, several_marks, where_marks, groups_marks, keys_marks, end_marks, query_marks, Hiding, cube, rollup, hiding_word}
 use Rattle.star_query.specs.Private.Machine.{extended, ExprHole, in_fold, in_parens, TermHole, first_term, next_term, FactorHole, first_factor, next_factor, CondHole, in_where, in_group, ConjHole}
 use Rattle.star_query.specs.Private.Machine.{first_conj, next_conj, UnitHole, first_unit, next_unit, under_not, LitHole, compared, low, high, Filtered, Grouped, filtered_by, grouped_by, query_of}
 use Rattle.star_query.specs.Private.Machine.{expr_depth, term_depth, factor_depth, cond_depth, conj_depth, unit_depth, lit_depth, ParserState, begin, item_wanted, fold_named, count_named}

@@ -16,7 +16,7 @@ use Rattle.star_query.specs.declared.tree.Expression.{Expression}
 use Rattle.star_query.specs.declared.tree.Expression.TheVariants as expressions
 use Rattle.star_query.specs.Symbols.{Symbol, sign, additive, name, number}
 use Rattle.star_query.specs.Tree as tree
-use Rattle.star_query.specs.Grammar.{Expr, plus_or_minus, Term, times, column, constant, negative, parens, first, ident, sum_or_difference, expr_tree, term_tree, factor_tree}
+use Rattle.star_query.specs.Private.Phrases.{Expr, plus_or_minus, Term, times, column, constant, negative, parens, first, ident, sum_or_difference, expr_tree, term_tree, factor_tree}
 use Rattle.star_query.specs.Private.Machine.{ExprHole, in_parens, TermHole, first_term, next_term, FactorHole, first_factor, next_factor, expr_depth}
 use Rattle.star_query.specs.Private.Machine.{term_depth, factor_depth, ParserState, factor_wanted, factor_negative, term_had, expr_had, give_factor}
 use Rattle.star_query.specs.Private.Machine.{to, next_step, query_at_end, Verdict, Bad, plus, checked, verdict_after, ends, run}

@@ -6,10 +6,11 @@ use Rattle.star_query.specs.declared.token.Relation.TheVariants as r
 use Rattle.star_query.specs.declared.counts.Part.TheVariants as part
 use Rattle.star_query.specs.Symbols.{keyword, relation, sign, number}
 use Rattle.star_query.specs.Tree.{Name}
-use Rattle.star_query.specs.Grammar.{Several, one, Expr, lone_term, plus_or_minus, Term, lone_factor, times, Factor, constant, negative, parens, Lit, unsigned_literal}
-use Rattle.star_query.specs.Grammar.{negative_literal, Cond, lone_conj, or_conj, Conj, lone_unit, and_unit, Unary, not_unit, group, pair, compare, between, folded, counted, Item}
-use Rattle.star_query.specs.Grammar.{plain, aggregate, Key, unmarked, ungrouped, grouped, hiding, Query, Mark, at, first, ident, expr_marks, term_marks, factor_marks, lit_marks}
-use Rattle.star_query.specs.Grammar.{cond_marks, conj_marks, unit_marks, item_marks, table_marks, column_marks, key_marks, several_marks, keys_marks, query_marks, Hiding}
+use Rattle.star_query.specs.Grammar.{Mark}
+use Rattle.star_query.specs.Private.Phrases.{Several, one, Expr, lone_term, plus_or_minus, Term, lone_factor, times, Factor, constant, negative, parens, Lit, unsigned_literal}
+use Rattle.star_query.specs.Private.Phrases.{negative_literal, Cond, lone_conj, or_conj, Conj, lone_unit, and_unit, Unary, not_unit, group, pair, compare, between, folded, counted, Item}
+use Rattle.star_query.specs.Private.Phrases.{plain, aggregate, Key, unmarked, ungrouped, grouped, hiding, Query, at, first, ident, expr_marks, term_marks, factor_marks, lit_marks}
+use Rattle.star_query.specs.Private.Phrases.{cond_marks, conj_marks, unit_marks, item_marks, table_marks, column_marks, key_marks, several_marks, keys_marks, query_marks, Hiding}
 use Rattle.star_query.specs.Private.Machine.{extended, ExprHole, in_fold, in_parens, TermHole, first_term, next_term, FactorHole, first_factor, next_factor, CondHole, in_where, in_group}
 use Rattle.star_query.specs.Private.Machine.{ConjHole, first_conj, next_conj, UnitHole, first_unit, next_unit, under_not, LitHole, compared, low, high, Filtered, Grouped, filtered_by}
 use Rattle.star_query.specs.Private.Machine.{grouped_by, query_of, expr_depth, term_depth, factor_depth, cond_depth, conj_depth, unit_depth, lit_depth, ParserState, begin, item_wanted}

@@ -16,7 +16,9 @@ use Rattle.star_query.specs.declared.fault.QueryFault.TheVariants as faults
 use Rattle.star_query.specs.Symbols.{Symbol, Placed, name, symbols}
 use Rattle.star_query.specs.Cut.{cut_of}
 use Rattle.star_query.specs.Tree.{Tree}
-use Rattle.star_query.specs.Grammar.{Query, Mark, query_marks}
+use Rattle.star_query.specs.Grammar.{Mark}
+use Rattle.star_query.specs.Private.Phrases.{Query, query_marks, query_tree}
+use Rattle.star_query.proofs.Phrased.{query_is, begun}
 use Rattle.star_query.specs.Maxima.{limit}
 use Rattle.star_query.specs.Derives.{count_begun, IsShortName, IsLongName, AreWithinLimits, symbols_at, BeginsQuery, NoQueryGoesOn, Breaks, IsTooDeep, IsTooMany, FirstQueryFault, StopsAt, IsFirstQueryFault, Means, first_place}
 use Rattle.star_query.specs.Private.Machine.{ParserState, begin, Step, to, next_step, query_at_end, Verdict, Whole, Bad, count_of_part, plus, is_over, is_long, checked, verdict_after, ends, run, nothing_counted}
@@ -41,8 +43,9 @@ way (m ∷ front) more from q g =
     let w = way front more g.0 q g.2 in
     record { last = w.last; goes = (g.0, g.1, w.goes); rest = w.rest }
 
-way_of : (front : List Mark) (b : BeginsQuery front) → Way begin front b.more b.phrase
-way_of front b = way front b.more begin b.phrase
+way_of : (front : List Mark) (begins : BeginsQuery front) → Way begin front (begun front begins).more (begun front begins).phrase
+way_of front begins = let b = begun front begins in
+    way front b.more begin b.phrase
     (subst (λ ms. Accepts begin ms b.phrase) b.written (query_goes b.phrase))
 
 -- the counts behind marks
@@ -99,7 +102,7 @@ ends_none front last g dead = by (query_at_end last) refl
     by (Some q) e =
         let written : query_marks q ≡ front =
         sym (end_passed last q e) ∙ goes_passed front begin last g [] ∙ append-nil front in
-        absurd (dead q (ap symbols_at written))
+        absurd (dead (query_marks q) (query_tree q) (query_is q) (ap symbols_at written))
 
 -- where no query goes on with a symbol, the machine takes no step
 steps_none : (front : List Mark) (last : ParserState) (x : Symbol) (left : List Symbol)
@@ -112,13 +115,13 @@ steps_none front last x left g dead = by (next_step last x) refl
         let moves = step_moves last x st e in
         let there : Goes begin (front ++ st.at ∷ []) st.next =
         goes_one_more front begin last st.next st.at g (ap (next_step last) moves.symbol ∙ e) in
-        let b = begins (front ++ st.at ∷ []) st.next there in
+        let b = begun (front ++ st.at ∷ []) (begins (front ++ st.at ∷ []) st.next there) in
         let written : symbols_at (query_marks b.phrase)
         ≡ symbols_at front ++ x ∷ symbols_at b.more =
         ap symbols_at b.written ∙ ap symbols_at (append_assoc front (st.at ∷ []) b.more)
         ∙ symbols-append front (st.at ∷ b.more)
         ∙ ap (λ y. symbols_at front ++ y ∷ symbols_at b.more) moves.symbol in
-        absurd (dead b.phrase (symbols_at b.more) written)
+        absurd (dead (query_marks b.phrase) (query_tree b.phrase) (symbols_at b.more) (query_is b.phrase) written)
 
 -- the last of the marks
 last_step : (front : List Mark) (at : Mark) (from last : ParserState)

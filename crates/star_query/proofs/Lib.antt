@@ -21,3 +21,4 @@ pub mod Cuts
 pub mod MeantTrees
 pub mod Reserved
 pub mod FirstFaults
+pub mod Phrased

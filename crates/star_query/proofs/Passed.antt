@@ -8,9 +8,10 @@ use Rattle.star_query.specs.declared.token.Relation.TheVariants as r
 use Rattle.star_query.specs.declared.counts.Part.TheVariants as part
 use Rattle.star_query.specs.Symbols.{Symbol, keyword, fold, count, relation, sign, additive, name, number, text}
 use Rattle.star_query.specs.Tree.{Name}
-use Rattle.star_query.specs.Grammar.{Several, Expr, Term, Factor, parens, Lit, Cond, Conj, Unary, not_unit, group, compare, between, Agg, Item, aggregate, Key, unmarked, ascending}
-use Rattle.star_query.specs.Grammar.{descending, ungrouped, grouped, Mark, at, first, ident, function, expr_marks, term_marks, factor_marks, lit_marks, cond_marks, conj_marks, unit_marks}
-use Rattle.star_query.specs.Grammar.{agg_marks, item_marks, table_marks, column_marks, key_marks, several_marks, where_marks, groups_marks, keys_marks, Hiding, hiding_word}
+use Rattle.star_query.specs.Grammar.{Mark}
+use Rattle.star_query.specs.Private.Phrases.{Several, Expr, Term, Factor, parens, Lit, Cond, Conj, Unary, not_unit, group, compare, between, Agg, Item, aggregate, Key, unmarked, ascending}
+use Rattle.star_query.specs.Private.Phrases.{descending, ungrouped, grouped, at, first, ident, function, expr_marks, term_marks, factor_marks, lit_marks, cond_marks, conj_marks, unit_marks}
+use Rattle.star_query.specs.Private.Phrases.{agg_marks, item_marks, table_marks, column_marks, key_marks, several_marks, where_marks, groups_marks, keys_marks, Hiding, hiding_word}
 use Rattle.star_query.specs.Private.Machine.{extended, ExprHole, in_fold, in_parens, TermHole, first_term, next_term, FactorHole, first_factor, next_factor, CondHole, in_where, in_group, ConjHole}
 use Rattle.star_query.specs.Private.Machine.{first_conj, next_conj, UnitHole, first_unit, next_unit, under_not, LitHole, compared, low, high, Filtered, Grouped, filtered_by, grouped_by, expr_depth}
 use Rattle.star_query.specs.Private.Machine.{term_depth, factor_depth, cond_depth, conj_depth, unit_depth, lit_depth, ParserState, begin, item_wanted, fold_named, count_named, count_opened}

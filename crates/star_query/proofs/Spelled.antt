@@ -9,18 +9,20 @@ use Rattle.star_query.specs.declared.token.Sign.TheVariants as s
 use Rattle.star_query.specs.declared.token.Additive.{Additive}
 use Rattle.star_query.specs.declared.token.Additive.TheVariants.{Plus, Minus}
 use Rattle.star_query.specs.Cut.{begins_with_letter, is_word_byte}
-use Rattle.star_query.specs.Symbols.{keyword, additive, sign}
+use Rattle.star_query.specs.Symbols.{symbols, keyword, additive, sign}
 use Rattle.star_query.specs.Tree as tree
 use Rattle.star_query.specs.Tree.{Name, Tree}
-use Rattle.star_query.specs.Grammar.{Several, one, more, Expr, lone_term, plus_or_minus, Term, lone_factor, times, Factor, column, constant, negative, parens, Lit, unsigned_literal}
-use Rattle.star_query.specs.Grammar.{negative_literal, string_literal, Cond, lone_conj, or_conj, Conj, lone_unit, and_unit, Unary, not_unit, group, pair, compare, between, Agg}
-use Rattle.star_query.specs.Grammar.{folded, counted, plain, aggregate, Key, unmarked, ascending, descending, Groups, ungrouped, grouped, hiding, Query, Mark, at, ident}
-use Rattle.star_query.specs.Grammar.{expr_marks, term_marks, factor_marks, lit_marks, cond_marks, conj_marks, unit_marks, agg_marks, item_marks, table_marks, column_marks}
-use Rattle.star_query.specs.Grammar.{key_marks, several_marks, where_marks, groups_marks, keys_marks, end_marks, query_marks, sum_or_difference, expr_tree, term_tree, factor_tree}
-use Rattle.star_query.specs.Grammar.{lit_tree, cond_tree, conj_tree, unit_tree, agg_tree, item_tree, key_tree, listed, groups_tree, keys_tree, query_tree}
+use Rattle.star_query.specs.Grammar.{Mark}
+use Rattle.star_query.specs.Private.Phrases.{Several, one, more, Expr, lone_term, plus_or_minus, Term, lone_factor, times, Factor, column, constant, negative, parens, Lit, unsigned_literal}
+use Rattle.star_query.specs.Private.Phrases.{negative_literal, string_literal, Cond, lone_conj, or_conj, Conj, lone_unit, and_unit, Unary, not_unit, group, pair, compare, between, Agg}
+use Rattle.star_query.specs.Private.Phrases.{folded, counted, plain, aggregate, Key, unmarked, ascending, descending, Groups, ungrouped, grouped, hiding, Query, at, ident}
+use Rattle.star_query.specs.Private.Phrases.{expr_marks, term_marks, factor_marks, lit_marks, cond_marks, conj_marks, unit_marks, agg_marks, item_marks, table_marks, column_marks}
+use Rattle.star_query.specs.Private.Phrases.{key_marks, several_marks, where_marks, groups_marks, keys_marks, end_marks, query_marks, sum_or_difference, expr_tree, term_tree, factor_tree}
+use Rattle.star_query.specs.Private.Phrases.{lit_tree, cond_tree, conj_tree, unit_tree, agg_tree, item_tree, key_tree, listed, groups_tree, keys_tree, query_tree}
 use Rattle.star_query.specs.Derives.{IsShortName, Means, symbols_at}
 use Rattle.star_query.specs.Spelled.{is_name, has_few_digits, literal_is_spelled, expression_is_spelled, condition_is_spelled, where_is_spelled, measure_is_spelled, alias_is_spelled, item_is_spelled, IsSpelledQuery}
 use Rattle.star_query.proofs.Spelling.{token_is_spelled, cut_spelled}
+use Rattle.star_query.proofs.Phrased.{phrased}
 
 abbrev IsGood : Mark → Type 0
 IsGood m = (token_is_spelled m.symbol ≡ true) × IsShortName m.symbol
@@ -222,8 +224,9 @@ phrase_good q all =
 -- what a text means is well spelled
 pub meant_spelled : (bytes : List ℕ) (t : Tree) → Means bytes t → IsSpelledQuery t
 meant_spelled bytes t m =
-    let spelled = subst (λ xs. list_all token_is_spelled xs ≡ true) (sym m.derives.written)
+    let d = phrased (symbols m.tokens) t m.derives in
+    let spelled = subst (λ xs. list_all token_is_spelled xs ≡ true) (sym d.written)
     (cut_spelled bytes m.tokens m.cut) in
-    subst IsSpelledQuery m.derives.read
-    (phrase_good m.derives.phrase
-    (each_good (query_marks m.derives.phrase) spelled m.derives.within.names))
+    subst IsSpelledQuery d.read
+    (phrase_good d.phrase
+    (each_good (query_marks d.phrase) spelled d.within.names))

@@ -11,13 +11,15 @@ use Rattle.star_query.specs.declared.fault.Fault.TheVariants.{Unexpected, TooDee
 use Rattle.star_query.specs.declared.fault.QueryFault.{QueryFault}
 use Rattle.star_query.specs.Symbols.{Symbol, Placed, symbols}
 use Rattle.star_query.specs.Tree.{Tree}
-use Rattle.star_query.specs.Grammar.{Query, Mark, query_marks, query_tree}
+use Rattle.star_query.specs.Private.Phrases.{Query, query_marks, query_tree}
 use Rattle.star_query.specs.Maxima.{limit}
 use Rattle.star_query.specs.Derives.{count_begun, IsShortName, IsLongName, AreWithinLimits, symbols_at, Derives, BeginsQuery, NoQueryGoesOn, Breaks, IsTooDeep, IsTooMany, QueryFails, FirstQueryFault, Means}
 use Rattle.star_query.specs.Private.Machine.{ParserState, begin, Step, to, next_step, query_at_end, Verdict, Whole, Bad, count_of_part, plus, is_over, is_long, checked, verdict_after, ends, run, nothing_counted}
 use Rattle.star_query.proofs.Counting.{not_below, number-plus, not_over, over_some, fits_after, short_name, long_name, not_long}
 use Rattle.star_query.proofs.Accepting.{Accepts, query_goes}
 use Rattle.star_query.proofs.Passed.{passed, step_moves}
+use Rattle.star_query.proofs.Phrased.{is_query, query_is, phrased, begun}
+use Rattle.star_query.specs.Grammar.{Mark, IsQuery}
 use Rattle.star_query.proofs.Finishes.{state_finishes, end_passed}
 
 -- from one state to another through these marks
@@ -221,7 +223,7 @@ none_counted Operand = refl
 
 pub only : (xs : List Symbol) (t : Tree) → Derives xs t
     → (q : Query) × (verdict_of xs ≡ Whole q) × (query_tree q ≡ t)
-only xs t d = (
+only xs t derived = let d = phrased xs t derived in (
   d.phrase,
   ap verdict_of (sym d.written)
       ∙ accepts_run (query_marks d.phrase) begin nothing_counted d.phrase (query_goes d.phrase)
@@ -247,9 +249,9 @@ derives_found xs q r =
     let written : query_marks q ≡ r.2 =
     sym (end_passed r.0 q r.4) ∙ goes_passed r.2 begin r.0 way.goes [] ∙ append-nil r.2 in
     record {
-      phrase = q;
+      marks = query_marks q;
       written = ap symbols_at written ∙ sym (append-nil (symbols_at r.2)) ∙ sym way.cut;
-      read = refl;
+      query = query_is q;
       within = subst AreWithinLimits (sym written) (reached_within xs r.0 r.1 r.2 [] way);
     }
 
@@ -314,15 +316,21 @@ no_end (f ∷ fs) (m ∷ ms) from last q g way same e =
 dead : (front : List Mark) (last : ParserState) (n : Counts) (left : List Symbol)
     → Goes begin front last → HaltsAt Unexpected last n left → NoQueryGoesOn (symbols_at front) left
 dead front last n [] way e =
-    λ q same. no_end front (query_marks q) begin last q (query_goes q) way same e
+    λ ms t is same. let r = is_query is in
+    no_end front (query_marks r.0) begin last r.0 (query_goes r.0) way (ap symbols_at r.1 ∙ same) e
 dead front last n (x ∷ left) way e =
-    λ q more same. no_way front (query_marks q) begin last x more q (query_goes q) way same e
+    λ ms t more is same. let r = is_query is in
+    no_way front (query_marks r.0) begin last x more r.0 (query_goes r.0) way (ap symbols_at r.1 ∙ same) e
 
 -- a query begins with what was read
 pub begins : (front : List Mark) (last : ParserState) → Goes begin front last → BeginsQuery front
 begins front last way =
     let r = state_finishes last in
-    record { phrase = r.0; more = r.1; written = r.2 ∙ goes_passed front begin last way r.1 }
+    record {
+      more = r.1;
+      tree = query_tree r.0;
+      query = subst (λ ms. IsQuery ms (query_tree r.0)) (r.2 ∙ goes_passed front begin last way r.1) (query_is r.0);
+    }
 
 pub goes_one_more : (front : List Mark) (from last next : ParserState) (m : Mark)
     → Goes from front last → next_step last m.symbol ≡ to next m → Goes from (front ++ m ∷ []) next
@@ -426,7 +434,9 @@ same_front (x ∷ a) (y ∷ b) ms ns from q r g h e =
 -- fronts of the same symbols have the same nestings and parts
 pub one_front : (a b : List Mark) → BeginsQuery a → BeginsQuery b → symbols_at a ≡ symbols_at b
     → a ≡ b
-one_front a b f g e =
+one_front a b begins_a begins_b e =
+    let f = begun a begins_a in
+    let g = begun b begins_b in
     same_front a b f.more g.more begin f.phrase g.phrase
     (subst (λ ms. Accepts begin ms f.phrase) f.written (query_goes f.phrase))
     (subst (λ ms. Accepts begin ms g.phrase) g.written (query_goes g.phrase)) e

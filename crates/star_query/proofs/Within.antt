@@ -12,15 +12,17 @@ use Rattle.star_query.specs.declared.token.Additive.TheVariants.{Plus, Minus}
 use Rattle.star_query.specs.Symbols.{Symbol, keyword, additive, sign}
 use Rattle.star_query.specs.Tree as tree
 use Rattle.star_query.specs.Tree.{Name}
-use Rattle.star_query.specs.Grammar.{Several, one, more, Expr, lone_term, plus_or_minus, Term, lone_factor, times, Factor, column, constant, negative, parens, Lit, unsigned_literal}
-use Rattle.star_query.specs.Grammar.{negative_literal, string_literal, Cond, lone_conj, or_conj, Conj, lone_unit, and_unit, Unary, not_unit, group, pair, compare, between, Agg}
-use Rattle.star_query.specs.Grammar.{folded, counted, Item, plain, aggregate, Key, unmarked, ascending, descending, Groups, ungrouped, grouped, hiding, Query, Mark, at, expr_marks}
-use Rattle.star_query.specs.Grammar.{term_marks, factor_marks, lit_marks, cond_marks, conj_marks, unit_marks, agg_marks, item_marks, table_marks, column_marks, key_marks}
-use Rattle.star_query.specs.Grammar.{several_marks, where_marks, groups_marks, keys_marks, end_marks, query_marks, sum_or_difference, expr_tree, term_tree, factor_tree, cond_tree}
-use Rattle.star_query.specs.Grammar.{conj_tree, unit_tree, item_tree, key_tree, ident, agg_tree, listed, names, groups_tree, keys_tree, query_tree}
+use Rattle.star_query.specs.Grammar.{Mark}
+use Rattle.star_query.specs.Private.Phrases.{Several, one, more, Expr, lone_term, plus_or_minus, Term, lone_factor, times, Factor, column, constant, negative, parens, Lit, unsigned_literal}
+use Rattle.star_query.specs.Private.Phrases.{negative_literal, string_literal, Cond, lone_conj, or_conj, Conj, lone_unit, and_unit, Unary, not_unit, group, pair, compare, between, Agg}
+use Rattle.star_query.specs.Private.Phrases.{folded, counted, Item, plain, aggregate, Key, unmarked, ascending, descending, Groups, ungrouped, grouped, hiding, Query, at, expr_marks}
+use Rattle.star_query.specs.Private.Phrases.{term_marks, factor_marks, lit_marks, cond_marks, conj_marks, unit_marks, agg_marks, item_marks, table_marks, column_marks, key_marks}
+use Rattle.star_query.specs.Private.Phrases.{several_marks, where_marks, groups_marks, keys_marks, end_marks, query_marks, sum_or_difference, expr_tree, term_tree, factor_tree, cond_tree}
+use Rattle.star_query.specs.Private.Phrases.{conj_tree, unit_tree, item_tree, key_tree, ident, agg_tree, listed, names, groups_tree, keys_tree, query_tree}
 use Rattle.star_query.specs.Maxima.{limit}
 use Rattle.star_query.specs.Derives.{count_begun, Derives}
 use Rattle.star_query.specs.Limits.{operands_of, measure_operands, item_operands, aggregates_in, comparisons_of, where_comparisons, IsQueryWithinLimits}
+use Rattle.star_query.proofs.Phrased.{phrased}
 
 -- ---- a phrase takes nothing from the count of what comes behind it
 
@@ -407,4 +409,5 @@ phrase_within q within = record {
 
 -- what symbols mean is within the limits
 pub derived_within : (xs : List Symbol) (t : tree.Tree) → Derives xs t → IsQueryWithinLimits t
-derived_within xs t d = subst IsQueryWithinLimits d.read (phrase_within d.phrase d.within.counts)
+derived_within xs t derived = let d = phrased xs t derived in
+    subst IsQueryWithinLimits d.read (phrase_within d.phrase d.within.counts)

@@ -6,3 +6,4 @@ pub mod Reads
 pub mod Clauses
 pub mod TokenFaults
 pub mod Lists
+pub mod Phrases

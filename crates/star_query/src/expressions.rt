@@ -6,7 +6,7 @@ ghost use Rattle.star_query.specs.Private.Reads.{spot_of, No, ReadsOperand, Read
 ghost use Rattle.star_query.specs.Maxima.{most_nestings};
 ghost use Rattle.star_query.specs.Views.{expression_view};
 ghost use Rattle.star_query.specs.Tree as tree;
-ghost use Rattle.star_query.specs.Grammar.{sum_or_difference};
+ghost use Rattle.star_query.specs.Private.Phrases.{sum_or_difference};
 
 use crate::counts::Part;
 use crate::fault::ParseError;

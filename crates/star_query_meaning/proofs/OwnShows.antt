@@ -42,24 +42,24 @@ keys_same (n ∷ ns) cs row e =
 
 expression_same : (e : Expression Name) (x : Expression ColumnId) (row : Joined)
     → resolved_expression e ≡ Some x
-    → plan.number_with (λ n. value_named n row) e ≡ plan.expression_number x row
+    → plan.number_with (λ n. value_named n row) e ≡ plan.number_with (λ c. joined_value c row) x
 expression_same (tree.column n) x row e =
     let g = mapped_gave column (column_at n) x e in
-    ap plan.value_number (named n g.0 row g.1) ∙ ap (λ y. plan.expression_number y row) g.2
+    ap plan.value_number (named n g.0 row g.1) ∙ ap (plan.number_with (λ c. joined_value c row)) g.2
 expression_same (tree.constant z) x row e = let same : constant z ≡ x = cc in
-    ap (λ y. plan.expression_number y row) same
+    ap (plan.number_with (λ c. joined_value c row)) same
 expression_same (tree.add a b) x row e =
     let g = both_gave add (resolved_expression a) (resolved_expression b) x e in
     (λ i. expression_same a g.left row g.first i +ℤ expression_same b g.right row g.second i)
-    ∙ ap (λ y. plan.expression_number y row) g.made
+    ∙ ap (plan.number_with (λ c. joined_value c row)) g.made
 expression_same (tree.sub a b) x row e =
     let g = both_gave sub (resolved_expression a) (resolved_expression b) x e in
     (λ i. expression_same a g.left row g.first i -ℤ expression_same b g.right row g.second i)
-    ∙ ap (λ y. plan.expression_number y row) g.made
+    ∙ ap (plan.number_with (λ c. joined_value c row)) g.made
 expression_same (tree.mul a b) x row e =
     let g = both_gave mul (resolved_expression a) (resolved_expression b) x e in
     (λ i. expression_same a g.left row g.first i *ℤ expression_same b g.right row g.second i)
-    ∙ ap (λ y. plan.expression_number y row) g.made
+    ∙ ap (plan.number_with (λ c. joined_value c row)) g.made
 
 measure_same : (m : Measure Name) (x : Measure ColumnId) (row : Joined)
     → resolved_measure m ≡ Some x

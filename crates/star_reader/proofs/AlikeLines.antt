@@ -10,7 +10,7 @@ use Rattle.star_schema.specs.Records.{fields_of, is_bar, pieces, with_first}
 use Rattle.star_schema.specs.Tables.{cells_of, ends_in_bar, is_empty_field, values_of}
 use Rattle.star_reader.specs.declared.fault.ReadFault.TheVariants as fault
 use Rattle.star_reader.specs.Faults.{cell_fault, cells_fault}
-use Rattle.star_reader.specs.Private.Open.{AreOneRecord, run_from}
+use Rattle.star_reader.specs.Carried.{AreOneRecord, run_from}
 use Rattle.star_reader.proofs.Counts.{right_count, wrong_count}
 use Rattle.star_reader.proofs.Cuts.{pieces_some}
 

@@ -6,7 +6,8 @@ use Rattle.std.proofs.Math.Seq.{take-suc}
 use Rattle.std.proofs.lemmas.Bool.{cases_Bool, ltb-false, ltb-true, true≢false}
 use Rattle.std.proofs.lemmas.List.{get_or-drop, take_all}
 use Rattle.star_schema.specs.Records.{ends_line}
-use Rattle.star_reader.specs.Private.Cut.{AreLinesOf, EndsInLineEnd, IsBegun, is_inner}
+use Rattle.star_reader.specs.Carried.{is_inner}
+use Rattle.star_reader.specs.Private.Cut.{AreLinesOf, EndsInLineEnd, IsBegun}
 use Rattle.star_reader.proofs.Fronts.{all_at}
 
 -- a line end is no inner byte

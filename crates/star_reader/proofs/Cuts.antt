@@ -12,7 +12,8 @@ use Rattle.star_schema.specs.Records.{ends_line, fields_of, is_filled, pieces, r
 use Rattle.star_schema.specs.Schema.{kinds_of}
 use Rattle.star_reader.specs.declared.fault.ReadFault.TheVariants as fault
 use Rattle.star_reader.specs.Faults.{byte_order_mark, record_fault, records_fault}
-use Rattle.star_reader.specs.Private.Cut.{EndsInLineEnd, IsBegun, is_inner}
+use Rattle.star_reader.specs.Carried.{is_inner}
+use Rattle.star_reader.specs.Private.Cut.{EndsInLineEnd, IsBegun}
 
 first_never_empty : (b : ℕ) (ps : List (List ℕ)) → with_first b ps ≡ [] → ⊥
 first_never_empty b [] e = cc e

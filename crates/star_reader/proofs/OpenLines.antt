@@ -8,7 +8,8 @@ use Rattle.star_schema.specs.declared.column.Kind.{Kind}
 use Rattle.star_schema.specs.Records.{fields_of, is_bar, is_filled, pieces, with_first}
 use Rattle.star_schema.specs.Tables.{cells_of, ends_in_bar, is_empty_field}
 use Rattle.star_reader.specs.Faults.{byte_order_mark}
-use Rattle.star_reader.specs.Private.Open.{AreOneRecord, HasKeptByte, StandsFor, run_from}
+use Rattle.star_reader.specs.Carried.{AreOneRecord, StandsFor, run_from}
+use Rattle.star_reader.specs.Private.Open.{HasKeptByte}
 use Rattle.star_reader.specs.declared.open_line.OpenLine.{OpenLine}
 use Rattle.star_reader.proofs.Cuts.{pieces_cut}
 use Rattle.star_reader.proofs.AlikeLines.{alike_record, long_alike, miscounted_both}

@@ -19,9 +19,8 @@ use Rattle.star_reader.specs.declared.progress.Progress.{Progress}
 use Rattle.star_reader.specs.Columns.{AreColumnsOf, first_rows, raw_kind, values}
 use Rattle.star_reader.specs.Faults.{byte_order_mark, record_fault, records_fault}
 use Rattle.star_reader.specs.Partway.{left_fault}
-use Rattle.star_reader.specs.Private.Cut.{is_inner}
+use Rattle.star_reader.specs.Carried.{is_inner, AreOneRecord, StandsFor}
 use Rattle.star_reader.specs.Private.Ended.{HasEnded}
-use Rattle.star_reader.specs.Private.Open.{AreOneRecord, StandsFor}
 use Rattle.star_reader.specs.Private.Steps.{AddsRecord, HasRows}
 use Rattle.star_reader.proofs.Cuts.{inner_records}
 use Rattle.star_reader.proofs.Law.{marked_fault, plain_fault, records_sound, width_kinds}

@@ -17,9 +17,9 @@ use Rattle.star_reader.specs.declared.progress.Progress.{Progress}
 use Rattle.star_reader.specs.Columns.{AreColumnsOf, first_rows, raw_kind, values}
 use Rattle.star_reader.specs.Faults.{byte_order_mark, parts_fault, records_fault, text_fault}
 use Rattle.star_reader.specs.Partway.{IsFaultOf, IsPartway, left_fault}
-use Rattle.star_reader.specs.Private.Cut.{AreLinesOf, EndsInLineEnd, IsBegun, is_inner}
+use Rattle.star_reader.specs.Carried.{is_inner, StandsFor}
+use Rattle.star_reader.specs.Private.Cut.{AreLinesOf, EndsInLineEnd, IsBegun}
 use Rattle.star_reader.specs.Private.Ended.{HasEnded}
-use Rattle.star_reader.specs.Private.Open.{StandsFor}
 use Rattle.star_reader.specs.Private.Steps.{HasRows}
 use Rattle.star_reader.proofs.Cuts.{mark_ends, records_begun, records_ended, records_fault-append}
 use Rattle.star_reader.proofs.Law.{marked_fault, plain_fault, records_sound}

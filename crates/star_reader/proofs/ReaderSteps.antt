@@ -19,7 +19,7 @@ use Rattle.star_reader.specs.declared.progress.Progress.{Progress}
 use Rattle.star_reader.specs.Columns.{AreColumnsOf, first_rows, values}
 use Rattle.star_reader.specs.Faults.{part_fault, parts_fault, text_fault}
 use Rattle.star_reader.specs.Partway.{HasRead, IsFaultOf, IsPartway, Reading, left_fault, parts_with}
-use Rattle.star_reader.specs.Private.Open.{StandsFor}
+use Rattle.star_reader.specs.Carried.{StandsFor}
 use Rattle.star_reader.specs.Private.Sound.{IsSoundReader}
 use Rattle.star_reader.specs.declared.table_reader.TableReader.TheInside.{Inside}
 use Rattle.star_reader.proofs.Law.{refused, table_sound, width_kinds}

@@ -1,3 +1,4 @@
+pub mod Carried
 pub mod Columns
 pub mod Faults
 pub mod Pieces

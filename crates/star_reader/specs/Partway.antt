@@ -13,8 +13,7 @@ use Rattle.star_reader.specs.declared.fault.ReadFault.TheVariants.{OutOfMemory}
 use Rattle.star_reader.specs.declared.progress.Progress.{Progress}
 use Rattle.star_reader.specs.Columns.{AreColumnsOf, first_rows, values}
 use Rattle.star_reader.specs.Faults.{part_fault, parts_fault, records_fault, text_fault}
-use Rattle.star_reader.specs.Private.Cut.{is_inner}
-use Rattle.star_reader.specs.Private.Open.{StandsFor}
+use Rattle.star_reader.specs.Carried.{is_inner, StandsFor}
 
 -- the first fault of what is left of a part: of all of it, or of the records behind a line end
 abbrev pub left_fault : (is_start : Bool) → TableId → ℕ → ℕ → List ℕ → Option ReadFault

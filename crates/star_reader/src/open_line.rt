@@ -3,7 +3,8 @@
 ghost use Rattle.std.specs.Prelude.{◌≡◌, ◌⊎◌, ◌<◌, ◌≤◌, ◌++◌, ◌∷◌, ℕ, List, [], OnOk, false, length};
 ghost use Rattle.star_schema.specs.Records.{is_bar};
 ghost use Rattle.star_schema.specs.declared.column.Kind.{Kind};
-ghost use Rattle.star_reader.specs.Private.Open.{HasKeptByte, StandsFor};
+ghost use Rattle.star_reader.specs.Carried.{StandsFor};
+ghost use Rattle.star_reader.specs.Private.Open.{HasKeptByte};
 
 use std::alloc::{AllocError, Global};
 

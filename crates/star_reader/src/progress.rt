@@ -9,9 +9,9 @@ ghost use Rattle.star_schema.specs.declared.table.TableId.{TableId};
 ghost use Rattle.star_reader.specs.Columns.{AreColumnsOf, first_rows, values};
 ghost use Rattle.star_reader.specs.Faults.{byte_order_mark, records_fault};
 ghost use Rattle.star_reader.specs.Partway.{IsFaultOf, IsPartway, left_fault};
-ghost use Rattle.star_reader.specs.Private.Cut.{EndsInLineEnd, IsBegun, is_inner};
+ghost use Rattle.star_reader.specs.Carried.{is_inner, StandsFor};
+ghost use Rattle.star_reader.specs.Private.Cut.{EndsInLineEnd, IsBegun};
 ghost use Rattle.star_reader.specs.Private.Ended.{HasEnded};
-ghost use Rattle.star_reader.specs.Private.Open.{StandsFor};
 ghost use Rattle.star_reader.specs.Private.Steps.{HasRows};
 
 use crate::column::RawColumn;

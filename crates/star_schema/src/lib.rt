@@ -19,4 +19,5 @@ pub use group::{Aggregate, Direction, GroupColumn, Shape, SortKey};
 pub use limits::{Limits, MOST_ROWS, MOST_VISITS};
 pub use name::{Named, name_of};
 pub use sizes::Sizes;
+pub use star_common::{Out, Sink, SinkFault};
 pub use table::{Key, TABLES, TableId, column_at, columns, is_table, key_of, table_named, width};

@@ -22,8 +22,8 @@ use Rattle.star_query.specs.declared.tree.Tree.{Tree}
 use Rattle.star_schema.specs.declared.group.Shape.{Shape}
 use Rattle.star_query.specs.Symbols.{Symbol, fold, count, sign}
 use Rattle.star_query.specs.Tree as tree
-use Rattle.star_query.specs.Grammar as grammar
-use Rattle.star_query.specs.Grammar.{Several, Expr, Agg, folded, counted, Key, Hiding, Groups, hiding, Query, expr_tree, cond_tree, agg_tree, item_tree, key_tree, listed, names, groups_tree, keys_tree, query_tree}
+use Rattle.star_query.specs.Private.Phrases as grammar
+use Rattle.star_query.specs.Private.Phrases.{Several, Expr, Agg, folded, counted, Key, Hiding, Groups, hiding, Query, expr_tree, cond_tree, agg_tree, item_tree, key_tree, listed, names, groups_tree, keys_tree, query_tree}
 use Rattle.star_query.specs.Private.Machine.{extended, Filtered, Grouped, filtered_by, grouped_by, query_of, ParserState, begin, item_wanted, fold_named, count_named, agg_had, items_had, table_wanted, tables_had, filtered_had, by_had, hiding_had, column_wanted, columns_had, grouped_had, key_wanted, keys_had, done, Whole}
 use Rattle.star_query.specs.Views.{name_view, condition_view, measure_view, aggregate_view, item_view, grouping_view, sort_key_view, tree_view}
 use Rattle.star_query.specs.Private.Reads.{Spot, No, verdict, EndsBad, Takes, IsBeyond, ReadsPhrase}

@@ -8,7 +8,7 @@ use Rattle.star_query.specs.declared.token.Sign.TheVariants as s
 use Rattle.star_query.specs.declared.fault.ParseError.{ParseError}
 use Rattle.star_query.specs.declared.fault.ParseError.TheVariants as errors
 use Rattle.star_query.specs.Symbols.{sign}
-use Rattle.star_query.specs.Grammar.{Several, one, more, first, Hiding, item_tree, key_tree, listed}
+use Rattle.star_query.specs.Private.Phrases.{Several, one, more, first, Hiding, item_tree, key_tree, listed}
 use Rattle.star_query.specs.Private.Machine.{Filtered, Grouped, ParserState, Verdict, columns_had, column_wanted, extended, item_wanted, items_had, key_wanted, keys_had, next_step, table_wanted, tables_had, to}
 use Rattle.star_query.specs.Views.{item_view, name_view, sort_key_view}
 use Rattle.star_query.specs.Private.Reads.{EndsBad, ReadsPhrase, Spot, verdict}

@@ -22,7 +22,7 @@ use Rattle.std.specs.declared.vec.Vec.{Vec}
 use Rattle.star_query.specs.Symbols.{Symbol, keyword, sign, additive, name, number, text}
 use Rattle.star_query.specs.Private.Lexed.{symbol_of}
 use Rattle.star_query.specs.Maxima.{limit, most_nestings}
-use Rattle.star_query.specs.Grammar.{ident, factor_tree, term_tree, expr_tree, lit_tree, unit_tree, conj_tree, cond_tree}
+use Rattle.star_query.specs.Private.Phrases.{ident, factor_tree, term_tree, expr_tree, lit_tree, unit_tree, conj_tree, cond_tree}
 use Rattle.star_query.specs.Private.Machine.{UnitHole, factor_depth, term_depth, expr_depth, lit_depth, unit_depth, conj_depth, cond_depth, first_factor, first_term, first_unit, first_conj, ParserState, factor_wanted, give_factor, term_had, expr_had, lit_wanted, give_lit, unit_wanted, give_unit, conj_had, cond_had, Verdict, Bad, count_of_part, bump, plus, is_over, is_long, run}
 use Rattle.star_query.specs.Views.{name_view, expression_view, literal_view, condition_view}
 

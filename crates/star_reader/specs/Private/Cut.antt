@@ -1,11 +1,8 @@
 -- Where a piece of a text is cut: at its first line end and behind its last.
-use Rattle.std.specs.Prelude.{◌≡◌, ◌++◌, ◌∷◌, ◌<◌, ◌≤◌, ◌-◌, Bool, true, not, ℕ, List, [], drop, length, take}
+use Rattle.std.specs.Prelude.{◌≡◌, ◌++◌, ◌∷◌, ◌<◌, ◌≤◌, ◌-◌, true, ℕ, List, [], drop, length, take}
 use Rattle.std.specs.List.{list_all}
 use Rattle.star_schema.specs.Records.{ends_line}
-
--- a byte that stands in a line
-abbrev pub is_inner : ℕ → Bool
-is_inner b = not (ends_line b)
+use Rattle.star_reader.specs.Carried.{is_inner}
 
 -- a text begins with a line end
 pub record IsBegun (text : List ℕ) : Type 0 where

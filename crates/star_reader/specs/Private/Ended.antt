@@ -7,7 +7,7 @@ use Rattle.star_reader.specs.declared.column.RawColumn.{RawColumn}
 use Rattle.star_reader.specs.declared.progress.Progress.{Progress}
 use Rattle.star_reader.specs.Columns.{first_rows, values}
 use Rattle.star_reader.specs.Partway.{left_fault}
-use Rattle.star_reader.specs.Private.Open.{StandsFor}
+use Rattle.star_reader.specs.Carried.{StandsFor}
 use Rattle.star_reader.specs.Private.Steps.{HasRows}
 
 -- an open line of these bytes has ended, with no fault: its row, if it has one, stands in the columns

@@ -1,7 +1,7 @@
 -- No line end so far.
 use Rattle.std.proofs.Common.{◌≡◌, take, true}
 use Rattle.std.specs.List.{list_all}
-use Rattle.star_reader.specs.Private.Cut.{is_inner}
+use Rattle.star_reader.specs.Carried.{is_inner}
 use Rattle.star_reader.proofs.cut.first_end.Given as goal
 
 abbrev pub invariant-loop-place : goal.invariant-loop-place

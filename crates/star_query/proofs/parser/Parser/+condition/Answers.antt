@@ -2,7 +2,7 @@ use Rattle.std.proofs.Common.{◌∙◌, arith}
 use Rattle.star_query.specs.Symbols.{sign, keyword}
 use Rattle.star_query.specs.declared.token.Sign.TheVariants.{Open}
 use Rattle.star_query.specs.declared.token.Keyword.TheVariants.{Not}
-use Rattle.star_query.specs.Grammar.{lone_conj, lone_unit}
+use Rattle.star_query.specs.Private.Phrases.{lone_conj, lone_unit}
 use Rattle.star_query.specs.Private.Machine.{unit_wanted, first_unit, first_conj}
 use Rattle.star_query.specs.Private.Reads.{spot_of, verdict}
 use Rattle.star_query.proofs.Tokens.{shorter}

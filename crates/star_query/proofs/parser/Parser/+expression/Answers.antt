@@ -1,7 +1,7 @@
 use Rattle.std.proofs.Common.{arith}
 use Rattle.star_query.specs.Symbols.{sign}
 use Rattle.star_query.specs.declared.token.Sign.TheVariants.{Open}
-use Rattle.star_query.specs.Grammar.{lone_factor, lone_term}
+use Rattle.star_query.specs.Private.Phrases.{lone_factor, lone_term}
 use Rattle.star_query.specs.Private.Machine.{factor_wanted, first_factor, first_term}
 use Rattle.star_query.specs.Private.Reads.{spot_of, verdict}
 use Rattle.star_query.proofs.Tokens.{shorter}

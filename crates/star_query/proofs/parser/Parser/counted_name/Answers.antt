@@ -1,6 +1,6 @@
 use Rattle.std.proofs.Common.{◌∙◌, ap, Err}
 use Rattle.std.proofs.lemmas.Result.{err_from_is_err_and}
-use Rattle.star_query.specs.Grammar.{ident}
+use Rattle.star_query.specs.Private.Phrases.{ident}
 use Rattle.star_query.specs.Views.{name_view}
 use Rattle.star_query.specs.Private.Reads.{spot_of, IsName, NoName}
 use Rattle.star_query.proofs.Tokens.{no_name_there, token_counted, token_not_counted}

@@ -1,6 +1,6 @@
 use Rattle.std.proofs.Common.{◌∙◌, ap, refl, Err}
 use Rattle.std.proofs.lemmas.Result.{err_from_is_err_and}
-use Rattle.star_query.specs.Grammar.{cube, rollup}
+use Rattle.star_query.specs.Private.Phrases.{cube, rollup}
 use Rattle.star_query.specs.Private.Reads.{spot_of}
 use Rattle.star_query.proofs.Queries.{read_hiding, read_plain, bad_plain}
 use Rattle.star_query.proofs.parser.Parser.groups.Goals as goal

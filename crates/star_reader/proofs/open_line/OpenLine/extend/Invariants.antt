@@ -1,7 +1,7 @@
 -- The bytes so far.
 use Rattle.std.proofs.Common.{◌≡◌, ◌++◌, ℕ, List, length, take}
 use Rattle.star_schema.specs.declared.column.Kind.{Kind}
-use Rattle.star_reader.specs.Private.Open.{StandsFor}
+use Rattle.star_reader.specs.Carried.{StandsFor}
 use Rattle.star_reader.proofs.open_line.OpenLine.extend.Given as goal
 
 abbrev pub invariant-loop-byte : goal.invariant-loop-byte
