@@ -4,10 +4,12 @@ import re
 from pathlib import Path
 from typing import Iterator, NamedTuple
 
+from layout import lines_of
+
 # What a word is taken for, as whole tokens.
 OTHERS = {
     "nat_lt": "nat_le", "nat_le": "nat_lt", "is_lt": "is_le", "is_le": "is_lt", "<": "≤", "≤": "<",
-    "true": "false", "false": "true", "&&": "||", "||": "&&", "×": "⊎", "⊎": "×", "+ℤ": "-ℤ", "-ℤ": "+ℤ",
+    "true": "false", "false": "true", "&&": "||", "||": "&&", "×": "⊎", "⊎": "×", "+ℤ": "-ℤ", "-ℤ": "+ℤ", "*ℤ": "+ℤ",
     "int_min": "int_max", "int_max": "int_min", "Less": "Greater", "Greater": "Less",
 }
 # What the library's Prelude has under these names, so that a wrong definition may import it.
@@ -19,20 +21,23 @@ SYMMETRIC = {"nat_eq", "int_eq", "bool_eq", "int_min", "int_max", "nat_min", "na
 NEGATIONS = ("not", "negated")
 JOINTS = (" && ", " || ", " × ")
 TOKEN = re.compile(r"\"(?:[^\"\\]|\\.)*\"|[^\s(){},;]+|[(){},;]")
-CLAUSE = re.compile(r"([A-Za-z_][\w'-]*)\b[^=:]*? =(?: |\n)")
+EQUATION = re.compile(r"(?!use |pub |abbrev |unfoldable |module |--)([A-Za-z_][\w'-]*)\b[^=:]*? =(?: |\n)")
 ENDS = re.compile(r"\.(low|high|from|to|keys|values|below|above|size|number)\b")
 NEIGHBOURS = {"low": "high", "from": "to", "keys": "values", "below": "above", "size": "number"}
 NEIGHBOURS |= {new: old for old, new in NEIGHBOURS.items()}
-FIELD = re.compile(r"  pub ([\w'-]+) : ")
+FIELD = re.compile(r"pub ([\w'-]+) : ")
+CASE = re.compile(r"([A-Za-z_][\w'-]*) : ")
+DATA = re.compile(r"pub data (\S+)(.*)Type 0 where$")
 
 
 class Clause(NamedTuple):
-    """One equation of a word, or the type of a record's field: where its right side stands in the file."""
+    """An equation of a definition, a field of a record or a case of a relation: the offsets of its right side."""
 
     word: str
-    left: str
     start: int
     end: int
+    margin: int
+    is_case: bool
 
 
 class Edit(NamedTuple):
@@ -43,16 +48,50 @@ class Edit(NamedTuple):
     text: str
 
 
+def is_relation(head: re.Match | None) -> bool:
+    """Returns whether a `data` relates values: it has an index, or a parameter that isn't a type."""
+    if not head:
+        return False
+    parameters = re.sub(r"[({][\w ]+ : Type 0[)}]", "", head[2])
+    return bool(parameters.strip(" :"))
+
+
+class Part(NamedTuple):
+    """A part of a file that may be a clause, the margin of its block, and how its left side is read."""
+
+    start: int
+    margin: int
+    head: re.Pattern
+    relation: str
+
+
+def parts_of(text: str) -> list[Part]:
+    """Returns where parts begin: at each line at its block's margin, each field of a record, each case of a relation."""
+    found, relation, cases = [], "", None
+    for line in lines_of(text):
+        code, start = line.text.lstrip(), line.offset + line.indent
+        if line.is_at_margin():
+            data = DATA.match(code)
+            if not code.startswith("--"):
+                relation, cases = (data[1], None) if is_relation(data) else ("", None)
+            found.append(Part(start, line.margin, EQUATION, ""))
+        elif relation and CASE.match(code) and line.indent == (cases or line.indent):
+            cases = line.indent
+            found.append(Part(start, line.margin, CASE, relation))
+        elif FIELD.match(code):
+            found.append(Part(start, line.margin, FIELD, ""))
+    return found
+
+
 def clauses(text: str) -> list[Clause]:
-    """The clauses of a file, in order: a line that begins one, and the indented lines after it."""
-    found, at = [], 0
-    for block in re.split(r"(?m)^(?=\S|  pub )", text):
-        code = block.rstrip()
-        head = FIELD.match(code) or CLAUSE.match(code)
-        if head and not code.startswith(("use ", "pub ", "abbrev ", "unfoldable ", "--")):
-            body = re.split(r"\n *--", code)[0]
-            found.append(Clause(head[1], body[: head.end()], at + head.end(), at + len(body)))
-        at += len(block)
+    """Returns the clauses of a file, in order."""
+    found, parts = [], parts_of(text)
+    for part, end in zip(parts, [*(it.start for it in parts[1:]), len(text)]):
+        body = re.split(r"\n *--", text[part.start : end].rstrip())[0].rstrip()
+        head = part.head.match(body)
+        if head:
+            start = part.start + head.end()
+            found.append(Clause(part.relation or head[1], start, part.start + len(body), part.margin, bool(part.relation)))
     return found
 
 
@@ -114,6 +153,32 @@ def arguments(body: str) -> Iterator[tuple[str, str]]:
         yield f"exchanged: {found[1]} {found[2]}", f"{body[: found.start()]}{found[2]} {found[1]}{body[found.end() :]}"
 
 
+def split_outside(body: str, joint: str) -> list[str]:
+    """Splits a text at a joint, if it is outside all brackets."""
+    cuts = [-len(joint), *depth_zero(body, joint), len(body)]
+    return [body[begin + len(joint) : end] for begin, end in zip(cuts, cuts[1:])]
+
+
+def of_a_case(body: str, other: str | None) -> Iterator[tuple[str, str]]:
+    """A premise left out, two variables of one kind exchanged in the result, and what another case's result says."""
+    *premises, result = split_outside(body, "→ ")
+    for at, premise in enumerate(premises):
+        if not re.match(r"\s*(?:\{|\([^()]* : )", premise):
+            yield f"left out: {premise.strip()[:50]}", "→ ".join([*premises[:at], *premises[at + 1 :], result])
+    front = "→ ".join([*premises, ""])
+    for names in re.findall(r"[{(]([\w ]+) : ", front):
+        for one, two in zip(names.split(), names.split()[1:]):
+            swap = {one: two, two: one}
+            new = re.sub(r"[\w.'-]+", lambda it: swap.get(it[0], it[0]), result)
+            yield f"exchanged in the result: {one} {two}", front + new
+    if other is None:
+        return
+    parts, others = split_outside(result, " "), split_outside(split_outside(other, "→ ")[-1], " ")
+    for at in range(1, min(len(parts), len(others))):
+        yield f"another case's {others[at].strip()[:50]}", front + " ".join([*parts[:at], others[at], *parts[at + 1 :]])
+    yield "another case's result", front + " ".join(others)
+
+
 def imported(text: str, told: str) -> str:
     """The file, with an import of what a wrong definition names and the file doesn't."""
     new = told.split(" -> ")[1] if " -> " in told else ""
@@ -127,9 +192,23 @@ def imported(text: str, told: str) -> str:
     return text
 
 
-def laid(before: str, body: str) -> str:
+def laid(before: str, body: str, margin: int) -> str:
     """A new right side, indented where the old one began a line."""
-    return f"    {body}" if before.endswith("\n") and not body.startswith(" ") else body
+    return " " * (margin + 4) + body if before.endswith("\n") and not body.startswith(" ") else body
+
+
+def ways_of(text: str, found: list[Clause], at: int) -> list[tuple[str, str]]:
+    """The other right sides of a clause, each with what was changed."""
+    clause = found[at]
+    body = text[clause.start : clause.end]
+    ways = [*other_words(body), *left_out(body), *branches(body), *arguments(body)]
+    near = [it for it in [*found[at + 1 : at + 2], *found[max(at - 1, 0) : at]] if it.word == clause.word]
+    others = [text[it.start : it.end] for it in near]
+    if clause.is_case:
+        return [*ways, *of_a_case(body, others[0] if others else None)]
+    if near and near[0].start > clause.start:
+        ways.append(("the next clause's answer", others[0]))
+    return ways
 
 
 def edits(text: str) -> Iterator[Edit]:
@@ -137,12 +216,8 @@ def edits(text: str) -> Iterator[Edit]:
     found, seen = clauses(text), set()
     for at, clause in enumerate(found):
         body = text[clause.start : clause.end]
-        ways = [*other_words(body), *left_out(body), *branches(body), *arguments(body)]
-        after = found[at + 1] if at + 1 < len(found) and found[at + 1].word == clause.word else None
-        if after:
-            ways.append(("the next clause's answer", text[after.start : after.end]))
-        for told, new in ways:
-            whole = text[: clause.start] + laid(text[: clause.start], new) + text[clause.end :]
+        for told, new in ways_of(text, found, at):
+            whole = text[: clause.start] + laid(text[: clause.start], new, clause.margin) + text[clause.end :]
             if new != body and whole not in seen:
                 seen.add(whole)
                 line = text.count("\n", 0, clause.start) + 1
