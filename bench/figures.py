@@ -9,7 +9,9 @@ from definitions import CRATES, Definitions, clauses_in, clauses_of
 
 TOP = CRATES.parent
 DOCUMENTS = ("README.md", "docs/PROVED.md", "docs/DEFINITIONS.md", "docs/CLAUSES.md")
+# The function whose price is meant if a line names none, and its clause on the report.
 HEADLINE = "star_engine.answer_query"
+REPORTED = f"{HEADLINE}.reported"
 # The functions whose prices the documents give. A document names them as `check` or `Catalogue::load`.
 FUNCTIONS = {
     **{name: f"star_engine.{name}" for name in ("answer_query", "answer_query_read", "answer_program", "bench", "check")},
@@ -20,10 +22,8 @@ FUNCTIONS = {
 }
 # The law whose price is given without its name.
 LAW = ("a quote is a sum over", "star_safety.a_quote_is_the_sum_over_the_scans")
-# Figures of earlier states, which nothing can compare.
-EARLIER = {("docs/CLAUSES.md", "2,220")}
 NUMBER = re.compile(r"(?<![\w,.])(?:\d{1,3}(?:,\d{3})+|\d+)\b")
-FIGURE = re.compile(r"(\d[\d,]*) lines(?: in \S+)?( of Rust)?\b")
+FIGURE = re.compile(r"(\d[\d,]*) lines( of Rust)?\b")
 NAMES = re.compile(r"lines, in (\d[\d,]*) (?:words|definitions)")
 OF_TOOLCHAIN = re.compile(r"(\d[\d,]*) (?:words|definitions) of the toolchain")
 
@@ -77,7 +77,7 @@ class Prices:
     def shares(self, promises: list[str]) -> set[int]:
         """Returns how many lines of each crate some promises reach, and of the two crates of sessions together."""
         counts = [self.definitions.by_crate(self.reached(it)) for it in promises]
-        return {lines for it in counts for lines in (*it.values(), it["star_service"] + it["star_statements"])}
+        return {lines for it in counts for lines in (*it.values(), it["star_service"] + it["star_statements"])} - {0}
 
     def outside(self, promises: list[str]) -> set[int]:
         """Returns how many lines of Rust declarations the definitions that some promises reach cite."""
@@ -92,7 +92,7 @@ class Prices:
 
         Two dots stand for the other files of the crate: those that no cell names.
         """
-        named, reached = files_in(cell), self.reached(f"{HEADLINE}.reported")
+        named, reached = files_in(cell), self.reached(REPORTED)
         others = {it for other in all_cells for it in files_in(other)}
         is_in = lambda it: (it.crate, it.module) in named or ((it.crate, "..") in named and (it.crate, it.module) not in others)
         return {sum(self.definitions.lines[it] for it in reached if is_in(it))}
@@ -113,30 +113,38 @@ def is_price(document: str, row: Row) -> bool:
     return document != "README.md" or names or "definitions" in row.text
 
 
+def number_of(figure: str) -> int:
+    """Returns the number that a figure says."""
+    return int(figure.replace(",", ""))
+
+
 def figures_of(prices: Prices, row: Row, cells: list[str]) -> Iterator[tuple[str, set[int]]]:
     """Yields the figures of a line, each with the numbers that it may be."""
     named = prices.named_in(row.text)
     for figure, of_rust in FIGURE.findall(row.text):
-        yield figure, prices.outside(named) if of_rust else prices.lines(named)
+        yield figure, prices.outside([*named, REPORTED]) if of_rust else prices.lines(named)
     for figure in NAMES.findall(row.text):
         yield figure, {len(prices.reached(it)) for it in named}
     for figure in OF_TOOLCHAIN.findall(row.text):
-        yield figure, prices.of_toolchain(named)
+        yield figure, prices.of_toolchain([*named, REPORTED])
     files = row.cells.get("In `specs/` of")
     for figure in NUMBER.findall(row.cells.get("Lines", "")):
         yield figure, prices.modules(files, cells) if files else prices.lines(named)
-    given = {int(it.replace(",", "")) for it in NUMBER.findall(row.cells.get("Lines", ""))}
-    for figure in NUMBER.findall(row.cells.get("Chiefly", "")):
-        yield figure, prices.shares([it for it in named if prices.price(it) in given])
+    given = set(map(number_of, NUMBER.findall(row.cells.get("Lines", ""))))
+    priced = [it for it in named if prices.price(it) in given]
+    for figure in NUMBER.findall(row.cells.get("Chiefly", "")) if priced else ():
+        yield figure, prices.shares(priced)
 
 
-def wrong_figures(prices: Prices, documents: tuple[str, ...] = DOCUMENTS, top: Path = TOP) -> Iterator[str]:
-    """Yields the figures that `cites` doesn't print, and the documents that lack the headline's price."""
-    for document in documents:
-        rows = [it for it in rows_of(top / document) if is_price(document, it)]
+def wrong_figures(prices: Prices) -> Iterator[str]:
+    """Yields the figures that `cites` doesn't print, and the documents that lack the price of the headline's report."""
+    for document in DOCUMENTS:
+        rows = [it for it in rows_of(TOP / document) if is_price(document, it)]
         cells = [it.cells["In `specs/` of"] for it in rows if "In `specs/` of" in it.cells]
-        for row in rows:
-            for figure, right in figures_of(prices, row, cells):
-                if int(figure.replace(",", "")) not in right and (document, figure) not in EARLIER:
-                    near = ", ".join(f"{it:,}" for it in sorted(right)[:12])
-                    yield f"{document}:{row.number}: {figure} is not what bench/cites counts: {near}"
+        found = [(row, *it) for row in rows for it in figures_of(prices, row, cells)]
+        for row, figure, right in found:
+            if number_of(figure) not in right:
+                counted = " or ".join(f"{it:,}" for it in sorted(right))
+                yield f"{document}:{row.number}: {figure}, where bench/cites counts {counted or 'nothing'}"
+        if document != "README.md" and prices.price(REPORTED) not in {number_of(figure) for _, figure, _ in found}:
+            yield f"{document} lacks the lines of {REPORTED}: {prices.price(REPORTED):,}"

@@ -1,6 +1,7 @@
 """Tests of what reads definitions: `cites` and `wrong_definitions.py` over a small file with blocks."""
 
 import sys
+import tempfile
 import unittest
 from collections import defaultdict
 from pathlib import Path
@@ -8,9 +9,46 @@ from pathlib import Path
 BENCH = Path(__file__).resolve().parent.parent
 sys.path.insert(0, str(BENCH))
 
-from definitions import CRATES, Definitions, Key
+from definitions import CRATES, Definitions, Key, clauses_of, private_citations
+from figures import REPORTED, Prices, Row, figures_of, number_of
 from wrong_definitions import clauses, edits
 
+# A crate whose public function cites a definition, which cites a private one and a type of the code.
+CRATE = {
+    "specs/Shown.antt": """use Rattle.std.specs.Prelude.{Bool, true}
+use Rattle.a_crate.specs.declared.kind.Kind.TheVariants as kind
+use Rattle.a_crate.specs.Private.Hidden.{IsHidden}
+
+abbrev pub is_shown : Bool → Type 0
+is_shown b = IsHidden kind.Plain b
+""",
+    "specs/Private/Hidden.antt": """abbrev pub IsHidden : Kind → Bool → Type 0
+IsHidden k b = ⊤
+""",
+    "src/kind.rt": """/// What it is.
+#[derive(Clone, Copy)]
+pub enum Kind {
+    // The only one.
+    Plain,
+}
+""",
+    "src/show.rt": """ghost use Rattle.a_crate.specs.Shown.{is_shown};
+
+pub fn show() -> bool
+    ensures shown {
+        is_shown result
+    }
+{
+    true
+}
+
+fn hide() -> bool
+    ensures { is_shown result }
+{
+    true
+}
+""",
+}
 TEXT = (BENCH / "tests" / "Blocks.antt").read_text(encoding="utf-8")
 
 
@@ -41,6 +79,33 @@ class Cites(unittest.TestCase):
         self.assertNotIn(key("is_true"), self.definitions.reached({key("IsWritten")}))
 
 
+class Citations(unittest.TestCase):
+    """What the clauses of a small crate cite."""
+
+    def setUp(self) -> None:
+        folder = tempfile.TemporaryDirectory()
+        self.addCleanup(folder.cleanup)
+        self.crates = Path(folder.name)
+        for name, text in CRATE.items():
+            path = self.crates / "a_crate" / name
+            path.parent.mkdir(parents=True, exist_ok=True)
+            path.write_text(text, encoding="utf-8")
+        self.definitions = Definitions(self.crates)
+
+    def test_what_is_not_counted(self) -> None:
+        shown = self.definitions.reached(clauses_of(self.crates, "a_crate.show.shown"))
+        self.assertEqual(self.definitions.by_crate(shown), {"a_crate": 4})
+        self.assertEqual(self.definitions.declared(shown), {Key("a_crate", "kind", "Kind"): 3})
+        self.assertEqual({it.name for it in self.definitions.of_toolchain(shown)}, {"Bool"})
+
+    def test_private_definitions_are_noticed(self) -> None:
+        expected = [
+            "a_crate/specs/Shown.antt: is_shown cites IsHidden of a_crate/specs/Private/Hidden.antt",
+            "a_crate/src/show.rt: show shown reaches IsHidden of a_crate/specs/Private/Hidden.antt",
+        ]
+        self.assertEqual(list(private_citations(self.definitions)), expected)
+
+
 class WrongDefinitions(unittest.TestCase):
     """The clauses of a file, and the wrong definitions that are made of them."""
 
@@ -67,6 +132,28 @@ class WrongDefinitions(unittest.TestCase):
         for told in ("left out: IsText ms a", "exchanged in the result: ms ns", "another case's (single b)", "another case's result"):
             self.assertIn(told, self.made["IsText"])
         self.assertNotIn("Either", self.made)
+
+
+class Figures(unittest.TestCase):
+    """The figures of a document."""
+
+    def setUp(self) -> None:
+        self.prices = Prices()
+
+    def wrong(self, text: str, cells: dict[str, str]) -> list[str]:
+        found = figures_of(self.prices, Row(1, text, cells), [])
+        return [figure for figure, right in found if number_of(figure) not in right]
+
+    def test_a_figure_in_a_sentence(self) -> None:
+        price = self.prices.price(REPORTED)
+        self.assertEqual(self.wrong(f"The definitions that `reported` reaches, {price:,} lines.", {}), [])
+        self.assertEqual(self.wrong(f"The definitions that `reported` reaches, {price + 1:,} lines.", {}), [f"{price + 1:,}"])
+
+    def test_a_figure_in_a_table(self) -> None:
+        price = self.prices.price("star_engine.check")
+        text = "| `check` | {0} | tables 1 |"
+        self.assertEqual(self.wrong(text.format(price), {"Lines": f"{price}", "Chiefly": "tables 1"}), ["1"])
+        self.assertEqual(self.wrong(text.format(price + 1), {"Lines": f"{price + 1}"}), [f"{price + 1}"])
 
 
 class Repository(unittest.TestCase):
