@@ -49,7 +49,7 @@ fn hide() -> bool
 }
 """,
 }
-TEXT = (BENCH / "tests" / "Blocks.antt").read_text(encoding="utf-8")
+TEXT = (BENCH / "tests" / "blocks.txt").read_text(encoding="utf-8")
 
 
 def key(name: str) -> Key:

@@ -194,12 +194,12 @@ const HELP: &[(&[&str], &str, &str)] = &[
     (
         &["--help"],
         "Usage: star [COMMAND]\n",
-        "  star check data\n",
+        "  star check examples/data\n",
     ),
     (
         &["check", "--help"],
         "Usage: star check <FOLDER>\n",
-        "  star check data\n",
+        "  star check examples/data\n",
     ),
     (
         &["check", "--help"],
@@ -209,42 +209,42 @@ const HELP: &[(&[&str], &str, &str)] = &[
     (
         &["bench", "--help"],
         "Usage: star bench <FOLDER>\n",
-        "  star bench data\n",
+        "  star bench examples/data\n",
     ),
     (
         &["query", "--help"],
         "Usage: star query <FOLDER> <FILE>\n",
-        "  star query data revenue.sql\n",
+        "  star query examples/data examples/revenue.sql\n",
     ),
     (
         &["explain", "--help"],
         "Usage: star explain <FILE>\n",
-        "  star explain revenue.sql\n",
+        "  star explain examples/revenue.sql\n",
     ),
     (
         &["exec", "--help"],
         "Usage: star exec <FOLDER> <FILE>\n",
-        "  star exec data above.star\n",
+        "  star exec examples/data examples/above.star\n",
     ),
     (
         &["quote", "--help"],
         "Usage: star quote <FOLDER> <FILE>\n",
-        "  star quote data above.star\n",
+        "  star quote examples/data examples/above.star\n",
     ),
     (
         &["trial", "--help"],
         "Usage: star trial <FOLDER> <FILE> <LIMIT>\n",
-        "  star trial data above.star 1000\n",
+        "  star trial examples/data examples/above.star 1000\n",
     ),
     (
         &["session", "--help"],
         "Usage: star session <FOLDER>\n",
-        "  star session data\n",
+        "  star session examples/data\n",
     ),
     (
         &["reports", "--help"],
         "Usage: star reports [OPTIONS] <FOLDER> <TARGET> <FILE>...\n",
-        "  star reports --quote data reports revenue.sql above.star\n",
+        "  star reports --quote examples/data reports examples/revenue.sql examples/above.star\n",
     ),
 ];
 
