@@ -8,7 +8,7 @@ from typing import Iterator, NamedTuple
 from definitions import CRATES, Definitions, clauses_in, clauses_of
 
 TOP = CRATES.parent
-DOCUMENTS = ("README.md", "docs/PROVED.md", "docs/DEFINITIONS.md", "docs/CLAUSES.md")
+DOCUMENTS = ("README.md", "docs/PROVED.md", "docs/DEFINITIONS.md")
 # The function whose price is meant if a line names none, and its clause on the report.
 HEADLINE = "star_engine.answer_query"
 REPORTED = f"{HEADLINE}.reported"
