@@ -12,4 +12,3 @@ pub mod ReferredRows
 pub mod Loading
 pub mod SmallNumbers
 mod WorkedBounds
-mod WorkedTexts

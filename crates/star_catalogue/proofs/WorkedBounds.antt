@@ -1,6 +1,6 @@
--- The bounds of columns at a few rows, and at the ends of 64 bits.
-use Rattle.std.proofs.Common.{◌≡◌, List, [], ◌∷◌, ℤ, pos, negsuc, refl, sym, true≢false}
-use Rattle.star_schema.specs.declared.column.ColumnId.TheVariants.{CCustkey, PSize}
+-- The bounds of columns at the ends of 64 bits.
+use Rattle.std.proofs.Common.{List, [], ◌∷◌, ℤ, pos, negsuc, refl, sym, true≢false}
+use Rattle.star_schema.specs.declared.column.ColumnId.TheVariants.{CCustkey}
 use Rattle.star_schema.specs.Bounds.{greatest, least, numbers_at}
 use Rattle.star_schema.specs.Columns.{AreBoundsI64, bounds_in}
 use Rattle.star_schema.specs.Database.{Database, rows_in}
@@ -16,17 +16,6 @@ customers rows =
 
 abbrev keyed : ℤ → List Value
 keyed n = Number n ∷ []
-
-abbrev few : Database
-few = customers (keyed (pos 7) ∷ keyed (negsuc 8) ∷ keyed (pos 4) ∷ [])
-
-few_bounds : bounds_in (rows_in few) CCustkey ≡ record { low = negsuc 8; high = pos 7 }
-unfolding column_of place_of numbers_at least greatest
-few_bounds = refl
-
-no_rows : bounds_in (rows_in few) PSize ≡ only (pos 0)
-unfolding column_of place_of numbers_at least greatest
-no_rows = refl
 
 -- from -2^63 to 2^63 - 1
 ends_fit : FitsI64

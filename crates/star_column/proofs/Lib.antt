@@ -9,5 +9,4 @@ pub mod Masks
 pub mod Numbers
 pub mod Repeats
 pub mod Views
-mod WorkedMasks
-mod WorkedWidths
+mod Worked

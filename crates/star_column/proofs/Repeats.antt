@@ -1,7 +1,5 @@
 -- Places that are kept as signed words, and what stands there.
-use Rattle.std.proofs.Common.{◌≡◌, ℕ, ℤ, ◌<◌, List, [], ◌∷◌, length, get_or, map, Vec, sym, ap, ◌∙◌, subst}
-use Rattle.std.specs.declared.alloc.Global.{Global}
-use Rattle.std.specs.Prelude.{Result, Ok, Err, IfOk}
+use Rattle.std.proofs.Common.{◌≡◌, ℕ, ℤ, ◌<◌, List, [], ◌∷◌, length, get_or, map, sym, ap, ◌∙◌, subst}
 use Rattle.std.specs.Int.RustNames.{unsigned_abs}
 use Rattle.std.specs.List.{All}
 use Rattle.std.proofs.lemmas.List.Elements.{All-cons, All-head, All-nil, All-tail}
@@ -23,10 +21,8 @@ module _ (words rows : List ℤ) (ns : List ℕ) (read : words ≡ rows) where
           (from_places zs
           (All-tail (λ p. p < length ns) (unsigned_abs z) (map unsigned_abs zs) all))
 
-  pub words_read : {E : Type 0} (found : Result (Vec ℕ Global) E)
-      → IfOk found (λ kept. kept.items ≡ map (λ z. get_or ns (unsigned_abs z) 0) words)
-      → IfOk found (λ kept. kept.items ≡ map (λ p. get_or ns p 0) (places_in rows))
-  words_read (Ok kept) is =
+  pub words_read : (found : List ℕ) → found ≡ map (λ z. get_or ns (unsigned_abs z) 0) words
+      → found ≡ map (λ p. get_or ns p 0) (places_in rows)
+  words_read found is =
       is ∙ ap (map (λ z. get_or ns (unsigned_abs z) 0)) read
       ∙ sym (map-map (λ p. get_or ns p 0) unsigned_abs rows)
-  words_read (Err e) is = tt

@@ -1,11 +1,16 @@
 // From the texts of rows to their codes: each different text of those that are kept becomes the next
 // text of the dictionary, and its place there is the code of all that equal it.
 
-ghost use Rattle.std.specs.Prelude.{◌≡◌, ◌<◌, ◌^◌, All, IfOk, length, map, slice_index};
+ghost use Rattle.std.specs.Prelude.{◌≡◌, ◌-◌, ◌<◌, ◌^◌, All, IfOk, length, map, slice_index};
 ghost use Rattle.std.specs.Int.RustNames.{unsigned_abs};
+ghost use Rattle.std.specs.List.Sorted.{IsStrictlySortedBy};
 ghost use Rattle.star_flat.specs.Repeated.{AreRepeated, places_in, texts_at_places};
+ghost use Rattle.star_schema.specs.Dictionary.{text_cmp};
+ghost use Rattle.star_column.specs.Width.{least_width};
+ghost use Rattle.star_column.specs.Private.Words.{numbers_in, word_bits};
 
 use crate::dictionary::Dictionary;
+use crate::words::{Word, Words};
 use star_flat::{FlatNumbers, RepeatedTexts, SignedWord, SignedWords, release};
 use std::alloc::{AllocError, Global};
 
@@ -13,45 +18,77 @@ use std::alloc::{AllocError, Global};
 pub(crate) fn code_each(
     alloc: Global,
     texts: &RepeatedTexts,
-) -> Result<(Dictionary, Vec<u32>), AllocError>
+) -> Result<(Dictionary, Words), AllocError>
     requires { length texts.now < 2 ^ 32 }
-    ensures texts { IfOk result (λ coded. texts_at_places coded.0 coded.1.items ≡ texts.now) }
-    ensures repeated { IfOk result (λ coded. AreRepeated coded.0 coded.1.items) }
+    ensures texts { IfOk result
+        (λ coded. texts_at_places coded.0 (numbers_in coded.1) ≡ texts.now) }
+    ensures repeated { IfOk result (λ coded. AreRepeated coded.0 (numbers_in coded.1)) }
+    ensures width { IfOk result
+        (λ coded. word_bits coded.1 ≡ least_width (length coded.0 - 1)) }
+    ensures sorted { IfOk result (λ coded. IsStrictlySortedBy text_cmp coded.0) }
 {
     let (kept, rows) = texts.parts();
     let (different, codes) = kept.coded(alloc)?;
-    let each = numbers_at(alloc, rows, codes.as_slice())?;
+    let dictionary = Dictionary::of_ordered(different);
+    let each = words_at(alloc, rows, codes.as_slice(), dictionary.entries())?;
     release(codes);
-    Ok((Dictionary::of_ordered(different), each))
+    Ok((dictionary, each))
 }
 
-/// What stands at each of these places.
-fn numbers_at(alloc: Global, rows: &FlatNumbers, numbers: &[u32]) -> Result<Vec<u32>, AllocError>
-    requires { All (λ place. place < length numbers.now) (places_in rows.now) }
-    ensures { IfOk result (λ found. found.items
-        ≡ map (λ place. slice_index numbers.now place) (places_in rows.now)) }
+/// What stands at each of these places, in the least width that holds each code of a dictionary with
+/// `entries` entries.
+fn words_at(
+    alloc: Global,
+    rows: &FlatNumbers,
+    codes: &[u32],
+    entries: u32,
+) -> Result<Words, AllocError>
+    requires places { All (λ place. place < length codes.now) (places_in rows.now) }
+    requires codes { All (λ code. code < entries) codes.now }
+    ensures numbers { IfOk result (λ words. numbers_in words
+        ≡ map (λ place. slice_index codes.now place) (places_in rows.now)) }
+    ensures width { IfOk result (λ words. word_bits words ≡ least_width (entries - 1)) }
+{
+    let span = entries.saturating_sub(1);
+    if span <= u32::from(u8::MAX) {
+        Ok(Words::Bits8(codes_at(alloc, rows, codes)?))
+    } else if span <= u32::from(u16::MAX) {
+        Ok(Words::Bits16(codes_at(alloc, rows, codes)?))
+    } else {
+        Ok(Words::Bits32(codes_at(alloc, rows, codes)?))
+    }
+}
+
+/// What stands at each of these places, in words in which it fits.
+fn codes_at<W: Word>(alloc: Global, rows: &FlatNumbers, codes: &[u32]) -> Result<Vec<W>, AllocError>
+    requires places { All (λ place. place < length codes.now) (places_in rows.now) }
+    requires fit { All (λ code. code < W.limit) codes.now }
+    ensures { IfOk result (λ found. map W.number found.items
+        ≡ map (λ place. slice_index codes.now place) (places_in rows.now)) }
 {
     match rows.words() {
-        SignedWords::Bits8(words) => read_at(alloc, words.as_slice(), numbers),
-        SignedWords::Bits16(words) => read_at(alloc, words.as_slice(), numbers),
-        SignedWords::Bits32(words) => read_at(alloc, words.as_slice(), numbers),
-        SignedWords::Bits64(words) => read_at(alloc, words.as_slice(), numbers),
+        SignedWords::Bits8(words) => read_at(alloc, words.as_slice(), codes),
+        SignedWords::Bits16(words) => read_at(alloc, words.as_slice(), codes),
+        SignedWords::Bits32(words) => read_at(alloc, words.as_slice(), codes),
+        SignedWords::Bits64(words) => read_at(alloc, words.as_slice(), codes),
     }
 }
 
 /// What stands at each of these places, which are kept as signed words.
-fn read_at<S: SignedWord>(
+fn read_at<S: SignedWord, W: Word>(
     alloc: Global,
     words: &[S],
-    numbers: &[u32],
-) -> Result<Vec<u32>, AllocError>
-    requires { All (λ word. unsigned_abs (S.number word) < length numbers.now) words.now }
-    ensures { IfOk result (λ found. found.items
-        ≡ map (λ word. slice_index numbers.now (unsigned_abs (S.number word))) words.now) }
+    codes: &[u32],
+) -> Result<Vec<W>, AllocError>
+    requires places { All (λ word. unsigned_abs (S.number word) < length codes.now) words.now }
+    requires fit { All (λ code. code < W.limit) codes.now }
+    ensures { IfOk result (λ found. map W.number found.items
+        ≡ map (λ word. slice_index codes.now (unsigned_abs (S.number word))) words.now) }
 {
     let mut found = Vec::with_capacity(alloc, words.len())?;
     for word in words {
-        found.push_reserved(numbers[word.value().unsigned_abs() as usize]);
+        let code = codes[word.value().unsigned_abs() as usize];
+        found.push_reserved(W::of(u64::from(code)));
     }
     Ok(found)
 }

@@ -9,7 +9,7 @@ use crate::column::ColumnData;
 use crate::dictionary::Dictionary;
 use crate::view::ColumnView;
 use crate::words::Words;
-use star_flat::{RepeatedTexts, release};
+use star_flat::RepeatedTexts;
 use star_interval::Interval;
 use std::alloc::{AllocError, Global};
 use std::marker::Model;
@@ -71,12 +71,7 @@ impl TextColumn {
         ensures { IfOk result (λ column. column ≡ texts.now) }
     {
         let (dictionary, codes) = code_each(alloc, texts)?;
-        let words = Words::of_codes(alloc, codes.as_slice(), dictionary.entries())?;
-        release(codes);
-        Ok(TextColumn {
-            codes: words,
-            dictionary,
-        })
+        Ok(TextColumn { codes, dictionary })
     }
 
     /// The code of a row's text: its place in the dictionary, which is also the number of texts

@@ -193,23 +193,6 @@ impl Words {
             Ok(Words::Bits64(differences(alloc, numbers, low)?))
         }
     }
-
-    /// Packs these codes in the least width that holds each code of a dictionary with `entries`
-    /// entries.
-    pub(crate) fn of_codes(alloc: Global, codes: &[u32], entries: u32) -> Result<Words, AllocError>
-        requires { All (λ code. code < entries) codes.now }
-        ensures numbers { IfOk result (λ words. numbers_in words ≡ codes.now) }
-        ensures width { IfOk result (λ words. word_bits words ≡ least_width (entries - 1)) }
-    {
-        let span = entries.saturating_sub(1);
-        if span <= u32::from(u8::MAX) {
-            Ok(Words::Bits8(narrow(alloc, codes)?))
-        } else if span <= u32::from(u16::MAX) {
-            Ok(Words::Bits16(narrow(alloc, codes)?))
-        } else {
-            Ok(Words::Bits32(narrow(alloc, codes)?))
-        }
-    }
 }
 
 /// How far each number lies above another.
@@ -226,18 +209,6 @@ fn differences<S: SignedWord, W: Word>(
     let mut words = Vec::with_capacity(alloc, numbers.len())?;
     for number in numbers {
         words.push_reserved(W::of(number.value().abs_diff(low)));
-    }
-    Ok(words)
-}
-
-/// These numbers as words in which they fit.
-fn narrow<W: Word>(alloc: Global, numbers: &[u32]) -> Result<Vec<W>, AllocError>
-    requires { All (λ number. number < W.limit) numbers.now }
-    ensures { IfOk result (λ words. map W.number words.items ≡ numbers.now) }
-{
-    let mut words = Vec::with_capacity(alloc, numbers.len())?;
-    for number in numbers {
-        words.push_reserved(W::of(u64::from(*number)));
     }
     Ok(words)
 }

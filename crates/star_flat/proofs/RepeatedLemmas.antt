@@ -1,5 +1,5 @@
 -- Texts that are told by their places among other texts.
-use Rattle.std.proofs.Common.{◌≡◌, ℕ, ◌+◌, ◌<◌, List, [], ◌∷◌, ◌++◌, Some, length, get_or, map, take, refl, sym, ap, ◌∙◌, arith, length-append, subst, ⊎_elim}
+use Rattle.std.proofs.Common.{◌≡◌, ℕ, zero, suc, ◌+◌, ◌<◌, List, [], ◌∷◌, ◌++◌, Some, length, get_or, map, take, refl, sym, ap, ◌∙◌, arith, length-append, subst, ⊎_elim}
 use Rattle.std.specs.Prelude.{Result, Ok, Err, IfOk, OnErr, OnOk}
 use Rattle.std.specs.List.{All, Contains, slice_get}
 use Rattle.std.proofs.lemmas.Bool.{cases_eq}
@@ -8,6 +8,8 @@ use Rattle.std.proofs.lemmas.List.Elements.{All-get_or, All-head, All-map, All-p
 use Rattle.std.proofs.lemmas.Option.{get_or_from_slice_get, slice_get_within}
 use Rattle.std.proofs.lemmas.Simd.{map-map}
 use Rattle.star_flat.specs.Repeated.{AreRepeated, texts_at_places}
+use Rattle.star_flat.specs.declared.met.Met.{Met}
+use Rattle.star_flat.specs.Private.Met.{IsMet}
 
 -- what follows from what holds of each kind of answer
 pub either : {T E A B G : Type 0} (r : Result T E) → OnOk r A → OnErr r B → (A → G) → (B → G) → G
@@ -142,3 +144,17 @@ module _ (ts ds : List (List ℕ)) (ps ns : List ℕ) (repeated : AreRepeated ts
   pub places_read : All (λ p. p < length ns) ps
   places_read = All-weaker (λ p. p < length ts) (λ p. p < length ns)
       (λ p h. omega (arith, h, count)) ps repeated.within
+
+-- a short text that is remembered is still kept where one more text is
+pub met_more : (ts : List (List ℕ)) (t : List ℕ) (met : List Met) → All (IsMet ts) met
+    → All (IsMet (ts ++ t ∷ [])) met
+met_more ts t met h =
+    All-weaker (IsMet ts) (IsMet (ts ++ t ∷ []))
+    (λ m is few. still ts m.place (take m.len m.bytes) (is few)) met h
+  where
+    still : (us : List (List ℕ)) (p : ℕ) (x : List ℕ) → slice_get us p ≡ Some x
+        → slice_get (us ++ t ∷ []) p ≡ Some x
+    still [] zero x e = cc e
+    still [] (suc p) x e = cc e
+    still (u ∷ us) zero x e = e
+    still (u ∷ us) (suc p) x e = still us p x e

@@ -7,6 +7,7 @@
 mod coding;
 mod ends;
 mod marks;
+mod met;
 mod numbers;
 mod ordered;
 mod pages;

@@ -4,6 +4,7 @@ ghost use Rattle.std.specs.Prelude.{◌≡◌, ◌<◌, ◌^◌, ◌++◌, ◌�
 ghost use Rattle.star_flat.specs.Repeated.{AreRepeated, places_in, texts_at_places};
 
 use crate::marks::may_repeat;
+use crate::met::{Met, REMEMBERED, find_met, nothing_met, remember};
 use crate::numbers::{FlatNumbers, place_at, push_place};
 use crate::pages::release;
 use crate::slot::{SLOTS, slot_of};
@@ -27,6 +28,8 @@ pub struct RepeatedTexts {
     // Places of texts that were put lately, each in the slot of its text. Any place may stand here:
     // it is tried.
     recent: [usize; SLOTS],
+    // Short texts of them, by value.
+    met: [Met; REMEMBERED],
     // How many texts are kept before they are compacted next. Any number may stand here.
     most: usize,
 }
@@ -39,7 +42,11 @@ impl Model for RepeatedTexts {
 
     ghost view = { λ texts. texts_at_places texts.kept (places_in texts.rows) };
 
-    ghost invariant = { λ texts. AreRepeated texts.kept (places_in texts.rows) };
+    ghost use Rattle.std.specs.Prelude.{All};
+    ghost use Rattle.star_flat.specs.Private.Met.{IsMet};
+
+    ghost invariant = { λ texts. AreRepeated texts.kept (places_in texts.rows)
+        × All (IsMet texts.kept) texts.met };
 }
 
 /// The place of an equal text that was put lately.
@@ -115,6 +122,7 @@ impl RepeatedTexts {
             kept: FlatTexts::new(alloc),
             rows: FlatNumbers::new(alloc),
             recent: [0; SLOTS],
+            met: nothing_met(),
             most: MANY,
         }
     }
@@ -149,7 +157,7 @@ impl RepeatedTexts {
         ensures ok { OnOk result (self.new ≡ self.old ++ text.now ∷ []) }
         ensures err { OnErr result (self.new ≡ self.old) }
     {
-        match recent_place(&self.recent, &self.kept, text) {
+        match find_met(&self.met, text) {
             Some(place) => push_place(&mut self.rows, place),
             None => self.push_other(text),
         }
@@ -161,10 +169,25 @@ impl RepeatedTexts {
         self.rows.release();
     }
 
-    /// Puts a text at the end that equals none of those that were put lately, or changes nothing
-    /// where memory is refused. Apart from `push`, which stays short so.
+    /// Puts a text at the end that is not remembered by value, or changes nothing where memory is
+    /// refused. Apart from `push`, which stays short so.
     #[cold]
     fn push_other(&mut self, text: &[u8]) -> Result<(), AllocError>
+        ensures ok { OnOk result (self.new ≡ self.old ++ text.now ∷ []) }
+        ensures err { OnErr result (self.new ≡ self.old) }
+    {
+        match recent_place(&self.recent, &self.kept, text) {
+            Some(place) => {
+                remember(&mut self.met, text, place);
+                push_place(&mut self.rows, place)
+            }
+            None => self.push_new(text),
+        }
+    }
+
+    /// Puts a text at the end that equals none of those that were put lately, or changes nothing
+    /// where memory is refused.
+    fn push_new(&mut self, text: &[u8]) -> Result<(), AllocError>
         ensures ok { OnOk result (self.new ≡ self.old ++ text.now ∷ []) }
         ensures err { OnErr result (self.new ≡ self.old) }
     {
@@ -186,6 +209,7 @@ impl RepeatedTexts {
         ensures { self.new ≡ self.old }
     {
         if may_repeat(self.alloc, &self.kept)? {
+            self.met = nothing_met();
             keep_different(self.alloc, &mut self.kept, &mut self.rows)?;
             let left = self.kept.len();
             let more = left.saturating_add(left).max(self.rows.len() / 4);

@@ -2,10 +2,10 @@
 use Rattle.std.proofs.Common.{◌≡◌, ◌⊎◌, ◌+◌, ◌^◌, ◌<◌, ◌≤◌, ◌∙◌, ℕ, zero, suc, List, [], ◌∷◌, ◌&&◌, true, false, get_or, length, take, refl, sym, ap, inl, inr, arith}
 use Rattle.std.specs.Char.{is_ascii_digit}
 use Rattle.std.specs.List.{list_all}
-use Rattle.std.specs.Prelude.{nat_le}
-use Rattle.std.proofs.lemmas.Bool.{and_from, and_parts, cases_Bool, le-leb, leb-true, true≢false}
+use Rattle.std.specs.Prelude.{◌==◌, nat_le}
+use Rattle.std.proofs.lemmas.Bool.{and_from, and_parts, cases_Bool, eqb-true, le-leb, leb-true, true≢false}
 use Rattle.std.proofs.lemmas.List.{length-take-le}
-use Rattle.std.specs.Str.Parse.{digits_value}
+use Rattle.std.specs.Str.Parse.{digits_value, starts_with_minus}
 use Rattle.star_common.specs.Numerals.{is_numeral}
 use Rattle.star_common.proofs.NumeralLemmas.{below_power, digit_bounds}
 use Rattle.star_reader.specs.Private.Fronts.{AreDigits, IsFront, is_plain}
@@ -118,5 +118,18 @@ no_numeral text count value h wrong n front =
           let (same, some, few) = numeral_is text count value n h front numeral in
           absurd (wrong (omega (arith, same, some)) (omega (arith, same, few))
           (rw same front.end))
+      | inr other ↦ other
+    ]
+
+-- a numeral has no minus
+pub numeral_plain : (cell : List ℕ) → is_numeral 18 cell ≡ true → starts_with_minus cell ≡ false
+numeral_plain [] h = refl
+numeral_plain (b ∷ cell) h =
+    let parts : (nat_le 1 (length (b ∷ cell)) && nat_le (length (b ∷ cell)) 18 ≡ true)
+    × (list_all is_ascii_digit (b ∷ cell) ≡ true) = and_parts _ _ h in
+    let first = and_parts (is_ascii_digit b) (list_all is_ascii_digit cell) parts.1 in
+    let low = (digit_bounds b first.0).0 in
+    elim (cases_Bool (b == 45)) [
+      | inl minus ↦ absurd (omega (arith, low, eqb-true b 45 minus))
       | inr other ↦ other
     ]

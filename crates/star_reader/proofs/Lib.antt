@@ -22,7 +22,5 @@ pub mod Fronts
 pub mod FrontNumbers
 pub mod FrontTexts
 pub mod LineSteps
-pub mod ZeroPieces
 pub mod RowPlaces
-pub mod WorkedParts
-mod WorkedPieces
+mod Worked

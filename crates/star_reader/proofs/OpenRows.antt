@@ -21,67 +21,19 @@ use Rattle.star_reader.specs.Faults.{byte_order_mark, record_fault, records_faul
 use Rattle.star_reader.specs.Partway.{left_fault}
 use Rattle.star_reader.specs.Carried.{is_inner, AreOneRecord, StandsFor}
 use Rattle.star_reader.specs.Private.Ended.{HasEnded}
-use Rattle.star_reader.specs.Private.Steps.{AddsRecord, HasRows}
+use Rattle.star_reader.specs.Private.Steps.{HasAdded, HasRows}
 use Rattle.star_reader.proofs.Cuts.{inner_records}
 use Rattle.star_reader.proofs.Law.{marked_fault, plain_fault, records_sound, width_kinds}
-use Rattle.star_reader.proofs.TableSteps.{row_on}
+use Rattle.star_reader.proofs.TableSteps.{start as begin}
 
--- a line with a byte is a record
-filled_line : (line : List ℕ) → (length line == 0) ≡ false
-    → filter is_filled (line ∷ []) ≡ line ∷ []
-filled_line [] h = absurd (true≢false h)
-filled_line (b ∷ line) h = refl
-
-no_byte : (line : List ℕ) → (length line == 0) ≡ true → line ≡ []
-no_byte [] h = refl
-no_byte (b ∷ line) h = let bad = eqb-true (length (b ∷ line)) 0 h in absurd (omega (arith, bad))
-
--- no record
-pub none_open : (table : TableId) (most start : ℕ) (line : List ℕ) (columns : List RawColumn)
-    → (length line == 0) ≡ true → AreColumnsOf table start columns
-    → (records_fault table most (start + 1) (filter is_filled (line ∷ [])) ≡ None)
-    × HasRows table start (first_rows start (map values columns)) (filter is_filled (line ∷ [])) []
-    start columns
-unfolding first_answer
-none_open table most start line columns none full =
-    rw (no_byte line none) (refl, record { counted = refl; of_table = full; so_far = refl })
-
--- a record too many
-pub open_too_many : (table : TableId) (most start : ℕ) (line : List ℕ)
-    → (length line == 0) ≡ false → most ≤ start
-    → records_fault table most (start + 1) (filter is_filled (line ∷ [])) ≡ Some fault.TooManyRows
-unfolding first_answer
-open_too_many table most start line some full =
-    let over = lt-ltb most (start + 1) (omega (arith, full)) in
-    rw (filled_line line some, over) refl
-
--- a record with a fault
-pub open_faulty : (table : TableId) (most start : ℕ) (line : List ℕ) (columns : List RawColumn)
-    (f : ReadFault) → (length line == 0) ≡ false → start < most → AreColumnsOf table start columns
-    → record_fault (map raw_kind columns) (start + 1) (fields_of line) ≡ Some f
-    → records_fault table most (start + 1) (filter is_filled (line ∷ [])) ≡ Some f
-unfolding first_answer
-open_faulty table most start line columns f some room full e =
-    let within = le-ltb most (start + 1) (omega (arith, room)) in
-    let here : record_fault (kinds_of table) (start + 1) (fields_of line) ≡ Some f =
-    rw full.kinds at e in
-    rw (filled_line line some, within, here) refl
-
--- one more record
-pub one_open : (table : TableId) (most start : ℕ) (line : List ℕ) (columns new : List RawColumn)
-    → (length line == 0) ≡ false → start < most → AreColumnsOf table start columns
-    → AddsRecord (start + 1) (fields_of line) columns new
-    → (records_fault table most (start + 1) (filter is_filled (line ∷ [])) ≡ None)
-    × HasRows table start (first_rows start (map values columns)) (filter is_filled (line ∷ [])) []
-    (start + 1) new
-unfolding first_answer
-one_open table most start line columns new some room full adds =
-    let within = le-ltb most (start + 1) (omega (arith, room)) in
-    let here : record_fault (kinds_of table) (start + 1) (fields_of line) ≡ None =
-    rw full.kinds at adds.no_fault in
-    let before : HasRows table start (first_rows start (map values columns)) (line ∷ []) (line ∷ [])
-    start columns = record { counted = refl; of_table = full; so_far = refl } in
-    rw (filled_line line some) (rw (within, here) refl, row_on before adds)
+-- the row of one line is to be added
+pub open_start : (table : TableId) (most start : ℕ) (line : List ℕ) (columns : List RawColumn)
+    → AreColumnsOf table start columns → start ≤ most
+    → HasAdded table most start (first_rows start (map values columns)) (filter is_filled (line ∷ []))
+    (filter is_filled (line ∷ []) ++ []) start columns
+open_start table most start line columns full within =
+    rw (append-nil (filter is_filled (line ∷ [])))
+    (begin table most start (filter is_filled (line ∷ [])) columns full within)
 
 -- lines that are one record have the same fault
 same_fault : (table : TableId) (most from : ℕ) (a b : List ℕ) → AreOneRecord (kinds_of table) a b

@@ -1,16 +1,15 @@
 -- One more record of a table.
-use Rattle.std.proofs.Common.{◌≡◌, ◌+◌, ◌<◌, ◌≤◌, ℕ, List, [], ◌∷◌, All, true, false, Bor, Some, None, length, map, refl, sym, ◌∙◌, inl, inr, arith, append_assoc}
-use Rattle.std.specs.Prelude.{nat_eq}
+use Rattle.std.proofs.Common.{◌≡◌, ◌+◌, ◌<◌, ◌≤◌, ℕ, List, [], ◌∷◌, All, ◌++◌, Bool, true, false, Some, None, Result, Ok, Err, MatchResult, length, map, refl, sym, ◌∙◌, inl, inr, arith, append_assoc}
+use Rattle.std.specs.Prelude.{◌==◌, filter, nat_eq}
 use Rattle.std.specs.List.{starts_with}
 use Rattle.std.proofs.lemmas.Bool.{and_parts, cases_Bool, eqb-true, le-ltb, lt-ltb, true≢false}
 use Rattle.std.proofs.Math.ListN.{get_or-map}
 use Rattle.std.proofs.lemmas.List.{length-map}
 use Rattle.std.proofs.lemmas.List.Elements.{All-map}
 use Rattle.csv.specs.Reading.{is_bom, strip_bom}
-use Rattle.csv.specs.declared.reader.Reader.{Reader}
 use Rattle.star_schema.specs.declared.table.TableId.{TableId}
 use Rattle.star_common.specs.First.{first_answer}
-use Rattle.star_schema.specs.Records.{fields_of}
+use Rattle.star_schema.specs.Records.{fields_of, is_filled}
 use Rattle.star_schema.specs.Schema.{kinds_of}
 use Rattle.star_schema.specs.Tables.{Value, cells_of, row_of, values_of}
 use Rattle.star_reader.specs.declared.column.RawColumn.{RawColumn}
@@ -19,8 +18,7 @@ use Rattle.star_reader.specs.declared.fault.ReadFault.TheVariants as fault
 use Rattle.star_reader.specs.Columns.{AreColumnsOf, first_rows, raw_kind, values}
 use Rattle.star_reader.specs.Private.Extended.{extended_columns}
 use Rattle.star_reader.specs.Faults.{byte_order_mark, record_fault, records_fault}
-use Rattle.star_reader.specs.Private.Lines.{HasLeft, TakesFirst}
-use Rattle.star_reader.specs.Private.Steps.{AddsRecord, HasReadRecords, HasRows}
+use Rattle.star_reader.specs.Private.Steps.{AddsRecord, HasAdded, HasRows}
 use Rattle.star_reader.proofs.Law.{width_kinds}
 use Rattle.star_reader.proofs.RowLemmas.{extended_full, first_rows-extended}
 
@@ -44,32 +42,40 @@ no_mark (a ∷ b ∷ c ∷ rest) h =
       | inr plain ↦ rw plain refl
     ]
 
+-- no record was added yet
 pub start : (table : TableId) (most from : ℕ) (all : List (List ℕ)) (columns : List RawColumn)
-    (reader : Reader (Bor (List ℕ))) → AreColumnsOf table from columns → HasLeft reader all
-    → HasReadRecords table most from (first_rows from (map values columns)) all from columns reader
-start table most from all columns reader full left =
-    record {
-      lines = all;
-      left = left;
-      no_fault = refl;
-      rows = record { counted = refl; of_table = full; so_far = refl };
-    }
+    → AreColumnsOf table from columns → from ≤ most
+    → HasAdded table most from (first_rows from (map values columns)) all all from columns
+start table most from all columns full within = record {
+  few = within;
+  no_fault = refl;
+  rows = record { counted = refl; of_table = full; so_far = refl };
+}
+
+-- a line with a byte is a record
+pub filled_line : (line : List ℕ) (rest : List (List ℕ)) → (length line == 0) ≡ false
+    → filter is_filled (line ∷ []) ++ rest ≡ line ∷ rest
+filled_line [] rest h = absurd (true≢false h)
+filled_line (b ∷ line) rest h = refl
+
+pub empty_line : (line : List ℕ) (rest : List (List ℕ)) → (length line == 0) ≡ true
+    → filter is_filled (line ∷ []) ++ rest ≡ rest
+empty_line [] rest h = refl
+empty_line (b ∷ line) rest h =
+    let bad = eqb-true (length (b ∷ line)) 0 h in absurd (omega (arith, bad))
 
 -- the next record's fault is the first
 pub faulty : {table : TableId} {most from : ℕ} {before : List (List Value)} {all : List (List ℕ)}
-    {count : ℕ} {columns : List RawColumn} {old new : Reader (Bor (List ℕ))}
-    {pieces : List (List ℕ)} {f : ReadFault}
-    → (h : HasReadRecords table most from before all count columns old)
-    → (next : TakesFirst h.lines pieces new) → count < most
-    → record_fault (map raw_kind columns) (count + 1) (fields_of next.line) ≡ Some f
+    {count : ℕ} {columns : List RawColumn} {line : List ℕ} {others : List (List ℕ)} {f : ReadFault}
+    → HasAdded table most from before all (line ∷ others) count columns → count < most
+    → record_fault (map raw_kind columns) (count + 1) (fields_of line) ≡ Some f
     → records_fault table most (from + 1) all ≡ Some f
 unfolding first_answer
-faulty {table} {most} {from} {before} {all} {count} {columns} {old} {new} {pieces} {f} h next within
-    e =
+faulty {table} {most} {from} {before} {all} {count} {columns} {line} {others} {f} h within e =
     let room = le-ltb most (count + 1) (omega arith) in
-    let here : record_fault (kinds_of table) (count + 1) (fields_of next.line) ≡ Some f =
+    let here : record_fault (kinds_of table) (count + 1) (fields_of line) ≡ Some f =
     rw h.rows.of_table.kinds at e in
-    h.no_fault ∙ rw (next.was, room, here) refl
+    h.no_fault ∙ rw (room, here) refl
 
 -- the row of one more record
 pub row_on : {table : TableId} {from : ℕ} {before : List (List Value)}
@@ -107,43 +113,48 @@ row_on {table} {from} {before} {all} {others} {line} {count} {columns} {later} w
 
 -- the next record has no fault
 pub more : {table : TableId} {most from : ℕ} {before : List (List Value)} {all : List (List ℕ)}
-    {count : ℕ} {columns later : List RawColumn} {old new : Reader (Bor (List ℕ))}
-    {pieces : List (List ℕ)}
-    → (h : HasReadRecords table most from before all count columns old)
-    → (next : TakesFirst h.lines pieces new)
-    → count < most → AddsRecord (count + 1) (fields_of next.line) columns later
-    → HasReadRecords table most from before all (count + 1) later new
+    {count : ℕ} {columns later : List RawColumn} {line : List ℕ} {others : List (List ℕ)}
+    → HasAdded table most from before all (line ∷ others) count columns → count < most
+    → AddsRecord (count + 1) (fields_of line) columns later
+    → HasAdded table most from before all others (count + 1) later
 unfolding first_answer
-more {table} {most} {from} {before} {all} {count} {columns} {later} {old} {new} {pieces} h next
-    within adds =
+more {table} {most} {from} {before} {all} {count} {columns} {later} {line} {others} h within adds =
     let room = le-ltb most (count + 1) (omega arith) in
-    let here : record_fault (kinds_of table) (count + 1) (fields_of next.line) ≡ None =
+    let here : record_fault (kinds_of table) (count + 1) (fields_of line) ≡ None =
     rw h.rows.of_table.kinds at adds.no_fault in
     record {
-      lines = next.others;
-      left = next.rest;
-      no_fault = h.no_fault ∙ rw (next.was, room, here) refl;
-      rows = row_on (rw next.was at h.rows) adds;
+      few = omega (arith, within);
+      no_fault = h.no_fault ∙ rw (room, here) refl;
+      rows = row_on h.rows adds;
     }
 
 -- there is no other record
 pub whole : {table : TableId} {most from : ℕ} {before : List (List Value)} {all : List (List ℕ)}
-    {count : ℕ} {columns : List RawColumn} {reader : Reader (Bor (List ℕ))}
-    → (h : HasReadRecords table most from before all count columns reader) → h.lines ≡ []
+    {count : ℕ} {columns : List RawColumn} → HasAdded table most from before all [] count columns
     → (records_fault table most (from + 1) all ≡ None)
     × HasRows table from before all [] count columns
 unfolding first_answer
-whole {table} {most} {from} {before} {all} {count} {columns} {reader} h none =
-    (h.no_fault ∙ rw none refl, rw none at h.rows)
+whole {table} {most} {from} {before} {all} {count} {columns} h = (h.no_fault, h.rows)
 
 -- one record is too many
 pub too_many : {table : TableId} {most from : ℕ} {before : List (List Value)}
-    {all : List (List ℕ)} {count : ℕ} {columns : List RawColumn}
-    {old new : Reader (Bor (List ℕ))} {pieces : List (List ℕ)}
-    → (h : HasReadRecords table most from before all count columns old)
-    → TakesFirst h.lines pieces new
+    {all : List (List ℕ)} {count : ℕ} {columns : List RawColumn} {line : List ℕ}
+    {others : List (List ℕ)} → HasAdded table most from before all (line ∷ others) count columns
     → most ≤ count → records_fault table most (from + 1) all ≡ Some fault.TooManyRows
 unfolding first_answer
-too_many {table} {most} {from} {before} {all} {count} {columns} {old} {new} {pieces} h next full =
+too_many {table} {most} {from} {before} {all} {count} h full =
     let over = lt-ltb most (count + 1) (omega arith) in
-    h.no_fault ∙ rw (next.was, over) refl
+    h.no_fault ∙ rw over refl
+
+-- the lines with a byte, from a line on
+pub lines_from : (line : List ℕ) (later rest : List (List ℕ))
+    → filter is_filled (line ∷ later) ++ rest
+    ≡ filter is_filled (line ∷ []) ++ (filter is_filled later ++ rest)
+lines_from line later rest = elim (cases_Bool (is_filled line))
+    [ inl some ↦ rw some refl | inr none ↦ rw none refl ]
+
+-- what follows of a result
+pub matched : {T F : Type 0} (P R : T → Type 0) (Q : F → Type 0) (result : Result T F)
+    → ((x : T) → P x → R x) → MatchResult result P Q → MatchResult result R Q
+matched P R Q (Ok x) follows h = follows x h
+matched P R Q (Err e) follows h = h

@@ -49,8 +49,7 @@ fn ends_at(text: &[u8], place: usize) -> bool
 }
 
 // The first field of a text without a sign, if it is 1 to 18 digits, read with a test of the text's
-// length at each. Apart from `magnitude_front`, which stays short so.
-#[cold]
+// length at each.
 fn long_front(text: &[u8]) -> Option<Digits>
     ensures { MatchOption result
         ((count : ℕ) → IsFront text.now count → is_numeral 18 (take count text.now) ≡ false)
@@ -76,43 +75,56 @@ fn digit_of(byte: u8) -> u64
     u64::from(byte).wrapping_sub(48)
 }
 
-// The first field of a text without a sign, if it is 1 to 8 digits, has a bar after it, and the
-// text has nine bytes. There may be a number where it tells none.
+// The first field of a text, if it is 1 to 8 digits, has a bar after it, and the text has nine
+// bytes; else no digits. There may be a number where it finds none.
 #[inline(always)]
-fn short_front(text: &[u8]) -> Option<Digits>
-    ensures { IfSome result
-        (λ run. IsFront text.now run.count × (is_numeral 18 (take run.count text.now) ≡ true)
-        × (run.value ≡ digits_value 10 (take run.count text.now)) × (run.value < 10 ^ 18)) }
+fn short_front(text: &[u8]) -> Digits
+    ensures { 0 < result.count → IsFront text.now result.count
+        × (is_numeral 18 (take result.count text.now) ≡ true)
+        × (result.value ≡ digits_value 10 (take result.count text.now)) × (result.value < 10 ^ 18) }
 {
     if text.len() < 9 {
-        return None;
+        return Digits { value: 0, count: 0 };
     }
     let mut value = 0u64;
     for count in 0..9 {
         let byte = text[count];
         let digit = digit_of(byte);
         if digit > 9 {
-            if count == 0 || byte != b'|' {
-                return None;
+            if byte != b'|' {
+                return Digits { value: 0, count: 0 };
             }
-            return Some(Digits { value, count });
+            return Digits { value, count };
         }
         value = value * 10 + digit;
     }
-    None
+    Digits { value: 0, count: 0 }
 }
 
-// The first field of a text without a sign, if it is 1 to 18 digits.
-#[inline(always)]
-fn magnitude_front(text: &[u8]) -> Option<Digits>
+// The first field of a text, if it is a number. Apart from `number_front`, which stays short so.
+#[cold]
+fn long_number(text: &[u8]) -> Option<Number>
     ensures { MatchOption result
-        ((count : ℕ) → IsFront text.now count → is_numeral 18 (take count text.now) ≡ false)
-        (λ run. IsFront text.now run.count × (is_numeral 18 (take run.count text.now) ≡ true)
-        × (run.value ≡ digits_value 10 (take run.count text.now)) × (run.value < 10 ^ 18)) }
+        ((count : ℕ) → IsFront text.now count → spec.is_number (take count text.now) ≡ false)
+        (λ number. IsFront text.now number.count
+        × (spec.is_number (take number.count text.now) ≡ true)
+        × (number.value ≡ spec.number_of (take number.count text.now))) }
 {
-    match short_front(text) {
-        Some(short) => Some(short),
-        None => long_front(text),
+    match text {
+        [b'-', unsigned @ ..] => {
+            let run = long_front(unsigned)?;
+            Some(Number {
+                value: -(run.value as i64),
+                count: run.count + 1,
+            })
+        }
+        _ => {
+            let run = long_front(text)?;
+            Some(Number {
+                value: run.value as i64,
+                count: run.count,
+            })
+        }
     }
 }
 
@@ -125,22 +137,14 @@ pub(crate) fn number_front(text: &[u8]) -> Option<Number>
         × (spec.is_number (take number.count text.now) ≡ true)
         × (number.value ≡ spec.number_of (take number.count text.now))) }
 {
-    match text {
-        [b'-', unsigned @ ..] => {
-            let run = magnitude_front(unsigned)?;
-            Some(Number {
-                value: -(run.value as i64),
-                count: run.count + 1,
-            })
-        }
-        _ => {
-            let run = magnitude_front(text)?;
-            Some(Number {
-                value: run.value as i64,
-                count: run.count,
-            })
-        }
+    let short = short_front(text);
+    if short.count > 0 {
+        return Some(Number {
+            value: short.value as i64,
+            count: short.count,
+        });
     }
+    long_number(text)
 }
 
 /// How many bytes the first field of a text has, if these are at most 255 and printable.

@@ -1,19 +1,19 @@
-// The line of one record.
+// One line of a table.
 
-ghost use Rattle.std.specs.Prelude.{◌≡◌, ◌≢◌, ◌≤◌, ℕ, List, None, Some, IfOk, MatchBool, MatchResult, drop, length, map};
+ghost use Rattle.std.specs.Prelude.{◌≡◌, ◌≢◌, ◌≤◌, ◌+◌, ◌++◌, ◌∷◌, ℕ, List, [], None, Some, IfOk, MatchBool, MatchResult, drop, filter, length, map};
 ghost use Rattle.star_common.specs.Memory.{UnlessMemory};
 ghost use Rattle.csv.specs.Records.{fields_of as fields_read};
-ghost use Rattle.star_schema.specs.Records.{fields_of};
+ghost use Rattle.star_schema.specs.Records.{fields_of, is_filled};
+ghost use Rattle.star_schema.specs.Tables.{Value};
+ghost use Rattle.star_schema.specs.declared.table.TableId.{TableId};
 ghost use Rattle.star_reader.specs.Columns.{raw_kind};
-ghost use Rattle.star_reader.specs.Faults.{record_fault};
-ghost use Rattle.star_reader.specs.Private.Fronts.{behind_zeros};
-ghost use Rattle.star_reader.specs.Private.Zeros.{pieces_between_zeros};
-ghost use Rattle.star_reader.specs.Private.Steps.{AddsRecord};
+ghost use Rattle.star_reader.specs.Faults.{record_fault, records_fault};
+ghost use Rattle.star_reader.specs.Private.Steps.{AddsRecord, HasAdded};
 
 use crate::column::RawColumn;
 use crate::fault::ReadFault;
 use crate::front::front_len;
-use crate::record::{field_at, push_record};
+use crate::record::push_record;
 use csv::ByteRecord;
 use std::alloc::{AllocError, Global};
 
@@ -86,9 +86,9 @@ fn line_fault(alloc: Global, columns: &mut [RawColumn], at_row: u32, line: &[u8]
     }
 }
 
-/// Adds the values of a line to the columns of its table. After a fault the columns may differ in
-/// length.
-pub(crate) fn add_line(
+// Adds the values of a line to the columns of its table. After a fault the columns may differ in
+// length.
+fn add_line(
     alloc: Global,
     columns: &mut [RawColumn],
     at_row: u32,
@@ -107,56 +107,29 @@ pub(crate) fn add_line(
     }
 }
 
-// The pieces of a line, each after a zero.
-#[cold]
-fn joined(alloc: Global, pieces: &ByteRecord) -> Result<Vec<u8>, AllocError>
-    ensures { IfOk result (λ line. line.items ≡ behind_zeros (fields_read pieces.now)) }
-{
-    let mut line = Vec::new(alloc);
-    for place in 0..pieces.len() {
-        match field_at(pieces, place) {
-            Some(piece) => {
-                line.push(0)?;
-                line.extend_from_slice(piece)?;
-            }
-            None => unreachable!(),
-        }
-    }
-    Ok(line)
-}
-
-// The bytes after the first one.
-fn behind_first(bytes: &[u8]) -> &[u8]
-    ensures { result.now ≡ drop 1 bytes.now }
-{
-    match bytes {
-        [_, rest @ ..] => rest,
-        [] => bytes,
-    }
-}
-
-/// Adds the values of a record to the columns of its table. It comes as the pieces of its line
-/// between zeros, which is one piece wherever each cell is printable. After a fault the columns may
-/// differ in length.
-pub(crate) fn add_record(
+/// Adds the row of a line to the columns of its table, which have `start` rows, if the line has a
+/// byte. Returns how many rows there are then.
+pub(crate) fn add_row(
     alloc: Global,
     columns: &mut [RawColumn],
-    at_row: u32,
-    pieces: &ByteRecord,
-) -> Result<(), ReadFault>
+    line: &[u8],
+    start: u32,
+    most: u32,
+) -> Result<u32, ReadFault>
     requires { length columns.old ≤ 17 }
-    ensures { (line : List ℕ) → fields_read pieces.now ≡ pieces_between_zeros line → MatchResult result
-        (λ _. AddsRecord at_row (fields_of line) columns.old columns.new)
+    ensures { (table : TableId) (from : ℕ) (before : List (List Value)) (all rest : List (List ℕ))
+        → HasAdded table most from before all (filter is_filled (line.now ∷ []) ++ rest) start
+        columns.old → MatchResult result
+        (λ rows. HasAdded table most from before all rest rows columns.new)
         (λ fault. UnlessMemory ReadFault.OutOfMemory fault
-        (record_fault (map raw_kind columns.old) at_row (fields_of line) ≡ Some fault)) }
+        (records_fault table most (from + 1) all ≡ Some fault)) }
 {
-    if pieces.len() == 1 {
-        match field_at(pieces, 0) {
-            Some(line) => add_line(alloc, columns, at_row, line),
-            None => unreachable!(),
-        }
-    } else {
-        let line = joined(alloc, pieces)?;
-        add_line(alloc, columns, at_row, behind_first(line.as_slice()))
+    if line.is_empty() {
+        return Ok(start);
     }
+    if start >= most {
+        return Err(ReadFault::TooManyRows);
+    }
+    add_line(alloc, columns, start + 1, line)?;
+    Ok(start + 1)
 }

@@ -17,7 +17,7 @@ ghost use Rattle.star_reader.specs.Private.Steps.{HasRows};
 use crate::column::RawColumn;
 use crate::cut::lines_of;
 use crate::fault::ReadFault;
-use crate::line::add_line;
+use crate::line::add_row;
 use crate::open_line::OpenLine;
 use crate::records::read_lines;
 use std::alloc::{AllocError, Global};
@@ -31,34 +31,6 @@ pub(crate) struct Progress {
     rows: u32,
     line: OpenLine,
     is_start: bool,
-}
-
-// Adds the row of a line to the columns of a table with `rows` rows, if the line has a byte, and
-// says how many rows there are then. After a fault the columns may differ in length.
-fn add_open(
-    alloc: Global,
-    columns: &mut [RawColumn],
-    line: &[u8],
-    start: u32,
-    most: u32,
-) -> Result<u32, ReadFault>
-    requires few { length columns.old ≤ 17 }
-    ensures { (table : TableId) → AreColumnsOf table start columns.old → start ≤ most
-        → MatchResult result
-        (λ rows. (records_fault table most (start + 1) (filter is_filled (line.now ∷ [])) ≡ None)
-        × HasRows table start (first_rows start (map values columns.old))
-        (filter is_filled (line.now ∷ [])) [] rows columns.new)
-        (λ fault. UnlessMemory ReadFault.OutOfMemory fault
-        (records_fault table most (start + 1) (filter is_filled (line.now ∷ [])) ≡ Some fault)) }
-{
-    if line.is_empty() {
-        return Ok(start);
-    }
-    if start >= most {
-        return Err(ReadFault::TooManyRows);
-    }
-    add_line(alloc, columns, start + 1, line)?;
-    Ok(start + 1)
 }
 
 impl Progress {
@@ -110,7 +82,7 @@ impl Progress {
         if self.is_marked() {
             return Err(ReadFault::ByteOrderMark);
         }
-        let rows = add_open(alloc, columns, self.line.bytes(), self.rows, most)?;
+        let rows = add_row(alloc, columns, self.line.bytes(), self.rows, most)?;
         self.rows = rows;
         self.is_start = false;
         self.line.clear();

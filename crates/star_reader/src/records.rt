@@ -1,50 +1,78 @@
 // The records of lines that have ended.
 
-ghost use Rattle.std.specs.Prelude.{◌≡◌, ◌≤◌, ◌+◌, ℕ, List, [], None, Some, MatchResult, length, map};
+ghost use Rattle.std.specs.Prelude.{◌≡◌, ◌≤◌, ◌+◌, ◌++◌, ℕ, List, [], None, Some, MatchResult, filter, length, map};
 ghost use Rattle.star_common.specs.Memory.{UnlessMemory};
-ghost use Rattle.star_schema.specs.Records.{records_of};
+ghost use Rattle.csv.specs.Records.{fields_of as fields_read};
+ghost use Rattle.star_schema.specs.Records.{is_filled, records_of};
+ghost use Rattle.star_schema.specs.Tables.{Value};
 ghost use Rattle.star_schema.specs.declared.table.TableId.{TableId};
 ghost use Rattle.star_reader.specs.Columns.{AreColumnsOf, first_rows, values};
 ghost use Rattle.star_reader.specs.Faults.{records_fault};
 ghost use Rattle.star_reader.specs.Private.Cut.{IsBegun};
 ghost use Rattle.star_reader.specs.Private.Lines.{HasLeft};
-ghost use Rattle.star_reader.specs.Private.Steps.{HasRows};
+ghost use Rattle.star_reader.specs.Private.Steps.{HasAdded, HasRows};
 
 use crate::column::RawColumn;
 use crate::fault::ReadFault;
-use crate::line::add_record;
+use crate::line::add_row;
 use crate::lines::{read_next, records_reader};
+use crate::record::field_at;
 use csv::{ByteRecord, Reader};
 use std::alloc::Global;
 
-// Adds the values of all records that are left to the columns of a table with `rows` rows, and says
-// how many rows there are then. After a fault the columns may differ in length.
-fn read_records(
+// Adds the rows of some lines, of which each may be empty, to the columns of a table with `start`
+// rows. Returns how many rows there are then. After a fault the columns may differ in length.
+fn add_lines(
     alloc: Global,
-    reader: &mut Reader<&[u8]>,
-    line: &mut ByteRecord,
+    lines: &ByteRecord,
     columns: &mut [RawColumn],
     start: u32,
     most: u32,
 ) -> Result<u32, ReadFault>
     requires { length columns.old ≤ 17 }
-    ensures { (table : TableId) (lines : List (List ℕ)) → HasLeft reader.old lines
-        → AreColumnsOf table start columns.old → start ≤ most → MatchResult result
-        (λ rows. (records_fault table most (start + 1) lines ≡ None)
-        × HasRows table start (first_rows start (map values columns.old)) lines [] rows columns.new)
+    ensures { (table : TableId) (from : ℕ) (before : List (List Value)) (all rest : List (List ℕ))
+        → HasAdded table most from before all (filter is_filled (fields_read lines.now) ++ rest) start
+        columns.old → MatchResult result
+        (λ rows. HasAdded table most from before all rest rows columns.new)
         (λ fault. UnlessMemory ReadFault.OutOfMemory fault
-        (records_fault table most (start + 1) lines ≡ Some fault)) }
+        (records_fault table most (from + 1) all ≡ Some fault)) }
 {
-    for rows in start..most {
-        if !read_next(reader, line)? {
+    let mut rows = start;
+    for place in 0..lines.len() {
+        match field_at(lines, place) {
+            Some(line) => rows = add_row(alloc, columns, line, rows, most)?,
+            None => unreachable!(),
+        }
+    }
+    Ok(rows)
+}
+
+// Adds the rows of all records that are left, and returns how many rows there are then. After a
+// fault the columns may differ in length.
+fn read_records(
+    alloc: Global,
+    reader: &mut Reader<&[u8]>,
+    lines: &mut ByteRecord,
+    columns: &mut [RawColumn],
+    start: u32,
+    most: u32,
+) -> Result<u32, ReadFault>
+    requires { length columns.old ≤ 17 }
+    ensures { (table : TableId) (before : List (List Value)) (all left : List (List ℕ))
+        → HasLeft reader.old left → HasAdded table most start before all left start columns.old
+        → MatchResult result
+        (λ rows. HasAdded table most start before all [] rows columns.new)
+        (λ fault. UnlessMemory ReadFault.OutOfMemory fault
+        (records_fault table most (start + 1) all ≡ Some fault)) }
+{
+    let mut rows = start;
+    for _ in 0..u64::MAX {
+        if !read_next(reader, lines)? {
             return Ok(rows);
         }
-        add_record(alloc, columns, rows + 1, line)?;
+        rows = add_lines(alloc, lines, columns, rows, most)?;
     }
-    if read_next(reader, line)? {
-        return Err(ReadFault::TooManyRows);
-    }
-    Ok(most)
+    Err(ReadFault::OutOfMemory)
 }
 
 // The lines begin with a line end since `csv` takes a byte order mark off the front of what it
@@ -68,7 +96,7 @@ pub(crate) fn read_lines(
         (λ fault. UnlessMemory ReadFault.OutOfMemory fault
         (records_fault table most (start + 1) (records_of lines.now) ≡ Some fault)) }
 {
-    let mut reader = records_reader(alloc, lines);
-    let mut line = ByteRecord::new(alloc);
-    read_records(alloc, &mut reader, &mut line, columns, start, most)
+    let mut reader = records_reader(alloc, lines)?;
+    let mut some = ByteRecord::with_capacity(alloc, lines.len(), lines.len() / 64)?;
+    read_records(alloc, &mut reader, &mut some, columns, start, most)
 }

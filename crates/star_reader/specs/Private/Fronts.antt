@@ -28,8 +28,3 @@ pub record AreDigits (text : List ℕ) (count value : ℕ) : Type 0 where
 -- the fields of a line from a place on: none where the place lies behind its end
 abbrev pub left_of : List ℕ → ℕ → List (List ℕ)
 left_of line at = if nat_le at (length line) then fields_of (drop at line) else []
-
--- some pieces, each behind a zero
-unfoldable pub behind_zeros : List (List ℕ) → List ℕ
-behind_zeros [] = []
-behind_zeros (piece ∷ later) = 0 ∷ (piece ++ behind_zeros later)

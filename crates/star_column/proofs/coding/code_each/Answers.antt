@@ -4,8 +4,8 @@ use Rattle.star_column.proofs.coding.code_each.Goals as goal
 pub returns-clause-texts : goal.returns-clause-texts
 returns-clause-texts c =
     rw (
-      c.of_ordered.ensures,
-      c.in_ok-each.ensures,
+      c.of_ordered-dictionary.ensures,
+      c.in_ok-each.ensures.numbers,
       c.as_slice.ensures.value,
       ← c.parts.ensures.texts,
     )
@@ -14,6 +14,10 @@ returns-clause-texts c =
 
 pub returns-clause-repeated : goal.returns-clause-repeated
 returns-clause-repeated c =
-    rw (c.of_ordered.ensures, c.in_ok-each.ensures, c.as_slice.ensures.value)
+    rw (c.of_ordered-dictionary.ensures, c.in_ok-each.ensures.numbers, c.as_slice.ensures.value)
     (places_coded _ _ _ _ c.parts.ensures.repeated c.in_ok-different.ensures.repeated
     c.in_ok-different.ensures.texts)
+
+pub returns-clause-sorted : goal.returns-clause-sorted
+returns-clause-sorted c =
+    rw c.of_ordered-dictionary.ensures c.in_ok-different.ensures.sorted

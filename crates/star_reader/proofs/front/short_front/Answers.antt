@@ -38,7 +38,8 @@ loop-count-preserved c =
     }
 
 pub returns-then-digit-gt9 : goal.returns-then-digit-gt9
-returns-then-digit-gt9 c =
-    bar_front c.args.text.now c.loop-count.count c.loop-count.value (omega arith) (omega arith)
+returns-then-digit-gt9 c = λ some.
+    bar_front c.args.text.now c.loop-count.count c.loop-count.value (omega (arith, some))
+    (omega arith)
     (omega arith) c.loop-count.invariant.digits c.loop-count.invariant.writes
     c.loop-count.invariant.small (omega arith)

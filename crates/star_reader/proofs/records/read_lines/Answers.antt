@@ -1,12 +1,18 @@
+use Rattle.std.proofs.Common.{MatchResult, map, inl, inr}
 use Rattle.star_schema.specs.Records.{records_of}
+use Rattle.star_reader.specs.Columns.{first_rows, values}
 use Rattle.star_reader.specs.Private.Lines.{HasLeft}
 use Rattle.star_reader.proofs.Cuts.{begun_plain}
-use Rattle.star_reader.proofs.TableSteps.{no_mark}
+use Rattle.star_reader.proofs.TableSteps.{matched, no_mark, start, whole}
 use Rattle.star_reader.proofs.records.read_lines.Goals as goal
 
 pub returns : goal.returns
 returns c = λ table begun full within.
-    let left : HasLeft c.records_reader-reader.result (records_of c.args.lines.now) =
+    let left : HasLeft c.in_ok-reader.reader (records_of c.args.lines.now) =
     rw (no_mark c.args.lines.now (begun_plain c.args.lines.now begun))
-    at c.records_reader-reader.ensures in
-    c.read_records.ensures table (records_of c.args.lines.now) left full within
+    at c.in_ok-reader.ensures in
+    matched _ _ _ c.read_records.result (λ rows h. whole h)
+    (c.read_records.ensures table (first_rows c.args.start (map values c.args.columns.now))
+    (records_of c.args.lines.now) (records_of c.args.lines.now) left
+    (start table c.args.most c.args.start (records_of c.args.lines.now) c.args.columns.now full
+    within))

@@ -1,14 +1,15 @@
-use Rattle.std.proofs.Common.{◌≤◌, ℕ, List, map}
+-- The rows so far, and the records that the reader has left.
+use Rattle.std.proofs.Common.{ℕ, List}
 use Rattle.star_schema.specs.declared.table.TableId.{TableId}
-use Rattle.star_reader.specs.Columns.{AreColumnsOf, first_rows, values}
+use Rattle.star_schema.specs.Tables.{Value}
 use Rattle.star_reader.specs.Private.Lines.{HasLeft}
-use Rattle.star_reader.specs.Private.Steps.{HasReadRecords}
+use Rattle.star_reader.specs.Private.Steps.{HasAdded}
 use Rattle.star_reader.proofs.records.read_records.Given as goal
 
-abbrev pub invariant-loop-rows : goal.invariant-loop-rows
-invariant-loop-rows l =
-    (table : TableId) (lines : List (List ℕ)) → HasLeft l.fn.reader lines
-    → AreColumnsOf table l.start l.fn.columns → l.start ≤ l.most
-    → HasReadRecords table l.most l.start (first_rows l.start (map values l.fn.columns)) lines
-    l.rows
-    l.columns l.reader
+abbrev pub invariant-loop : goal.invariant-loop
+invariant-loop l =
+    (table : TableId) (before : List (List Value)) (all left : List (List ℕ))
+    → HasLeft l.fn.reader left
+    → HasAdded table l.most l.start before all left l.start l.fn.columns
+    → (lines : List (List ℕ)) × HasLeft l.reader lines
+    × HasAdded table l.most l.start before all lines l.rows l.columns

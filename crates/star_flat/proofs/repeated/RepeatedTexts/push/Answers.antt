@@ -7,16 +7,20 @@ pub invariant_of-self : goal.invariant_of-self
 invariant_of-self c =
     let ts = c.self.inside.kept in
     let ps = places_in c.self.inside.rows in
+    let there = c.in-Some.ensures ts c.self.invariant.1 in
     either c.push_place.result c.push_place.ensures.ok c.push_place.ensures.err
-    (λ pushed. rw pushed
-    (again ts ps c.self.invariant c.in-Some.place c.args.text.now c.in-Some.ensures))
-    (λ same. rw same c.self.invariant)
+    (λ pushed. (
+      rw pushed (again ts ps c.self.invariant.0 c.in-Some.place c.args.text.now there),
+      c.self.invariant.1,
+    ))
+    (λ same. (rw same c.self.invariant.0, c.self.invariant.1))
 
 pub returns-in-Some-clause-ok : goal.returns-in-Some-clause-ok
 returns-in-Some-clause-ok c =
     let ts = c.self.inside.kept in
     let ps = places_in c.self.inside.rows in
+    let there = c.in-Some.ensures ts c.self.invariant.1 in
     on_ok c.push_place.result c.push_place.ensures.ok
     (λ pushed. ap (texts_at_places ts) pushed
-    ∙ text_again ts ps c.self.invariant c.in-Some.place c.args.text.now c.in-Some.ensures
+    ∙ text_again ts ps c.self.invariant.0 c.in-Some.place c.args.text.now there
     ∙ ap (λ all. all ++ c.args.text.now ∷ []) c.self.view_is)

@@ -1,26 +1,26 @@
-use Rattle.std.proofs.Common.{◌≡◌, ◌++◌, ◌∷◌, [], ap, ◌∙◌}
+use Rattle.std.proofs.Common.{◌++◌, ◌∷◌, [], ap, ◌∙◌}
 use Rattle.star_flat.specs.Repeated.{places_in, texts_at_places}
-use Rattle.star_flat.proofs.RepeatedLemmas.{anew, either_of_two, on_two, text_anew}
+use Rattle.star_flat.proofs.RepeatedLemmas.{again, either, on_ok, text_again}
 use Rattle.star_flat.proofs.repeated.RepeatedTexts.push_other.Goals as goal
-use Rattle.star_flat.proofs.repeated.RepeatedTexts.push_other.Goals.{then-len-self+in_ok-compact, else-len-self}
 
 pub invariant_of-self : goal.invariant_of-self
 invariant_of-self c =
-    let ts = c.self-2.inside.kept in
-    let ps = places_in c.self-2.inside.rows in
-    either_of_two c.keep.result c.keep.ensures.kept c.keep.ensures.rows c.keep.ensures.err
-    (λ kept rows. rw (kept, rows) (anew ts ps c.self-2.invariant c.args.text.now))
-    (λ same. rw (same.0, same.1) c.self-2.invariant)
+    let ts = c.self.inside.kept in
+    let ps = places_in c.self.inside.rows in
+    let met = c.remember.ensures ts c.self.invariant.1 c.in-Some.ensures in
+    either c.push_place.result c.push_place.ensures.ok c.push_place.ensures.err
+    (λ pushed. (
+      rw pushed
+          (again ts ps c.self.invariant.0 c.in-Some.place c.args.text.now c.in-Some.ensures),
+      met,
+    ))
+    (λ same. (rw same c.self.invariant.0, met))
 
-pub returns-clause-ok : goal.returns-clause-ok
-returns-clause-ok c =
-    let ts = c.self-2.inside.kept in
-    let ps = places_in c.self-2.inside.rows in
-    let same : c.if-len-self.self ≡ c.args.self.now = elim c.if-len-self.branch [
-      | then-len-self+in_ok-compact w ↦ rw w.self-is w.compact.ensures
-      | else-len-self w ↦ w.self-is
-    ] in
-    on_two c.keep.result c.keep.ensures.kept c.keep.ensures.rows
-    (λ kept rows. (λ i. texts_at_places (kept i) (rows i))
-    ∙ text_anew ts ps c.self-2.invariant c.args.text.now
-    ∙ ap (λ all. all ++ c.args.text.now ∷ []) (c.self-2.view_is ∙ same))
+pub returns-in-Some-clause-ok : goal.returns-in-Some-clause-ok
+returns-in-Some-clause-ok c =
+    let ts = c.self.inside.kept in
+    let ps = places_in c.self.inside.rows in
+    on_ok c.push_place.result c.push_place.ensures.ok
+    (λ pushed. ap (texts_at_places ts) pushed
+    ∙ text_again ts ps c.self.invariant.0 c.in-Some.place c.args.text.now c.in-Some.ensures
+    ∙ ap (λ all. all ++ c.args.text.now ∷ []) c.self.view_is)

@@ -1,9 +1,0 @@
-use Rattle.std.proofs.Common.{◌≡◌, length, map, take, vec_len, vec_capacity}
-use Rattle.star_column.proofs.words.narrow.Given as goal
-
-abbrev pub invariant-loop-number : goal.invariant-loop-number
-invariant-loop-number g l = record {
-  values : map g.W.Word.number l.words.items ≡ take l.number-index l.numbers;
-  pushed : vec_len l.words ≡ l.number-index;
-  room : vec_capacity l.words ≡ length l.numbers;
-}
