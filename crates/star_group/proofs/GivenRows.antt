@@ -1,11 +1,9 @@
 -- The rows that a store gives, one after another.
-use Rattle.std.proofs.Common.{◌≡◌, ℕ, suc, ◌+◌, ◌<◌, ◌≤◌, Bool, true, false, ℤ, List, [], ◌∷◌, ◌++◌, Option, Some, None, cond, length, get_or, slice_get, map, take, ap, sym, ◌∙◌, refl, arith, append-nil, append_assoc, true≢false}
+use Rattle.std.proofs.Common.{◌≡◌, ℕ, suc, ◌+◌, ◌<◌, ◌≤◌, Bool, true, false, ℤ, List, [], ◌∷◌, ◌++◌, Option, Some, None, cond, length, get_or, map, take, ap, sym, ◌∙◌, refl, arith, append-nil, append_assoc, true≢false}
 use Rattle.std.specs.List.{filter}
 use Rattle.std.specs.Prelude.{IsSome}
-use Rattle.std.proofs.Math.Seq.{take-suc}
 use Rattle.std.proofs.lemmas.List.{map-append}
 use Rattle.std.proofs.lemmas.List.Elements.{filter-append}
-use Rattle.std.proofs.lemmas.Option.{get_or_from_slice_get, slice_get_within}
 use Rattle.star_schema.specs.declared.group.Aggregate.{Aggregate}
 use Rattle.star_schema.specs.declared.group.Aggregate.TheVariants.{Count, Sum, Min, Max}
 use Rattle.star_schema.specs.declared.group.Shape.{Shape}
@@ -59,28 +57,21 @@ module _ (shape : Shape) (count : ℕ) (gs : List Aggregate) (total : List (Opti
   unfolding rows_given
   given_none = append-nil _
 
-  -- one place more gives a row, or none
-  pub given_more : (es : List (List (Option KeyValue) × List (Option ℤ))) (place : ℕ)
-      (e : List (Option KeyValue) × List (Option ℤ)) → slice_get es place ≡ Some e
-      → rows_given shape count gs total (take place es)
-      ++ if_given (is_row_key shape count e.0) count gs e
-      ≡ rows_given shape count gs total (take (place + 1) es)
+  -- one entry more gives a row, or none
+  pub given_more : (es : List (List (Option KeyValue) × List (Option ℤ)))
+      (e : List (Option KeyValue) × List (Option ℤ))
+      → rows_given shape count gs total es ++ if_given (is_row_key shape count e.0) count gs e
+      ≡ rows_given shape count gs total (es ++ e ∷ [])
   unfolding rows_given
-  given_more es place e at =
+  given_more es e =
       let P : List (Option KeyValue) × List (Option ℤ) → Bool = λ f. is_row_key shape count f.0 in
       let first : List GroupRow =
       if_given (is_grouping shape (take count (padded 6 []))) count gs (padded 6 [], total) in
-      let before : List (List (Option KeyValue) × List (Option ℤ)) = take place es in
-      let next : place + 1 ≡ suc place = omega arith in
-      let last : take (place + 1) es ≡ before ++ e ∷ [] =
-      ap (λ n. take n es) next ∙ take-suc es place e (slice_get_within es place e at)
-      ∙ ap (λ x. before ++ x ∷ []) (get_or_from_slice_get es place e e at) in
-      append_assoc first (map (row_given count gs) (filter P before)) (if_given (P e) count gs e)
+      append_assoc first (map (row_given count gs) (filter P es)) (if_given (P e) count gs e)
       ∙ ap (λ rows. first ++ rows)
-      (ap (λ rows. map (row_given count gs) (filter P before) ++ rows) (sym (by (P e)))
-      ∙ sym (map-append (row_given count gs) (filter P before) (filter P (e ∷ [])))
-      ∙ ap (map (row_given count gs))
-      (sym (filter-append P before (e ∷ [])) ∙ ap (filter P) (sym last)))
+      (ap (λ rows. map (row_given count gs) (filter P es) ++ rows) (sym (by (P e)))
+      ∙ sym (map-append (row_given count gs) (filter P es) (filter P (e ∷ [])))
+      ∙ ap (map (row_given count gs)) (sym (filter-append P es (e ∷ []))))
     where
       by : (b : Bool) → map (row_given count gs) (cond b (e ∷ []) []) ≡ if_given b count gs e
       by true = refl

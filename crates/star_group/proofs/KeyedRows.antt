@@ -140,7 +140,7 @@ others_set (k ∷ ks) (c ∷ cs) (suc n) row q apart =
     ap (cond (key_eq q (key_view (filled k))) (Some c)) (others_set ks cs n row q apart)
 
 -- one row more
-row_more : (es : List (List KeyPart × List (Option ℤ))) (k : List KeyPart) (c : List (Option ℤ))
+pub row_more : (es : List (List KeyPart × List (Option ℤ))) (k : List KeyPart) (c : List (Option ℤ))
     (q : List (Option KeyValue)) → (key_eq q (key_view k) ≡ true → row_found es q ≡ None)
     → row_found (es ++ (k, c) ∷ []) q ≡ cond (key_eq q (key_view k)) (Some c) (row_found es q)
 row_more [] k c q new = refl

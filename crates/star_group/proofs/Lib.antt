@@ -26,12 +26,9 @@ pub mod MergedRows
 pub mod AllRows
 pub mod PutsBeside
 pub mod Worked
-pub mod WorkedCells
-pub mod WorkedHeld
 pub mod SpanPlaces
 pub mod PlacedCells
 pub mod PlacedRows
+pub mod PlacedListing
 pub mod PlacedPuts
 pub mod PlacedLanes
-mod WorkedPlaces
-mod WorkedBatches

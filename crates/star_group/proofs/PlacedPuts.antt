@@ -322,33 +322,31 @@ placed_long (s ∷ ss) (k ∷ ks) p e = let parts =
     above_parts (offset_of s k) (s.last + 1) (cell_place ss ks) p e in
     ap suc (placed_long ss ks parts.2.behind parts.2.is_rest)
 
-pub batch_rows : (d : Group) (spans : List Span) (b : PutBatch) (put : ℕ → Update) (at : List ℕ)
-    → length at ≡ b.rows → AreAtPlaces spans b at put → length spans ≡ d.count
+pub batch_rows : (d : Group) (spans : List Span) (b : PutBatch) (at : List ℕ)
+    → length at ≡ b.rows → AreAtPlaces spans b at → length spans ≡ d.count
     → ((a : ℕ) → a < length d.aggregates → (row : ℕ) → row < b.rows
     → is_i64 (put_number a (put_in b row)) ≡ true)
-    → AreRowsOf d spans put at (batch_lanes b) b.rows
-batch_rows d spans b put at long are fits narrow = record {
-  places = are.keys;
-  fit = λ row h. placed_long spans (put row).keys (get_or at row 0) (are.keys row h) ∙ fits;
+    → AreRowsOf d spans (put_in b) at (batch_lanes b) b.rows
+batch_rows d spans b at long are fits narrow = record {
+  places = are;
+  fit = λ row h. placed_long spans (put_in b row).keys (get_or at row 0) (are row h) ∙ fits;
   numbers = λ a declared. record {
-    is = λ row h. lane_number (λ r. put_number a (put_in b r)) b.rows row h
-        ∙ ap (λ vs. get_or vs a (pos 0)) (sym (are.values row h));
-    narrow = λ row h. ap (λ vs. is_i64 (get_or vs a (pos 0))) (are.values row h)
-        ∙ narrow a declared row h;
+    is = λ row h. lane_number (λ r. put_number a (put_in b r)) b.rows row h;
+    narrow = narrow a declared;
   };
   long = long;
 }
 
 pub takes_batch : (shape : Shape) (count : ℕ) (gs hs : List Aggregate) (spans : List Span)
     (seen seen₀ seen' seen₁ : List Bool) (cells cells₀ cells' cells₁ : List ℤ) (b : PutBatch)
-    (u : ℕ → Update) (at : List ℕ) (es : List (List KeyPart × List (Option ℤ)))
+    (at : List ℕ) (es : List (List KeyPart × List (Option ℤ)))
     (all : List (Option ℤ)) (us : List Update)
-    → length spans ≡ count → gs ≡ hs → seen₀ ≡ seen → cells₀ ≡ cells → AreAtPlaces spans b at u
+    → length spans ≡ count → gs ≡ hs → seen₀ ≡ seen → cells₀ ≡ cells → AreAtPlaces spans b at
     → TakesBatch gs b at seen₀ cells₀ seen' cells'
     → seen₁ ≡ seen' → cells₁ ≡ cells'
     → IsPlaced (group_with shape count hs) spans seen cells es all us
-    → IsPlaced (group_with shape count hs) spans seen₁ cells₁ es all (puts_after u us b.rows)
-takes_batch shape count gs hs spans seen seen₀ seen' seen₁ cells cells₀ cells' cells₁ b u at es all
+    → IsPlaced (group_with shape count hs) spans seen₁ cells₁ es all (puts_after (put_in b) us b.rows)
+takes_batch shape count gs hs spans seen seen₀ seen' seen₁ cells cells₀ cells' cells₁ b at es all
     us fits same marks numbers are takes written filled placed =
     let d : group_with shape (length spans) gs ≡ group_with shape count hs =
     (λ i. group_with shape (fits i) (same i)) in
@@ -356,11 +354,11 @@ takes_batch shape count gs hs spans seen seen₀ seen' seen₁ cells cells₀ ce
     (sym marks)
     (subst (λ c. IsPlaced (group_with shape (length spans) gs) spans seen c es all us) (sym numbers)
     (subst (λ g. IsPlaced g spans seen cells es all us) (sym d) placed)) in
-    let more = subst (λ g. IsPlaced g spans seen' cells' es all (puts_after u us b.rows)) d
-    (takes shape spans u are es all us before) in
-    subst (λ s. IsPlaced (group_with shape count hs) spans s cells₁ es all (puts_after u us b.rows))
+    let more = subst (λ g. IsPlaced g spans seen' cells' es all (puts_after (put_in b) us b.rows)) d
+    (takes shape spans are es all us before) in
+    subst (λ s. IsPlaced (group_with shape count hs) spans s cells₁ es all (puts_after (put_in b) us b.rows))
     (sym written)
-    (subst (λ c. IsPlaced (group_with shape count hs) spans seen' c es all (puts_after u us b.rows))
+    (subst (λ c. IsPlaced (group_with shape count hs) spans seen' c es all (puts_after (put_in b) us b.rows))
     (sym filled) more)
 
 -- there is room where some rows, or none, were put

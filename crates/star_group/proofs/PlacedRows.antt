@@ -36,7 +36,7 @@ use Rattle.star_group.proofs.SpanPlaces.{within}
 
 -- ---- the puts without a place, and those at the first places
 
-abbrev below_place : ℕ → Option ℕ → Bool
+abbrev pub below_place : ℕ → Option ℕ → Bool
 below_place n None = true
 below_place n (Some p) = nat_lt p n
 

@@ -162,11 +162,11 @@ places_more (t ∷ ss) s =
     ap (λ n. (t.last + 1) * n) (places_more ss s)
     ∙ sym (mul_assoc (t.last + 1) (places ss) (s.last + 1))
 
-pub room_left : (count size left : ℕ) → count * left ≤ 65536
-    → (count * size) * (left / size) ≤ 65536
-room_left count size left room =
-    let most = mul-le-mul_left count (mul-div-le left size) in
-    omega (arith, mul_assoc count size (left / size), most, room)
+pub room_left : (count size left most : ℕ) → count * left ≤ most
+    → (count * size) * (left / size) ≤ most
+room_left count size left most room =
+    let fewer = mul-le-mul_left count (mul-div-le left size) in
+    omega (arith, mul_assoc count size (left / size), fewer, room)
 
 -- ---- the places of a batch
 
@@ -182,7 +182,7 @@ places_from ss i s h is = ap places (drop-cons ss i s h ∙ ap (λ t. t ∷ drop
 
 -- a range is no longer than there may be places, and neither is a place in front of others
 pub few_values : (ss : List Span) (i : ℕ) (s : Span) → i < length ss → s ≡ get_or ss i s
-    → places ss ≤ 65536 → s.last < 65536
+    → places ss ≤ 2 ^ 28 → s.last < 2 ^ 28
 few_values ss i s h is few =
     let one = some_places (drop (suc i) ss) in
     let most = mul-le-mul_left (s.last + 1)
@@ -190,7 +190,7 @@ few_values ss i s h is few =
     omega (arith, most, places_from ss i s h is, fewer ss i, few)
 
 pub few_places : (ss : List Span) (i : ℕ) (s : Span) (ks : List KeyValue) (p : ℕ) → i < length ss
-    → s ≡ get_or ss i s → places ss ≤ 65536
+    → s ≡ get_or ss i s → places ss ≤ 2 ^ 28
     → cell_place (drop (suc i) ss) (drop (suc i) ks) ≡ Some p → s.last + (s.last + 1) * p < 2 ^ 32
 few_places ss i s ks p h is few e =
     let less = within (drop (suc i) ss) (drop (suc i) ks) p e in

@@ -1,124 +1,337 @@
--- A worked content: two puts with one key list, and one with another.
-use Rattle.std.proofs.Common.{◌≡◌, ◌<◌, ℕ, zero, suc, Bool, true, false, ◌||◌, ℤ, pos, List, [], ◌∷◌, Some, None, arith, refl, sym, true≢false}
-use Rattle.std.specs.List.{IsDistinct}
-use Rattle.star_schema.specs.declared.group.Aggregate.TheVariants.{Sum, Count, Min}
-use Rattle.star_schema.specs.declared.group.Shape.TheVariants.{Cube}
+-- What cells hold, which rows a put changes, the keys and places of rows, batches, and which numbers
+-- add up, by computation; and what each relation says.
+use Rattle.std.proofs.Common.{◌≡◌, ◌↔◌, ◌<◌, ◌≤◌, ◌+◌, ◌*◌, ◌^◌, ◌-◌, ◌++◌, ◌||◌, ℕ, zero, suc, Bool, true, false, true≢false, ℤ, pos, negsuc, List, [], ◌∷◌, Option, Some, None, arith, length, map, replicate, sym, slice_index_or, refl}
+use Rattle.std.specs.Prelude.{All, filter}
+use Rattle.std.specs.Borrow.{Bor}
+use Rattle.std.specs.List.{AllByRecursion, IsDistinct, list_any}
+use Rattle.star_common.proofs.Tables.{Gives, Gives2, Gives3}
+use Rattle.star_schema.specs.declared.column.ColumnId.TheVariants.{PBrand1}
+use Rattle.star_schema.specs.declared.group.Aggregate.{Aggregate}
+use Rattle.star_schema.specs.declared.group.Aggregate.TheVariants.{Sum, Count, Min, Max}
+use Rattle.star_schema.specs.declared.group.Shape.TheVariants.{Plain, Cube, Rollup}
 use Rattle.star_schema.specs.Groups.{aggregate, numbers_for}
+use Rattle.star_interval.specs.Range.{is_i128}
+use Rattle.star_program.specs.declared.group.GroupDecl.{GroupDecl}
+use Rattle.star_program.specs.declared.group.GroupKey.TheVariants as declared
 use Rattle.star_program.specs.declared.key.KeyValue.{KeyValue}
-use Rattle.star_program.specs.declared.key.KeyValue.TheVariants.{Number}
+use Rattle.star_program.specs.declared.key.KeyValue.TheVariants.{Number, Code}
+use Rattle.star_program.specs.Faults.{value_count}
 use Rattle.star_program.specs.Keys.{same_keys}
-use Rattle.std.specs.Prelude.{if◌then◌else◌}
-use Rattle.star_group.specs.Cells.{step}
-use Rattle.star_group.specs.OneMore.{group_aggregate, IsWithPut}
+use Rattle.star_program.specs.Limits.{IsSmall}
 use Rattle.star_program.specs.Puts.{Update, aggregate_at}
-use Rattle.star_group.specs.Stores.{Group, IsContent, combined, put_number, puts_of}
+use Rattle.star_group.specs.declared.batch.PutBatch.{PutBatch}
+use Rattle.star_group.specs.declared.keyed.key.KeyPart.{KeyPart}
+use Rattle.star_group.specs.declared.keyed.key.KeyPart.TheVariants as part
+use Rattle.star_group.specs.declared.placed.span.Span.{Span}
+use Rattle.star_group.specs.Base.{HasAggregates, IsBase, IsRowOver, key_value_view, puts_with, row_found}
+use Rattle.star_group.specs.Batches.{HasRoomForRows, IsKeyWord, IsPutBatch, batch_keys, key_word, put_in, puts_after, word_in}
+use Rattle.star_group.specs.ByPlace.{AreAt, IsPlaced, aggregate_cells, cell_over, neutral}
+use Rattle.star_group.specs.Cells.{held, step}
+use Rattle.star_group.specs.Held.{HoldsPuts, IsFound, IsRow, changes, has_puts, held_at, puts_at}
+use Rattle.star_group.specs.OneMore.{IsWithPut, group_aggregate}
+use Rattle.star_group.specs.OwnKeys.{is_of_put, key_eq, padded, vary}
+use Rattle.star_group.specs.Places.{IsOf, cell_place, is_at, is_outside, offset_of, places}
+use Rattle.star_group.specs.Stores.{AddUp, Group, HasRoom, IsContent, above_zero, below_zero, combined, group_declared, key_lists, put_number, puts_of}
+
+-- ---- cells: over no number, over a greater one and over a lesser one
+
+cells : Gives3 step (
+    (Sum, pos 4, None, pos 4) ∷ (Count, pos 4, None, pos 1) ∷ (Min, pos 4, None, pos 4)
+    ∷ (Max, pos 4, None, pos 4)
+    ∷ (Sum, pos 3, Some (pos 5), pos 8) ∷ (Count, pos 3, Some (pos 5), pos 6)
+    ∷ (Min, pos 3, Some (pos 5), pos 3) ∷ (Max, pos 3, Some (pos 5), pos 5)
+    ∷ (Min, pos 7, Some (pos 5), pos 5) ∷ (Max, pos 7, Some (pos 5), pos 7) ∷ [])
+    × Gives (λ g. held g (pos 4 ∷ negsuc 1 ∷ pos 6 ∷ [])) (
+    (Sum, Some (pos 8)) ∷ (Count, Some (pos 3)) ∷ (Min, Some (negsuc 1)) ∷ (Max, Some (pos 6)) ∷ [])
+    × Gives (λ g. held g []) ((Sum, None) ∷ (Count, None) ∷ (Min, None) ∷ (Max, None) ∷ [])
+    × Gives neutral (
+    (Sum, pos 0) ∷ (Count, pos 0) ∷ (Min, pos (2 ^ 63 - 1)) ∷ (Max, negsuc (2 ^ 63 - 1)) ∷ [])
+    × Gives2 combined (
+    (Sum, pos 4 ∷ pos 6 ∷ [], Some (pos 10)) ∷ (Count, pos 4 ∷ pos 6 ∷ [], Some (pos 10))
+    ∷ (Min, pos 4 ∷ pos 6 ∷ [], Some (pos 4)) ∷ (Max, pos 4 ∷ pos 6 ∷ [], Some (pos 6))
+    ∷ (Count, [], Some (pos 0)) ∷ [])
+unfolding held
+cells = (refl, refl, refl, refl, refl)
+
+-- ---- keys of rows: nothing past the keys, and no place more; the first places vary
+
+rows_of_keys : Gives2 padded (
+    (3, Number (pos 7) ∷ Code 2 ∷ [], Some (Number (pos 7)) ∷ Some (Code 2) ∷ None ∷ [])
+    ∷ (1, Number (pos 7) ∷ Code 2 ∷ [], Some (Number (pos 7)) ∷ []) ∷ [])
+    × Gives2 vary ((
+      2,
+      Some (Number (pos 7)) ∷ Some (Code 2) ∷ Some (Code 5) ∷ [],
+      (Some (Number (pos 7)) ∷ Some (Code 2) ∷ Some (Code 5) ∷ [])
+          ∷ (Some (Number (pos 7)) ∷ None ∷ Some (Code 5) ∷ [])
+          ∷ (None ∷ Some (Code 2) ∷ Some (Code 5) ∷ []) ∷ (None ∷ None ∷ Some (Code 5) ∷ []) ∷ [],
+    )
+    ∷ (0, Some (Code 2) ∷ [], (Some (Code 2) ∷ []) ∷ []) ∷ (2, [], [] ∷ []) ∷ [])
+unfolding padded vary
+rows_of_keys = (refl, refl)
+
+abbrev key : Option KeyValue → Option KeyValue → Option KeyValue → List (Option KeyValue)
+key a b c = a ∷ b ∷ c ∷ None ∷ None ∷ None ∷ []
+
+abbrev keys_asked : List (List (Option KeyValue))
+keys_asked = key (Some (Code 2)) (Some (Number (pos 7))) (Some (Code 5))
+    ∷ key (Some (Code 2)) (Some (Number (pos 7))) None ∷ key (Some (Code 2)) None None
+    ∷ key None None None ∷ key None None (Some (Code 5))
+    ∷ key (Some (Code 2)) None (Some (Code 5)) ∷ key (Some (Code 3)) None None ∷ []
+
+-- of a rollup those of the prefixes, that of none among them
+keys_of_puts : Gives2 (λ s ks. map (is_of_put s ks) keys_asked) ((
+  Plain,
+  Code 2 ∷ Number (pos 7) ∷ Code 5 ∷ [],
+  true ∷ false ∷ false ∷ false ∷ false ∷ false ∷ false ∷ [],
+)
+    ∷ (
+      Cube,
+      Code 2 ∷ Number (pos 7) ∷ Code 5 ∷ [],
+      true ∷ true ∷ true ∷ true ∷ true ∷ true ∷ false ∷ [],
+    )
+    ∷ (
+      Rollup,
+      Code 2 ∷ Number (pos 7) ∷ Code 5 ∷ [],
+      true ∷ true ∷ true ∷ true ∷ false ∷ false ∷ false ∷ [],
+    )
+    ∷ (Plain, [], false ∷ false ∷ false ∷ true ∷ false ∷ false ∷ false ∷ []) ∷ [])
+unfolding padded vary
+keys_of_puts = refl
+
+-- ---- the rows that a put changes, its own and that of all puts, and what they hold
 
 abbrev sales : Group
-sales = record { shape = Cube; count = 1; aggregates = Sum ∷ Count ∷ Min ∷ [] }
+sales = record { shape = Plain; count = 1; aggregates = Sum ∷ Max ∷ [] }
 
-abbrev one : ℤ → Update
-one z = record { keys = Number (pos 1) ∷ []; values = z ∷ pos 1 ∷ z ∷ [] }
-
-abbrev two : ℤ → Update
-two z = record { keys = Number (pos 2) ∷ []; values = z ∷ pos 1 ∷ z ∷ [] }
+abbrev sale : ℕ → ℤ → Update
+sale key z = record { keys = Code key ∷ []; values = z ∷ z ∷ [] }
 
 abbrev puts : List Update
-puts = one (pos 4) ∷ two (pos 5) ∷ one (pos 3) ∷ []
+puts = sale 1 (pos 4) ∷ sale 2 (pos 5) ∷ sale 1 (pos 3) ∷ []
 
-abbrev ones : Update
-ones = record { keys = Number (pos 1) ∷ []; values = pos 7 ∷ pos 2 ∷ pos 3 ∷ [] }
+abbrev row_of : ℕ → List (Option KeyValue)
+row_of n = key (Some (Code n)) None None
 
-either : (a b : Bool) → (a || (b || false)) ≡ (a || (b || (a || false)))
-either true b = refl
-either false true = refl
-either false false = refl
+changed : Gives (λ q. changes sales q (sale 1 (pos 4)))
+    ((row_of 1, true) ∷ (row_of 2, false) ∷ (key None None None, true) ∷ [])
+    × (puts_at sales (row_of 1) puts ≡ sale 1 (pos 4) ∷ sale 1 (pos 3) ∷ [])
+    × (puts_with (row_of 1) puts ≡ sale 1 (pos 4) ∷ sale 1 (pos 3) ∷ [])
+    × Gives has_puts ((puts, true) ∷ ([], false) ∷ [])
+    × Gives2 (held_at sales puts) (
+    (row_of 1, 0, Some (pos 7)) ∷ (row_of 1, 1, Some (pos 4)) ∷ (row_of 3, 0, None)
+    ∷ (key None None None, 0, Some (pos 12)) ∷ [])
+    × Gives key_value_view (
+    (part.All, None) ∷ (part.Number (pos 7), Some (Number (pos 7))) ∷ (part.Code 2, Some (Code 2)) ∷ [])
+    × Gives (row_found ((part.Code 1 ∷ part.All ∷ [], Some (pos 7) ∷ [])
+    ∷ (part.Code 2 ∷ part.All ∷ [], Some (pos 5) ∷ []) ∷ [])) (
+    (Some (Code 2) ∷ None ∷ [], Some (Some (pos 5) ∷ [])) ∷ (Some (Code 3) ∷ None ∷ [], None) ∷ [])
+unfolding padded held vary
+changed = (refl, refl, refl, refl, refl, refl, refl)
 
-abbrev HasAt : Update → ℕ → Type 0
-HasAt entry place = aggregate (aggregate_at sales.aggregates place)
-    (numbers_for place (puts_of entry.keys puts)) ≡ Some (put_number place entry)
+-- over no puts the row of all is there, and no other
+found : IsRow sales puts (row_of 3) None × (IsRow sales [] (key None None None) None → ⊥)
+    × (IsRow sales puts (row_of 1) None → ⊥)
+unfolding padded vary
+found = (refl, λ h. true≢false h, λ h. true≢false h)
 
-at_ones : (place : ℕ) → place < 3 → HasAt ones place
-at_ones zero h = refl
-at_ones (suc zero) h = refl
-at_ones (suc (suc zero)) h = refl
-at_ones (suc (suc (suc place))) h = absurd (omega (arith, h))
+module _ (d : Group) (us : List Update) (q : List (Option KeyValue)) (row : List (Option ℤ))
+    (look : List (Option KeyValue) → Option (List (Option ℤ)))
+    (entries : List (List KeyPart × List (Option ℤ))) where
+  rows : (IsFound d us q row ↔ (((key_eq q (padded 6 []) || has_puts (puts_at d q us)) ≡ true)
+      × ((place : ℕ) → place < length d.aggregates
+      → slice_index_or row place None ≡ held_at d us q place)))
+      × (HoldsPuts d look us ↔ (AllByRecursion (λ put. length put.keys ≡ d.count) us
+      × ((q : List (Option KeyValue)) → IsRow d us q (look q))))
+      × (IsRowOver d us None ≡ (has_puts us ≡ false))
+      × (IsRowOver d us (Some row) ≡ ((has_puts us ≡ true) × HasAggregates d us row))
+      × (HasAggregates d us row ≡ ((place : ℕ) → place < length d.aggregates
+      → slice_index_or row place None
+      ≡ held (aggregate_at d.aggregates place) (numbers_for place us)))
+      × (IsBase d entries row us ↔ (AllByRecursion (λ put. length put.keys ≡ d.count) us
+      × ((q : List (Option KeyValue)) → IsRowOver d (puts_with q us) (row_found entries q))
+      × HasAggregates d us row))
+  rows = (
+    (λ f. (f.due, f.cells), λ h. record { due = h.0; cells = h.1 }),
+    (λ h. (h.fit, h.rows), λ h. record { fit = h.0; rows = h.1 }),
+    refl,
+    refl,
+    refl,
+    (λ b. (b.fit, b.rows, b.total), λ h. record { fit = h.0; rows = h.1; total = h.2 }),
+  )
 
-at_two : (place : ℕ) → place < 3 → HasAt (two (pos 5)) place
-at_two zero h = refl
-at_two (suc zero) h = refl
-at_two (suc (suc zero)) h = refl
-at_two (suc (suc (suc place))) h = absurd (omega (arith, h))
+-- ---- 128 bits of a SUM, 64 of a COUNT
 
-pub worked_content : IsContent sales puts (ones ∷ two (pos 5) ∷ [])
-unfolding IsDistinct
-worked_content = record {
-  keys = λ ks. either (same_keys ks (Number (pos 1) ∷ [])) (same_keys ks (Number (pos 2) ∷ []));
-  once = ((refl, tt), (tt, tt));
-  numbers = (at_ones, (at_two, tt));
+room : (above_zero (pos 4 ∷ negsuc 2 ∷ pos 5 ∷ negsuc 0 ∷ []) ≡ 9)
+    × (below_zero (pos 4 ∷ negsuc 2 ∷ pos 5 ∷ negsuc 0 ∷ []) ≡ 4)
+    × Gives (λ place. put_number place (sale 1 (pos 4))) ((0, pos 4) ∷ (1, pos 4) ∷ (2, pos 0) ∷ [])
+    × (group_declared (record {
+      shape = Cube;
+      keys = declared.Number ∷ declared.Number ∷ [];
+      aggregates = Min ∷ [];
+    }) ≡ record { shape = Cube; count = 2; aggregates = Min ∷ [] })
+unfolding above_zero below_zero
+room = (refl, refl, refl, refl)
+
+module _ (d : Group) (us content : List Update) (zs : List ℤ) where
+  contents : (AddUp zs ↔ ((above_zero zs < 2 ^ 127) × (below_zero zs ≤ 2 ^ 127)))
+      × (HasRoom d us ↔ (((content : List Update) → IsContent d us content
+      → (place : ℕ) → place < length d.aggregates → aggregate_at d.aggregates place ≡ Sum
+      → AddUp (numbers_for place content))
+      × ((place : ℕ) → place < length d.aggregates → aggregate_at d.aggregates place ≡ Count
+      → length us < 2 ^ 63)))
+      × (IsContent d us content ↔ (((keys : List KeyValue)
+      → list_any (same_keys keys) (key_lists content) ≡ list_any (same_keys keys) (key_lists us))
+      × IsDistinct same_keys (key_lists content)
+      × AllByRecursion (λ entry. (place : ℕ) → place < length d.aggregates
+      → aggregate (aggregate_at d.aggregates place) (numbers_for place (puts_of entry.keys us))
+      ≡ Some (put_number place entry)) content))
+  contents = (
+    (λ a. (a.above, a.below), λ h. record { above = h.0; below = h.1 }),
+    (λ r. (r.sums, r.counts), λ h. record { sums = h.0; counts = h.1 }),
+    (λ c. (c.keys, c.once, c.numbers), λ h. record { keys = h.0; once = h.1; numbers = h.2 }),
+  )
+
+  -- a put's key list has its numbers with those that it had, and the others have what they had
+  one_more : (put : Update) (after : List Update) → IsWithPut d put content after
+      ↔ (((keys : List KeyValue) → list_any (same_keys keys) (key_lists after)
+      ≡ (same_keys keys put.keys || list_any (same_keys keys) (key_lists content)))
+      × IsDistinct same_keys (key_lists after)
+      × ((place : ℕ) → place < length d.aggregates → group_aggregate put.keys place after
+      ≡ Some (step (aggregate_at d.aggregates place) (put_number place put)
+      (group_aggregate put.keys place content)))
+      × ((keys : List KeyValue) → same_keys keys put.keys ≡ false
+      → (place : ℕ) → place < length d.aggregates
+      → group_aggregate keys place after ≡ group_aggregate keys place content))
+  one_more put after = (
+    λ w. (w.keys, w.once, w.own, w.others),
+    λ h. record { keys = h.0; once = h.1; own = h.2; others = h.3 },
+  )
+
+  placed : (spans : List Span) (seen : List Bool) (kept : List ℤ)
+      (entries : List (List KeyPart × List (Option ℤ))) (all : List (Option ℤ))
+      → IsPlaced d spans seen kept entries all us
+      ↔ (AllByRecursion (λ put. length put.keys ≡ d.count) us × AreAt false has_puts spans seen us
+      × ((a : ℕ) → a < length d.aggregates
+      → AreAt (pos 0) (cell_over d a) spans (aggregate_cells d seen kept a) us)
+      × IsBase d entries all (filter (λ put. is_outside spans put.keys) us))
+  placed spans seen kept entries all = (
+    λ p. (p.fit, p.seen_at, p.cells_at, p.rest),
+    λ h. record { fit = h.0; seen_at = h.1; cells_at = h.2; rest = h.3 },
+  )
+
+  at_places : (spans : List Span) (items : List ℤ) (value : List Update → ℤ)
+      → AreAt (pos 0) value spans items us ≡ ((place : ℕ) → place < length items
+      → slice_index_or items place (pos 0)
+      ≡ value (filter (λ put. is_at spans place put.keys) us))
+  at_places spans items value = refl
+
+content_aggregates : Gives2 (λ ks place. group_aggregate ks place puts) (
+    (Code 1 ∷ [], 0, Some (pos 4)) ∷ (Code 2 ∷ [], 1, Some (pos 5)) ∷ (Code 3 ∷ [], 0, None) ∷ [])
+    × (cell_over sales 1 (sale 1 (pos 4) ∷ []) ≡ pos 4)
+    × (cell_over sales 0 (sale 1 (pos 5) ∷ sale 2 (pos 5) ∷ []) ≡ pos 10)
+    × (cell_over sales 1 [] ≡ negsuc (2 ^ 63 - 1))
+unfolding group_aggregate held
+content_aggregates = (refl, refl, refl, refl)
+
+-- ---- the places of keys that lie in ranges, the numbers from -1 to 2 and the codes 5 and 6; that of
+-- the first key counts by one
+
+abbrev numbers : Span
+numbers = record {
+  is_code = false;
+  low = negsuc 0;
+  last = 3;
+  high = omega arith;
+  codes = λ coded. absurd (true≢false (sym coded));
 }
 
--- each key list is there once, and none is left out
-pub no_key_list_twice : IsContent sales puts (ones ∷ ones ∷ two (pos 5) ∷ []) → ⊥
-unfolding IsDistinct
-no_key_list_twice c = true≢false c.once.0.0
-
-pub no_key_list_left_out : IsContent sales puts (ones ∷ []) → ⊥
-no_key_list_left_out c = true≢false (sym (c.keys (Number (pos 2) ∷ [])))
-
--- counts are added, and not counted
-pub counts_are_added : combined Count (pos 2 ∷ pos 1 ∷ []) ≡ Some (pos 3)
-counts_are_added = refl
-
-pub no_counts_are_none : combined Count [] ≡ Some (pos 0)
-no_counts_are_none = refl
-
--- ---- with one put more
-
-abbrev twos : ℤ → Update
-twos count = record { keys = Number (pos 2) ∷ []; values = pos 7 ∷ count ∷ pos 2 ∷ [] }
-
--- two puts of 5 and 2: they add up to 7, there are two, and the least is 2
-worked_more : IsWithPut sales (two (pos 2)) (ones ∷ two (pos 5) ∷ []) (ones ∷ twos (pos 2) ∷ [])
-unfolding IsDistinct group_aggregate
-worked_more = record {
-  keys = λ ks. swapped (same_keys ks (Number (pos 1) ∷ [])) (same_keys ks (Number (pos 2) ∷ []));
-  once = ((refl, tt), (tt, tt));
-  own = own;
-  others = others;
+abbrev coded : Span
+coded = record {
+  is_code = true;
+  low = pos 5;
+  last = 1;
+  high = omega arith;
+  codes = λ _. (omega arith, omega arith);
 }
-  where
-    swapped : (a b : Bool) → (a || (b || false)) ≡ (b || (a || (b || false)))
-    swapped true true = refl
-    swapped true false = refl
-    swapped false true = refl
-    swapped false false = refl
 
-    own : (place : ℕ) → place < 3
-        → group_aggregate (Number (pos 2) ∷ []) place (ones ∷ twos (pos 2) ∷ [])
-        ≡ Some (step (aggregate_at sales.aggregates place) (put_number place (two (pos 2)))
-        (group_aggregate (Number (pos 2) ∷ []) place (ones ∷ two (pos 5) ∷ [])))
-    own zero h = refl
-    own (suc zero) h = refl
-    own (suc (suc zero)) h = refl
-    own (suc (suc (suc place))) h = absurd (omega (arith, h))
+key_places : Gives2 offset_of (
+    (numbers, Number (negsuc 1), None) ∷ (numbers, Number (negsuc 0), Some 0)
+    ∷ (numbers, Number (pos 0), Some 1) ∷ (numbers, Number (pos 2), Some 3)
+    ∷ (numbers, Number (pos 3), None) ∷ (numbers, Code 0, None)
+    ∷ (coded, Code 4, None) ∷ (coded, Code 5, Some 0) ∷ (coded, Code 6, Some 1)
+    ∷ (coded, Code 7, None) ∷ (coded, Number (pos 5), None) ∷ [])
+    × Gives places ((numbers ∷ coded ∷ [], 8) ∷ (coded ∷ [], 2) ∷ ([], 1) ∷ [])
+    × Gives (cell_place (numbers ∷ coded ∷ [])) (
+    (Number (negsuc 0) ∷ Code 5 ∷ [], Some 0) ∷ (Number (pos 2) ∷ Code 5 ∷ [], Some 3)
+    ∷ (Number (negsuc 0) ∷ Code 6 ∷ [], Some 4) ∷ (Number (pos 2) ∷ Code 6 ∷ [], Some 7)
+    ∷ (Number (pos 3) ∷ Code 5 ∷ [], None) ∷ (Number (pos 2) ∷ Code 7 ∷ [], None)
+    ∷ (Number (pos 0) ∷ [], None) ∷ [])
+    × Gives (cell_place []) (([], Some 0) ∷ (Code 5 ∷ [], None) ∷ [])
+    × IsOf numbers declared.Number × IsOf coded (declared.Text PBrand1)
+key_places = (refl, refl, refl, refl, refl, refl)
 
-    kept : (a b : Bool) (x y z : ℤ) → b ≡ false
-        → (if a then Some x else (if b then Some y else None))
-        ≡ (if a then Some x else (if b then Some z else None))
-    kept true b x y z e = refl
-    kept false false x y z e = refl
-    kept false true x y z e = absurd (true≢false e)
+-- ---- batches: the word of a register is in its lane of 1,024; a COUNT is 1, and the others take the
+-- registers in turn; puts come newest first
 
-    others : (ks : List KeyValue) → same_keys ks (Number (pos 2) ∷ []) ≡ false
-        → (place : ℕ) → place < 3 → group_aggregate ks place (ones ∷ twos (pos 2) ∷ [])
-        ≡ group_aggregate ks place (ones ∷ two (pos 5) ∷ [])
-    others ks other place h = kept (same_keys ks (Number (pos 1) ∷ []))
-        (same_keys ks (Number (pos 2) ∷ [])) (put_number place ones)
-        (put_number place (twos (pos 2)))
-        (put_number place (two (pos 5))) other
+abbrev lanes : List ℤ
+lanes = replicate 1024 (pos 7) ++ (pos 8 ∷ pos 9 ∷ [])
 
--- a COUNT grows by 1, and not by what is put
-no_greater_count : IsWithPut sales (two (pos 2)) (ones ∷ two (pos 5) ∷ [])
-    (ones ∷ twos (pos 3) ∷ []) → ⊥
-unfolding group_aggregate
-no_greater_count h = let e = h.own 1 (omega arith) in absurd (cc)
+abbrev numbered : ℕ → Update
+numbered row = record { keys = []; values = pos row ∷ [] }
+
+words : Gives2 key_word (
+    (declared.Number, pos 5, Number (pos 5)) ∷ (declared.Number, negsuc 4, Number (negsuc 4))
+    ∷ (declared.Text PBrand1, pos 5, Code 5) ∷ (declared.Text PBrand1, negsuc 4, Code 0) ∷ [])
+    × (batch_keys (declared.Number ∷ declared.Text PBrand1 ∷ []) (pos 5 ∷ pos 6 ∷ [])
+    ≡ Number (pos 5) ∷ Code 6 ∷ [])
+    × Gives2 (word_in lanes) ((0, 0, pos 7) ∷ (0, 1, pos 8) ∷ (0, 2, pos 0) ∷ (1, 1, pos 9) ∷ [])
+    × (puts_after numbered (numbered 9 ∷ []) 2 ≡ numbered 1 ∷ numbered 0 ∷ numbered 9 ∷ [])
+words = (refl, refl, refl, refl)
+
+module _ (b : PutBatch) (z : ℤ) (d : Group) (put : ℕ → Update) (us : List Update) (n : ℕ) where
+  batches : (IsKeyWord declared.Number z ≡ Unit {0})
+      × (IsKeyWord (declared.Text PBrand1) z ≡ ((n : ℕ) × (n < 2 ^ 32) × (z ≡ pos n)))
+      × (HasRoomForRows d put us n
+      ≡ ((row : ℕ) → row < n → HasRoom d (put row ∷ puts_after put us row)))
+      × (IsPutBatch b ↔ ((b.rows ≤ 1024) × IsSmall b.declared.now
+      × (length b.keys.now ≡ length b.declared.now.keys)
+      × (length b.values.now ≡ value_count b.declared.now.aggregates)
+      × All (λ r. r * 1024 + 1024 ≤ length b.lanes.now) b.keys.now
+      × All (λ r. r * 1024 + 1024 ≤ length b.lanes.now) b.values.now
+      × ((row : ℕ) → row < b.rows → (i : ℕ) → i < length b.keys.now
+      → IsKeyWord (slice_index_or b.declared.now.keys i declared.Number)
+      (word_in b.lanes.now row (slice_index_or b.keys.now i 0)))))
+  batches = (
+    refl,
+    refl,
+    refl,
+    (
+      λ p. (p.few, p.small, p.keys, p.values, p.key_lanes, p.value_lanes, p.words),
+      λ h. record {
+        few = h.0;
+        small = h.1;
+        keys = h.2;
+        values = h.3;
+        key_lanes = h.4;
+        value_lanes = h.5;
+        words = h.6;
+      },
+    ),
+  )
+
+row_put : (ws : Bor (List ℤ)) (declaration : Bor GroupDecl) (registers : Bor (List ℕ))
+    → put_in (record {
+      lanes = record ws { now = lanes };
+      rows = 2;
+      declared = record declaration {
+        now = record {
+          shape = Plain;
+          keys = declared.Number ∷ [];
+          aggregates = Sum ∷ Count ∷ Max ∷ [];
+        };
+      };
+      keys = record registers { now = 1 ∷ [] };
+      values = record registers { now = 0 ∷ 1 ∷ [] };
+    }) 1
+    ≡ record { keys = Number (pos 9) ∷ []; values = pos 7 ∷ pos 1 ∷ pos 9 ∷ [] }
+row_put ws declaration registers = refl

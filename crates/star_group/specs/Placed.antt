@@ -1,11 +1,9 @@
 -- What a contract sees of a placed store.
-use Rattle.std.specs.Prelude.{◌≡◌, ℕ, List, Some}
+use Rattle.std.specs.Prelude.{List}
 use Rattle.star_group.specs.declared.placed.PlacedStore.{PlacedStore}
 use Rattle.star_group.specs.ByPlace.{IsPlaced}
 use Rattle.star_group.specs.Deferred as deferred
 use Rattle.star_group.specs.Entries.{entries_of}
-use Rattle.star_group.specs.Places.{cell_place}
-use Rattle.star_program.specs.declared.key.KeyValue.{KeyValue}
 use Rattle.star_program.specs.Puts.{Update}
 use Rattle.star_group.specs.Stores.{Group}
 
@@ -15,7 +13,3 @@ group_view s = deferred.group_view s.rest
 -- the store has the content of these puts
 abbrev pub Has : PlacedStore → List Update → Type 0
 Has s puts = IsPlaced (group_view s) s.spans.items s.seen.items s.cells.items (entries_of s.rest.rows) s.rest.total puts
-
--- the row of these keys stands at this place
-abbrev pub HasPlace : PlacedStore → List KeyValue → ℕ → Type 0
-HasPlace s keys place = cell_place s.spans.items keys ≡ Some place

@@ -22,7 +22,7 @@ mod row_cache;
 mod rows;
 mod store;
 
-pub use batch::PutBatch;
+pub use batch::{PutBatch, key_of};
 pub use deferred::DeferredStore;
 pub use eager::EagerStore;
 pub use group_row::{GroupRow, Prefix, RowAggregates, RowKeys};

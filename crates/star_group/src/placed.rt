@@ -1,12 +1,13 @@
 // A store that keeps the rows of keys in known ranges by their places.
 
-ghost use Rattle.std.specs.Prelude.{◌≡◌, ◌≤◌, ◌*◌, length};
+ghost use Rattle.std.specs.Prelude.{◌≡◌, ◌≤◌, ◌*◌, ◌^◌, length};
 ghost use Rattle.star_group.specs.ByPlace.{IsPlacedWithRoom};
 ghost use Rattle.star_group.specs.Entries.{entries_of};
 ghost use Rattle.star_group.specs.Places.{places};
 
 mod cells;
 mod filling;
+mod listing;
 mod making;
 mod places;
 mod span;
@@ -26,7 +27,7 @@ pub struct PlacedStore {
     seen: Vec<bool>,
     cells: Vec<i128>,
     ghost keys: { length spans.items ≡ rest.key_count },
-    ghost few: { places spans.items ≤ 65536 },
+    ghost few: { places spans.items ≤ 2 ^ 28 },
     ghost marks: { length seen.items ≡ places spans.items },
     ghost long: { length cells.items ≡ length rest.aggregates.items * length seen.items },
     ghost room: { IsPlacedWithRoom

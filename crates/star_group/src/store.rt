@@ -1,10 +1,9 @@
 // What a store of groups is.
 
-ghost use Rattle.std.specs.Prelude.{◌≡◌, ◌≤◌, ◌<◌, ℕ, List, ◌∷◌, [], length, true, false, OnOk, OnErr, IfErr, IfOk, IfSome};
+ghost use Rattle.std.specs.Prelude.{◌≡◌, ◌≤◌, ◌<◌, ℕ, List, ◌∷◌, [], length, true, false, OnOk, OnErr, IfErr, IfOk};
 ghost use Rattle.star_common.specs.Memory.{UnlessMemory};
-ghost use Rattle.star_group.specs.Batches.{ArePutsAt, HasNumbers, HasRoomForRows, IsPutBatch, puts_after, put_in};
+ghost use Rattle.star_group.specs.Batches.{HasRoomForRows, IsPutBatch, puts_after, put_in};
 ghost use Rattle.star_program.specs.Puts.{Update, overflows, total_over};
-ghost use Rattle.star_program.specs.declared.key.KeyValue.{KeyValue as Value};
 ghost use Rattle.star_group.specs.Stores.{Group, HasRoom, group_declared};
 ghost use Rattle.star_group.specs.StoreRows.{AreRows};
 
@@ -23,9 +22,6 @@ pub trait GroupStore: Drop {
 
     // The store has the content of these puts, the newest first.
     ghost has: { Self → List Update → Type 0 };
-
-    // The row of these keys stands at this place.
-    ghost has_place: { Self → List Value → ℕ → Type 0 };
 
     /// A store of no puts for a group of at most 6 keys and 8 aggregates.
     fn new(alloc: Global, declared: &GroupDecl) -> Result<Self, AllocError>
@@ -92,34 +88,6 @@ pub trait GroupStore: Drop {
         }
         Ok(())
     }
-
-    /// The place of the row of these keys, a value for each key of the group in order, where rows
-    /// stand by places and it has one; for use in `put_batch_at`. No clause says when it has: who
-    /// isn't told a place puts by keys.
-    fn place_of(&self, _keys: &[KeyValue]) -> Option<u32>
-        requires { length _keys.now ≡ (group self.now).count }
-        ensures { IfSome result (λ place. has_place self.now _keys.now place) }
-    {
-        None
-    }
-
-    /// The puts of some rows whose keys have these places, one after another in order. Of their keys
-    /// nothing else is known, and no lane of a key is read. Its condition is that of each of these
-    /// puts. Takes no memory.
-    fn put_batch_at(&mut self, batch: &PutBatch<'_>, places: &[u32])
-        requires some { 0 < batch.now.rows }
-        requires declared { group_declared batch.now.declared.now ≡ group self.old }
-        requires batch { HasNumbers batch.now }
-        requires rows { length places.now ≡ batch.now.rows }
-        requires room { (put : ℕ → Update) × (puts : List Update)
-            × ArePutsAt (has_place self.old) batch.now places.now put × has self.old puts
-            × HasRoomForRows (group self.old) put puts batch.now.rows }
-        ensures has { (put : ℕ → Update) → ArePutsAt (has_place self.old) batch.now places.now put
-            → (puts : List Update) → has self.old puts
-            → has self.new (puts_after put puts batch.now.rows) }
-        ensures places { (keys : List Value) (place : ℕ) → has_place self.old keys place
-            → has_place self.new keys place }
-        ensures group { group self.new ≡ group self.old };
 
     /// An aggregate, by its number from 0, over all puts; `None` is NULL. Takes no memory.
     fn total(&self, aggregate: usize) -> Option<i128>

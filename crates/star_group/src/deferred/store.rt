@@ -6,7 +6,6 @@ ghost use Rattle.star_group.specs.Deferred.{group_view, Has};
 use super::DeferredStore;
 use super::base::add_put;
 use super::coarser::rows_of_base;
-use crate::batch::PutBatch;
 use crate::cell::{Total, shown};
 use crate::keyed::KeyedRows;
 use crate::row_cache::RowCache;
@@ -19,9 +18,6 @@ impl GroupStore for DeferredStore {
     ghost group = { group_view };
 
     ghost has = { Has };
-
-    // No row has a place.
-    ghost has_place = { λ store keys place. ⊥ };
 
     fn new(alloc: Global, declared: &GroupDecl) -> Result<DeferredStore, AllocError> {
         let aggregates = aggregates_of(alloc, declared)?;
@@ -47,10 +43,6 @@ impl GroupStore for DeferredStore {
             keys,
             values,
         )
-    }
-
-    fn put_batch_at(&mut self, _batch: &PutBatch<'_>, _places: &[u32]) {
-        unreachable!()
     }
 
     fn total(&self, aggregate: usize) -> Option<i128> {

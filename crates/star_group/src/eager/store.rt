@@ -4,7 +4,6 @@ ghost use Rattle.star_group.specs.Eager.{group_view, Has};
 
 use super::EagerStore;
 use super::put::put_all;
-use crate::batch::PutBatch;
 use crate::cell::{Total, shown};
 use crate::given::rows_given;
 use crate::keyed::KeyedRows;
@@ -24,9 +23,6 @@ impl GroupStore for EagerStore {
     ghost group = { group_view };
 
     ghost has = { Has };
-
-    // No row has a place.
-    ghost has_place = { λ store keys place. ⊥ };
 
     fn new(alloc: Global, declared: &GroupDecl) -> Result<EagerStore, AllocError> {
         let aggregates = aggregates_of(alloc, declared)?;
@@ -51,10 +47,6 @@ impl GroupStore for EagerStore {
             Err(PutFault::OutOfMemory) => Err(AllocError),
             Err(PutFault::Overflow) => unreachable!(),
         }
-    }
-
-    fn put_batch_at(&mut self, _batch: &PutBatch<'_>, _places: &[u32]) {
-        unreachable!()
     }
 
     fn total(&self, aggregate: usize) -> Option<i128> {

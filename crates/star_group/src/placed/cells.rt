@@ -1,11 +1,11 @@
 // Cells of aggregates at places, with the numbers of more puts.
 
-ghost use Rattle.std.specs.Prelude.{◌≡◌, ◌≤◌, ◌<◌, ◌+◌, ◌*◌, ◌∷◌, ℕ, All, List, None, [], false, length, map, pos, slice_index_or, slice_set, true, Some};
+ghost use Rattle.std.specs.Prelude.{◌≡◌, ◌≤◌, ◌<◌, ◌+◌, ◌*◌, ◌^◌, ◌∷◌, ℕ, All, List, None, [], false, length, map, pos, slice_index_or, slice_set, true, Some};
 ghost use Rattle.star_interval.specs.Range.{is_i64};
 ghost use Rattle.star_program.specs.Faults.{value_count};
 ghost use Rattle.star_program.specs.Puts.{aligned, leaves};
 ghost use Rattle.star_program.specs.Rows.{cut};
-ghost use Rattle.star_group.specs.Batches.{HasNumbers, put_in, word_in};
+ghost use Rattle.star_group.specs.Batches.{IsPutBatch, put_in, word_in};
 ghost use Rattle.star_group.specs.Cells.{step};
 ghost use Rattle.star_group.specs.Private.PlacedPut.{CanTakeBatch, CanTakePut, TakesBatch, TakesPlacedPut};
 ghost use Rattle.star_group.specs.Stores.{put_number};
@@ -47,7 +47,17 @@ fn taken(aggregate: Aggregate, cell: i128, value: i64) -> i128
     }
 }
 
-// One cell with the number of a row.
+// A cell with the number of a row.
+fn taken_in(aggregate: Aggregate, cell: i128, lane: &[i64], row: usize) -> i128
+    requires row { row < length lane.now }
+    requires stays { leaves aggregate (Some (step aggregate (slice_index_or lane.now row (pos 0))
+        (Some cell))) ≡ false }
+    ensures { result ≡ step aggregate (slice_index_or lane.now row (pos 0)) (Some cell) }
+{
+    taken(aggregate, cell, lane[row])
+}
+
+// The cell of a place with the number of a row.
 fn taken_at(aggregate: Aggregate, cells: &[i128], place: u32, lane: &[i64], row: usize) -> i128
     requires within { place < length cells.now }
     requires row { row < length lane.now }
@@ -56,7 +66,7 @@ fn taken_at(aggregate: Aggregate, cells: &[i128], place: u32, lane: &[i64], row:
     ensures { result ≡ step aggregate (slice_index_or lane.now row (pos 0))
         (Some (slice_index_or cells.now place (pos 0))) }
 {
-    taken(aggregate, cells[place as usize], lane[row])
+    taken_in(aggregate, cells[place as usize], lane, row)
 }
 
 // The cells of one aggregate with a number more at the place of each row.
@@ -74,7 +84,50 @@ fn take_lane(aggregate: Aggregate, cells: &mut [i128], at: &[u32], lane: &[i64])
     }
 }
 
+// The only cell with a number more for each row: a place for all rows keeps it out of memory.
+#[inline(always)]
+fn take_rows(aggregate: Aggregate, cell: i128, at: &[u32], lane: &[i64]) -> i128
+    requires same { length lane.now ≡ length at.now }
+    requires within { AreWithin at.now 1 }
+    requires stays { CanTake aggregate lane.now at.now (cell ∷ []) }
+    ensures { column_after aggregate lane.now at.now (cell ∷ []) (length at.now) ≡ result ∷ [] }
+{
+    let mut all = cell;
+    for row in 0..at.len() {
+        all = taken_in(aggregate, all, lane, row);
+    }
+    all
+}
+
 // The same, in a loop of its own for each kind of aggregate.
+fn take_rows_of(aggregate: Aggregate, cell: i128, at: &[u32], lane: &[i64]) -> i128
+    requires same { length lane.now ≡ length at.now }
+    requires within { AreWithin at.now 1 }
+    requires stays { CanTake aggregate lane.now at.now (cell ∷ []) }
+    ensures { column_after aggregate lane.now at.now (cell ∷ []) (length at.now) ≡ result ∷ [] }
+{
+    match aggregate {
+        Aggregate::Sum => take_rows(Aggregate::Sum, cell, at, lane),
+        Aggregate::Count => take_rows(Aggregate::Count, cell, at, lane),
+        Aggregate::Min => take_rows(Aggregate::Min, cell, at, lane),
+        Aggregate::Max => take_rows(Aggregate::Max, cell, at, lane),
+    }
+}
+
+// The cells of one aggregate, of which there is one, with a number more for each row.
+fn take_one_cell(aggregate: Aggregate, cells: &mut [i128], at: &[u32], lane: &[i64])
+    requires one { length cells.old ≡ 1 }
+    requires same { length lane.now ≡ length at.now }
+    requires within { AreWithin at.now (length cells.old) }
+    requires stays { CanTake aggregate lane.now at.now cells.old }
+    ensures cells { cells.new ≡ column_after aggregate lane.now at.now cells.old (length at.now) }
+    ensures len { length cells.new ≡ length cells.old }
+{
+    cells[0] = take_rows_of(aggregate, cells[0], at, lane);
+}
+
+// The cells of one aggregate with a number more at the place of each row, in a loop of its own for
+// each kind of aggregate.
 fn take_lane_of(aggregate: Aggregate, cells: &mut [i128], at: &[u32], lane: &[i64])
     requires same { length lane.now ≡ length at.now }
     requires within { AreWithin at.now (length cells.old) }
@@ -82,6 +135,9 @@ fn take_lane_of(aggregate: Aggregate, cells: &mut [i128], at: &[u32], lane: &[i6
     ensures cells { cells.new ≡ column_after aggregate lane.now at.now cells.old (length at.now) }
     ensures len { length cells.new ≡ length cells.old }
 {
+    if cells.len() == 1 {
+        return take_one_cell(aggregate, cells, at, lane);
+    }
     match aggregate {
         Aggregate::Sum => take_lane(Aggregate::Sum, cells, at, lane),
         Aggregate::Count => take_lane(Aggregate::Count, cells, at, lane),
@@ -193,7 +249,7 @@ pub(crate) fn take_one(
     requires values { length values.now ≡ length aggregates.now }
     requires long { length cells.old ≡ length aggregates.now * length seen.old }
     requires place { place < length seen.old }
-    requires few { length seen.old ≤ 65536 }
+    requires few { length seen.old ≤ 2 ^ 28 }
     requires can { CanTakePut aggregates.now values.now place seen.old cells.old }
     ensures takes { TakesPlacedPut aggregates.now values.now place seen.old cells.old seen.new cells.new }
     ensures seen { length seen.new ≡ length seen.old }
@@ -263,7 +319,7 @@ fn take_lanes(
     at: &[u32],
     batch: &PutBatch<'_>,
 )
-    requires batch { HasNumbers batch.now }
+    requires batch { IsPutBatch batch.now }
     requires declared { aggregates.now ≡ batch.now.declared.now.aggregates }
     requires rows { length at.now ≡ batch.now.rows }
     requires long { length cells.old ≡ length aggregates.now * places }
@@ -290,7 +346,7 @@ fn take_lanes(
 
 // That the numbers of the rows of a batch have 64 bits.
 fn lanes_are_narrow(aggregates: &[Aggregate], batch: &PutBatch<'_>)
-    requires batch { HasNumbers batch.now }
+    requires batch { IsPutBatch batch.now }
     requires declared { aggregates.now ≡ batch.now.declared.now.aggregates }
     ensures { (a : ℕ) → a < length aggregates.now → (row : ℕ) → row < batch.now.rows
         → is_i64 (put_number a (put_in batch.now row)) ≡ true }
@@ -311,7 +367,7 @@ pub(crate) fn take_batch(
     at: &[u32],
     batch: &PutBatch<'_>,
 )
-    requires batch { HasNumbers batch.now }
+    requires batch { IsPutBatch batch.now }
     requires declared { aggregates.now ≡ batch.now.declared.now.aggregates }
     requires rows { length at.now ≡ batch.now.rows }
     requires long { length cells.old ≡ length aggregates.now * length seen.old }

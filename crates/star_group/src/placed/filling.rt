@@ -46,8 +46,22 @@ impl PlacedStore {
     }
 }
 
+impl PlacedStore {
+    // The total of all puts of a group without keys; a plain group with keys shows none.
+    pub(super) fn plain_total(&self) -> Total
+        ensures { length self.now.spans.items ≡ 0 → (puts : List Update) → Has self.now puts
+            → HasAggregates (group_view self.now) puts result }
+    {
+        if self.spans.len() == 0 {
+            self.whole_total()
+        } else {
+            Total::new()
+        }
+    }
+}
+
 // The key of a place.
-fn key_at(spans: &[Span], place: usize) -> OrderedKey
+pub(super) fn key_at(spans: &[Span], place: usize) -> OrderedKey
     requires { length spans.now ≤ 6 }
     ensures key { (keys : List Value) → spec.cell_place spans.now keys ≡ Some place
         → key_view result ≡ padded 6 keys }

@@ -1,6 +1,6 @@
 // A placed store of no puts, for keys that are expected in some ranges.
 
-ghost use Rattle.std.specs.Prelude.{◌≡◌, ◌≤◌, ◌<◌, ◌+◌, ◌*◌, ℕ, [], length, pos, replicate, slice_index_or, IfOk};
+ghost use Rattle.std.specs.Prelude.{◌≡◌, ◌≤◌, ◌<◌, ◌+◌, ◌*◌, ◌^◌, ◌++◌, ℕ, [], length, pos, replicate, slice_index_or, IfOk, OnOk};
 ghost use Rattle.star_schema.specs.declared.group.Aggregate.TheVariants.{Count};
 ghost use Rattle.star_program.specs.Rows.{cut};
 ghost use Rattle.star_group.specs.ByPlace as spec;
@@ -11,6 +11,9 @@ use star_interval::Interval;
 use star_program::GroupKey;
 use star_schema::Aggregate;
 use std::alloc::{AllocError, Global};
+
+// The most places of a group, whoever asks for them. A run asks for fewer, by what it scans.
+const MOST_PLACES: u32 = 1 << 28;
 
 // A range of the one value 0.
 fn single(is_code: bool) -> Span
@@ -61,8 +64,8 @@ fn span_of(key: GroupKey, range: Option<&Interval>, most: u32) -> Span
     }
 }
 
-// The ranges of keys and how many places they have, at most 65,536: a key whose range would make more
-// of them has the one value 0.
+// The ranges of keys and how many places they have: a key whose range would make more than the most
+// has the one value 0.
 pub(super) fn spans_of(
     alloc: Global,
     keys: &[GroupKey],
@@ -70,11 +73,11 @@ pub(super) fn spans_of(
 ) -> Result<(Vec<Span>, usize), AllocError>
     ensures keys { IfOk result (λ made. length made.0.items ≡ length keys.now) }
     ensures places { IfOk result (λ made. made.1 ≡ places made.0.items) }
-    ensures few { IfOk result (λ made. made.1 ≤ 65536) }
+    ensures few { IfOk result (λ made. made.1 ≤ 2 ^ 28) }
 {
     let mut spans = Vec::with_capacity(alloc, keys.len())?;
     let mut count = 1;
-    let mut left = 65536;
+    let mut left = MOST_PLACES;
     for index in 0..keys.len() {
         let span = span_of(keys[index], ranges.get(index), left);
         let size = span.last + 1;
@@ -96,11 +99,17 @@ fn neutral(aggregate: Aggregate) -> i128
     }
 }
 
-// The cells of one aggregate before there is a put.
-fn blank_column(alloc: Global, aggregate: Aggregate, places: usize) -> Result<Vec<i128>, AllocError>
-    ensures { IfOk result (λ cells. cells.items ≡ replicate places (spec.neutral aggregate)) }
+// Adds the cells of one aggregate before there is a put.
+fn add_blank_column(
+    cells: &mut Vec<i128>,
+    aggregate: Aggregate,
+    places: usize,
+) -> Result<(), AllocError>
+    ensures { OnOk result
+        (cells.new.items ≡ cells.old.items ++ replicate places (spec.neutral aggregate)) }
 {
-    vec![in alloc; neutral(aggregate); places]
+    let end = cells.len().checked_add(places).ok_or(AllocError)?;
+    cells.resize(end, neutral(aggregate))
 }
 
 // The cells of each aggregate before there is a put.
@@ -114,10 +123,10 @@ pub(super) fn blank_cells(
         ≡ replicate places (spec.neutral (slice_index_or aggregates.now a Count))) }
     ensures len { IfOk result (λ cells. length cells.items ≡ length aggregates.now * places) }
 {
-    let mut cells = Vec::new(alloc);
+    let all = aggregates.len().checked_mul(places).ok_or(AllocError)?;
+    let mut cells = Vec::with_capacity(alloc, all)?;
     for aggregate in aggregates {
-        let column = blank_column(alloc, *aggregate, places)?;
-        cells.extend_from_slice(column.as_slice())?;
+        add_blank_column(&mut cells, *aggregate, places)?;
     }
     Ok(cells)
 }

@@ -61,7 +61,7 @@ impl Span {
 
     // The place of this key in front of others with a place.
     fn above(self, key: KeyValue, rest: Option<usize>) -> Option<usize>
-        requires { MatchOption rest (Unit {0}) (λ place. place < 65536) }
+        requires { MatchOption rest (Unit {0}) (λ place. place < 2 ^ 28) }
         ensures { result ≡ above (spec.offset_of self key) (self.last + 1) rest }
     {
         let offset = self.offset_of(key)?;
@@ -74,7 +74,7 @@ impl Span {
 // of the others. One division a key gives the keys back, so no two lists share a place.
 pub(crate) fn place_of(spans: &[Span], keys: &[KeyValue]) -> Option<usize>
     requires same { length keys.now ≡ length spans.now }
-    requires few { places spans.now ≤ 65536 }
+    requires few { places spans.now ≤ 2 ^ 28 }
     ensures place { result ≡ spec.cell_place spans.now keys.now }
     ensures within { IfSome result (λ place. place < places spans.now) }
 {
@@ -116,7 +116,7 @@ fn next_place(offset: u32, size: u32, rest: u32) -> u32
 // it lies in its range in all of them.
 fn add_lane(span: Span, lane: &[i64], at: &mut [u32]) -> bool
     requires same { length at.old ≡ length lane.now }
-    requires few { span.last < 65536 }
+    requires few { span.last < 2 ^ 28 }
     requires small { (row : ℕ) → row < length lane.now
         → span.last + (span.last + 1) * slice_index_or at.old row 0 < 2 ^ 32 }
     ensures places { result ≡ true → (row : ℕ) → row < length lane.now
@@ -162,7 +162,7 @@ fn clear(at: &mut [u32])
 pub(crate) fn find_places(spans: &[Span], batch: &PutBatch<'_>, at: &mut [u32]) -> bool
     requires batch { IsPutBatch batch.now }
     requires keys { length spans.now ≡ length batch.now.keys.now }
-    requires few { places spans.now ≤ 65536 }
+    requires few { places spans.now ≤ 2 ^ 28 }
     requires rows { length at.old ≡ batch.now.rows }
     ensures places { result ≡ true → (row : ℕ) → row < batch.now.rows
         → spec.cell_place spans.now (put_in batch.now row).keys ≡ Some (slice_index_or at.new row 0) }

@@ -1,15 +1,18 @@
 // A placed store is a store of groups.
 
 ghost use Rattle.std.specs.Prelude.{◌≡◌, ◌≤◌, ◌<◌, ℕ, List, [], IfOk, OnErr, OnOk, length};
-ghost use Rattle.star_group.specs.Batches.{HasNumbers, HasRoomForRows, IsPutBatch, puts_after, put_in};
-ghost use Rattle.star_group.specs.Placed.{group_view, Has, HasPlace};
+ghost use Rattle.star_group.specs.Batches.{HasRoomForRows, IsPutBatch, puts_after, put_in};
+ghost use Rattle.star_group.specs.Placed.{group_view, Has};
 ghost use Rattle.star_group.specs.Private.PlacedPut.{AreAtPlaces};
 ghost use Rattle.star_program.specs.Puts.{Update};
+ghost use Rattle.star_group.specs.StoreRows.{AreRows};
 ghost use Rattle.star_group.specs.Stores.{group_declared};
+ghost use Rattle.star_schema.specs.declared.group.Shape.TheVariants.{Plain};
 
 use super::PlacedStore;
 use super::cells::{take_batch, take_one};
 use super::filling::add_places;
+use super::listing::list_rows;
 use super::making::{blank_cells, spans_of};
 use super::places::{find_places, place_of};
 use crate::batch::PutBatch;
@@ -20,11 +23,12 @@ use crate::store::GroupStore;
 use crate::{GroupRows, KeyValue};
 use star_interval::Interval;
 use star_program::GroupDecl;
+use star_schema::Shape;
 use std::alloc::{AllocError, Global};
 
 impl PlacedStore {
     // A store of no puts. The rows of keys in these ranges, of numbers or of codes of texts, have
-    // places, at most 65,536.
+    // places, at most 2^28.
     fn for_ranges(
         alloc: Global,
         declared: &GroupDecl,
@@ -78,16 +82,13 @@ impl PlacedStore {
     // The puts of some rows whose keys have these places, one after another in order.
     fn put_at(&mut self, batch: &PutBatch<'_>, places: &[u32])
         requires declared { group_declared batch.now.declared.now ≡ group_view self.old }
-        requires batch { HasNumbers batch.now }
+        requires batch { IsPutBatch batch.now }
         requires rows { length places.now ≡ batch.now.rows }
-        requires room { (put : ℕ → Update) × (puts : List Update)
-            × AreAtPlaces self.old.spans.items batch.now places.now put × Has self.old puts
-            × HasRoomForRows (group_view self.old) put puts batch.now.rows }
-        ensures has { (put : ℕ → Update)
-            → AreAtPlaces self.old.spans.items batch.now places.now put
-            → (puts : List Update) → Has self.old puts
-            → Has self.new (puts_after put puts batch.now.rows) }
-        ensures spans { self.new.spans.items ≡ self.old.spans.items }
+        requires at { AreAtPlaces self.old.spans.items batch.now places.now }
+        requires room { (puts : List Update) × Has self.old puts
+            × HasRoomForRows (group_view self.old) (put_in batch.now) puts batch.now.rows }
+        ensures has { (puts : List Update) → Has self.old puts
+            → Has self.new (puts_after (put_in batch.now) puts batch.now.rows) }
         ensures group { group_view self.new ≡ group_view self.old }
     {
         take_batch(
@@ -100,12 +101,69 @@ impl PlacedStore {
     }
 }
 
+impl PlacedStore {
+    // The rows of a plain group.
+    fn plain_rows(self) -> Result<GroupRows, AllocError>
+        requires { self.rest.shape ≡ Plain }
+        ensures { IfOk result (λ rows. (puts : List Update) → Has self puts
+            → AreRows (group_view self) puts rows) }
+    {
+        let total = self.plain_total();
+        let PlacedStore {
+            rest,
+            spans,
+            seen,
+            cells,
+        } = self;
+        let base = rest.rows;
+        let aggregates = rest.aggregates.as_slice();
+        list_rows(
+            rest.alloc,
+            base,
+            &total,
+            spans.as_slice(),
+            seen.as_slice(),
+            cells.as_slice(),
+            aggregates,
+        )
+    }
+
+    // The rows of a cube or a rollup.
+    fn all_rows(self) -> Result<GroupRows, AllocError>
+        ensures { IfOk result (λ rows. (puts : List Update) → Has self puts
+            → AreRows (group_view self) puts rows) }
+    {
+        let total = self.whole_total();
+        let PlacedStore {
+            rest,
+            spans,
+            seen,
+            cells,
+        } = self;
+        let mut rows = rest.rows;
+        let aggregates = rest.aggregates.as_slice();
+        add_places(
+            &mut rows,
+            spans.as_slice(),
+            seen.as_slice(),
+            cells.as_slice(),
+            aggregates,
+        )?;
+        rows_of_base(
+            rest.alloc,
+            rows,
+            &total,
+            rest.shape,
+            rest.key_count,
+            aggregates,
+        )
+    }
+}
+
 impl GroupStore for PlacedStore {
     ghost group = { group_view };
 
     ghost has = { Has };
-
-    ghost has_place = { HasPlace };
 
     fn new(alloc: Global, declared: &GroupDecl) -> Result<PlacedStore, AllocError> {
         PlacedStore::for_ranges(alloc, declared, &[])
@@ -135,7 +193,11 @@ impl GroupStore for PlacedStore {
         }
     }
 
+    // Where keys have but one place, few rows have it, and each is put by itself.
     fn put_batch(&mut self, batch: &PutBatch<'_>) -> Result<(), AllocError> {
+        if self.seen.len() == 1 && !batch.keys.is_empty() {
+            return self.put_rows(batch);
+        }
         let mut places = [0; 1024];
         let at = &mut places[..batch.rows];
         if !find_places(self.spans.as_slice(), batch, at) {
@@ -143,15 +205,6 @@ impl GroupStore for PlacedStore {
         }
         self.put_at(batch, at);
         Ok(())
-    }
-
-    fn place_of(&self, keys: &[KeyValue]) -> Option<u32> {
-        let place = place_of(self.spans.as_slice(), keys)?;
-        Some(place as u32)
-    }
-
-    fn put_batch_at(&mut self, batch: &PutBatch<'_>, places: &[u32]) {
-        self.put_at(batch, places);
     }
 
     fn total(&self, aggregate: usize) -> Option<i128> {
@@ -162,29 +215,9 @@ impl GroupStore for PlacedStore {
     }
 
     fn into_rows(self) -> Result<GroupRows, AllocError> {
-        let total = self.whole_total();
-        let PlacedStore {
-            rest,
-            spans,
-            seen,
-            cells,
-        } = self;
-        let mut rows = rest.rows;
-        let aggregates = rest.aggregates.as_slice();
-        add_places(
-            &mut rows,
-            spans.as_slice(),
-            seen.as_slice(),
-            cells.as_slice(),
-            aggregates,
-        )?;
-        rows_of_base(
-            rest.alloc,
-            rows,
-            &total,
-            rest.shape,
-            rest.key_count,
-            aggregates,
-        )
+        match self.rest.shape {
+            Shape::Plain => self.plain_rows(),
+            Shape::Cube | Shape::Rollup => self.all_rows(),
+        }
     }
 }

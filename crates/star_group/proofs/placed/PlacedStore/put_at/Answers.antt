@@ -1,6 +1,7 @@
 use Rattle.std.proofs.Common.{◌≡◌, ◌*◌, ap, arith, get_or, length, sym, ◌∙◌}
 use Rattle.std.specs.Vec.{with_items}
 use Rattle.std.proofs.lemmas.List.{with_items_is}
+use Rattle.star_group.specs.Batches.{put_in}
 use Rattle.star_group.specs.ByPlace.{IsPlaced}
 use Rattle.star_group.specs.Entries.{entries_of}
 use Rattle.star_group.specs.Placed.{group_view}
@@ -11,11 +12,10 @@ use Rattle.star_group.proofs.placed.PlacedStore.put_at.Goals as goal
 pub take_batch-requires-clause-within : goal.take_batch-requires-clause-within
 take_batch-requires-clause-within c = λ row h.
     let s = c.args.self.now in
-    let room = c.requires.room in
     omega (
       arith,
-      within s.spans.items (room.0 row).keys (get_or c.args.places.now row 0)
-          (room.2.keys row (omega (arith, h, c.requires.rows))),
+      within s.spans.items (put_in c.args.batch.now row).keys (get_or c.args.places.now row 0)
+          (c.requires.at row (omega (arith, h, c.requires.rows))),
       s.marks,
       ap length c.as_mut_slice-2.ensures.value,
     )
@@ -39,7 +39,7 @@ invariant_of-self-2 c =
       marks = seen ∙ s.marks;
       long = ap length filled ∙ c.take_batch.ensures.len ∙ ap length numbers ∙ s.long
           ∙ ap (λ n. length s.rest.aggregates.items * n) (sym seen);
-      room = batch_room (group_view s) room.0 b.rows room.1
+      room = batch_room (group_view s) (put_in b) b.rows room.0
           (λ us. IsPlaced (group_view s) s.spans.items s.seen.items s.cells.items
           (entries_of s.rest.rows) s.rest.total us)
           (λ us. IsPlaced (group_view s) s.spans.items
@@ -50,15 +50,15 @@ invariant_of-self-2 c =
           s.rest.aggregates.items s.spans.items s.seen.items c.as_mut_slice-2.result.now
           c.take_batch.new.seen (with_items s.seen c.take_batch.new.seen).items
           s.cells.items c.as_mut_slice.result.now c.take_batch.new.cells
-          (with_items s.cells c.take_batch.new.cells).items b room.0 c.args.places.now
+          (with_items s.cells c.take_batch.new.cells).items b c.args.places.now
           (entries_of s.rest.rows) s.rest.total us
-          s.keys c.as_slice.ensures.value marks numbers room.2 c.take_batch.ensures.takes written
-          filled placed)
-          room.3 room.4 s.room;
+          s.keys c.as_slice.ensures.value marks numbers c.requires.at c.take_batch.ensures.takes
+          written filled placed)
+          room.1 room.2 s.room;
     }
 
 pub returns-clause-has : goal.returns-clause-has
-returns-clause-has c = λ put are us has.
+returns-clause-has c = λ us has.
     let s = c.args.self.now in
     let b = c.args.batch.now in
     let written = with_items_is s.seen c.take_batch.new.seen
@@ -69,7 +69,8 @@ returns-clause-has c = λ put are us has.
     s.spans.items s.seen.items c.as_mut_slice-2.result.now c.take_batch.new.seen
     (with_items s.seen c.take_batch.new.seen).items
     s.cells.items c.as_mut_slice.result.now c.take_batch.new.cells
-    (with_items s.cells c.take_batch.new.cells).items b put c.args.places.now
+    (with_items s.cells c.take_batch.new.cells).items b c.args.places.now
     (entries_of s.rest.rows) s.rest.total us
-    s.keys c.as_slice.ensures.value c.as_mut_slice-2.ensures.value c.as_mut_slice.ensures.value are
+    s.keys c.as_slice.ensures.value c.as_mut_slice-2.ensures.value c.as_mut_slice.ensures.value
+    c.requires.at
     c.take_batch.ensures.takes written filled has

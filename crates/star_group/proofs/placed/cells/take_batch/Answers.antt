@@ -1,4 +1,5 @@
 use Rattle.std.proofs.Common.{length, refl}
+use Rattle.star_group.specs.Batches.{put_in}
 use Rattle.star_group.specs.Private.BasePut.{group_with}
 use Rattle.star_group.specs.Private.Taken.{batch_lanes}
 use Rattle.star_group.proofs.PlacedPuts.{batch_rows, can_take_all, placed_after}
@@ -10,16 +11,16 @@ take_lanes-requires-clause-stays c =
     let b = c.args.batch.now in
     let d = group_with can.shape (length can.spans) c.args.aggregates.now in
     can_take_all d can.spans c.args.seen.now c.args.cells.now can.entries can.all can.puts
-    can.placed can.put c.args.at.now (batch_lanes b) b.rows
-    (batch_rows d can.spans b can.put c.args.at.now c.requires.rows can.are refl
+    can.placed (put_in b) c.args.at.now (batch_lanes b) b.rows
+    (batch_rows d can.spans b c.args.at.now c.requires.rows can.are refl
     c.lanes_are_narrow.ensures) c.requires.long c.requires.within can.room
 
 pub returns-clause-takes : goal.returns-clause-takes
-returns-clause-takes c = λ shape spans put are entries all puts placed.
+returns-clause-takes c = λ shape spans are entries all puts placed.
     let b = c.args.batch.now in
     let d = group_with shape (length spans) c.args.aggregates.now in
-    placed_after d spans c.args.seen.now c.args.cells.now entries all puts placed put c.args.at.now
+    placed_after d spans c.args.seen.now c.args.cells.now entries all puts placed (put_in b) c.args.at.now
     (batch_lanes b) b.rows
-    (batch_rows d spans b put c.args.at.now c.requires.rows are refl c.lanes_are_narrow.ensures)
+    (batch_rows d spans b c.args.at.now c.requires.rows are refl c.lanes_are_narrow.ensures)
     c.requires.long c.mark.new.seen c.take_lanes.new.cells c.mark.ensures.seen
     c.take_lanes.ensures

@@ -13,11 +13,10 @@ loop-aggregate-preserved c =
     let places = c.args.places in
     let n = c.loop-aggregate.aggregate-index in
     let old = c.loop-aggregate.cells.items in
-    let new = c.extend_from_slice.new.self.items in
-    let row = c.as_slice.result.now in
-    let blank = c.as_slice.ensures.value ∙ c.in_ok-column.ensures in
-    let wide : length row ≡ places = ap length blank ∙ length-replicate places _ in
-    let is : new ≡ old ++ row = c.in_ok-extend_from_slice.ensures.items in
+    let new = c.add_blank_column.new.cells.items in
+    let row = replicate places (neutral (get_or c.args.aggregates.now n Sum)) in
+    let wide : length row ≡ places = length-replicate places _ in
+    let is : new ≡ old ++ row = c.in_ok-add_blank_column.ensures in
     let rows = cut_one places n old new row c.loop-aggregate.invariant.len wide is in
     record {
       cells = below_more _ _
@@ -26,7 +25,7 @@ loop-aggregate-preserved c =
           (omega (arith, h, length-cut places n old)) ∙ c.loop-aggregate.invariant.cells a h)
           (ap (λ rs. get_or rs n []) rows
           ∙ ap (λ m. get_or (cut places n old ++ row ∷ []) m []) (sym (length-cut places n old))
-          ∙ get_or-append_seam (cut places n old) row [] [] ∙ blank
+          ∙ get_or-append_seam (cut places n old) row [] []
           ∙ ap (λ g. replicate places (neutral g))
           (get_or_default c.args.aggregates.now n Sum Count c.loop-aggregate-test.true));
       len = more_long places n old new row c.loop-aggregate.invariant.len wide is;

@@ -1,4 +1,4 @@
-use Rattle.std.proofs.Common.{◌+◌, ◌*◌, ◌∷◌, [], ◌∙◌, ap, arith, length, length-append, sym}
+use Rattle.std.proofs.Common.{◌+◌, ◌*◌, ◌^◌, ◌∷◌, [], ◌∙◌, ap, arith, length, length-append, sym}
 use Rattle.std.proofs.lemmas.Nat.{le-div}
 use Rattle.star_group.specs.Places.{places}
 use Rattle.star_group.proofs.SpanPlaces.{places_more, room_left}
@@ -13,7 +13,7 @@ loop-index-preserved c =
     record {
       count = ap (λ n. n * size) c.loop-index.invariant.count
           ∙ sym (places_more c.loop-index.spans.items span) ∙ sym (ap places pushed);
-      room = room_left c.loop-index.count size left c.loop-index.invariant.room;
+      room = room_left c.loop-index.count size left (2 ^ 28) c.loop-index.invariant.room;
       some = le-div 1 left size (omega arith) (omega (arith, c.span_of-span.ensures.last));
       keys = ap length pushed ∙ length-append c.loop-index.spans.items (span ∷ [])
           ∙ ap (λ n. n + 1) c.loop-index.invariant.keys;

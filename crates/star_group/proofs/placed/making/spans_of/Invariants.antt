@@ -1,11 +1,11 @@
-use Rattle.std.proofs.Common.{◌≡◌, ◌≤◌, ◌<◌, ◌*◌, length}
+use Rattle.std.proofs.Common.{◌≡◌, ◌≤◌, ◌<◌, ◌*◌, ◌^◌, length}
 use Rattle.star_group.specs.Places.{places}
 use Rattle.star_group.proofs.placed.making.spans_of.Given as goal
 
 abbrev pub invariant-loop-index : goal.invariant-loop-index
 invariant-loop-index l = record {
   count : l.count ≡ places l.spans.items;
-  room : l.count * l.left ≤ 65536;
+  room : l.count * l.left ≤ 2 ^ 28;
   some : 0 < l.left;
   keys : length l.spans.items ≡ l.index;
 }

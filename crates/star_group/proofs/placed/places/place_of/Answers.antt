@@ -1,4 +1,4 @@
-use Rattle.std.proofs.Common.{◌≡◌, ◌<◌, ◌+◌, ◌-◌, MatchOption, suc, ap, arith, drop, get_or, length, pos, subst, sym, ◌∙◌}
+use Rattle.std.proofs.Common.{◌≡◌, ◌<◌, ◌+◌, ◌-◌, ◌^◌, MatchOption, suc, ap, arith, drop, get_or, length, pos, subst, sym, ◌∙◌}
 use Rattle.star_program.specs.declared.key.KeyValue.TheVariants.{Number}
 use Rattle.star_group.specs.Places as spec
 use Rattle.star_group.proofs.SpanPlaces.{if_within, more, none_left, small}
@@ -6,8 +6,8 @@ use Rattle.star_group.proofs.placed.places.place_of.Goals as goal
 
 pub above-place-requires : goal.above-place-requires
 above-place-requires c =
-    subst (λ r. MatchOption r (Unit {0}) (λ p. p < 65536)) (sym c.loop-index.invariant.behind)
-    (small c.args.spans.now c.args.keys.now c.loop-index.index c.loop-index.index 65536
+    subst (λ r. MatchOption r (Unit {0}) (λ p. p < 2 ^ 28)) (sym c.loop-index.invariant.behind)
+    (small c.args.spans.now c.args.keys.now c.loop-index.index c.loop-index.index (2 ^ 28)
     c.requires.few)
 
 pub loop-index-init : goal.loop-index-init
