@@ -1,7 +1,10 @@
 -- A fact of code that holds of a turn, instruction by instruction: of a piece where it holds of
--- what
--- follows the piece.
-use Rattle.std.proofs.Common.{◌≡◌, ℕ, Bool, true, false, List, [], ◌∷◌, Option, Some, None, refl, ap, ◌∙◌}
+-- what follows the piece.
+use Rattle.std.proofs.Common.{◌≡◌, ℕ, Bool, true, false, List, [], ◌∷◌, Option, Some, None, All, refl}
+use Rattle.std.specs.Prelude.{ℤ, pos, ◌+ℤ◌, ◌&&◌}
+use Rattle.std.specs.List.{list_all}
+use Rattle.std.proofs.lemmas.Bool.{and_from, and_parts}
+use Rattle.std.proofs.lemmas.List.Elements.{All-nil, All-cons}
 use Rattle.star_schema.specs.declared.table.TableId.{TableId}
 use Rattle.star_schema.specs.declared.table.TableId.TheVariants.{Lineorder}
 use Rattle.star_schema.specs.declared.column.ColumnId.{ColumnId}
@@ -9,212 +12,320 @@ use Rattle.star_schema.specs.Schema.{is_table, table_of}
 use Rattle.star_schema.specs.Tables.{Value, Number, Text}
 use Rattle.star_query.specs.declared.token.Relation.{Relation}
 use Rattle.star_query.specs.declared.token.Relation.TheVariants as sign
-use Rattle.star_plan.specs.declared.tree.Join.{Join}
+use Rattle.star_query.specs.Leaves.{of_operands, of_tests}
+use Rattle.star_query.specs.Spelled.{comparison_is_spelled}
 use Rattle.star_query.specs.Tree.{Expression, column, constant, add, sub, mul, or, and, not, test, compare, between, Measure, count, fold}
+use Rattle.star_plan.specs.declared.tree.Join.{Join}
 use Rattle.star_plan.specs.Meaning.{Plan, RowCondition}
-use Rattle.star_program.specs.declared.op.Edge.TheVariants.{High}
+use Rattle.star_program.specs.declared.op.Edge.{Edge}
+use Rattle.star_program.specs.declared.op.Edge.TheVariants.{High, Low}
 use Rattle.star_program.specs.declared.op.Op.TheVariants.{Assign, Keep, Put}
 use Rattle.star_program.specs.declared.op.Operation.{Operation}
-use Rattle.star_program.specs.declared.op.Operation.TheVariants.{Binary, Const, Edge, Find, Load, Not, Within}
+use Rattle.star_program.specs.declared.op.Operation.TheVariants.{Binary, Const, Edge as edge_of, Find, Load, Not, Read, Within}
 use Rattle.star_program.specs.declared.op.Operator.{Operator}
 use Rattle.star_program.specs.declared.op.Operator.TheVariants as operator
 use Rattle.star_program.specs.Code.{Code, Stop, Then}
-use Rattle.star_compile_laws.specs.Compiled.{Env, Rest, Rests, one_before, beside, between_code, binary_code, column_code, column_from, condition_code, conjuncts_code}
-use Rattle.star_compile_laws.specs.Compiled.{end_behind, env_first, equal_code, expression_code, fact_code, find_code, foreign_of, found_in, keys_code, load_code, loaded_in}
-use Rattle.star_compile_laws.specs.Compiled.{one_more, place_code, put_code, row_code, start_of, test_code, turn_code, values_code, with_found, with_loaded, write}
+use Rattle.star_compile_laws.specs.Compiled.{Env, Rest, Rests, one_before, beside, between_code, binary_code, column_code, column_from, condition_code, conjuncts_code, end_behind, env_first, equal_code, expression_code, fact_code, find_code, foreign_of, found_in, keys_code, load_code, loaded_in, one_more, place_code, put_code, row_code, start_of, test_code, turn_code, values_code, with_found, with_loaded, write}
 
--- an operation that neither loads a column nor finds a row
-abbrev pub is_plain : Operation → Bool
-is_plain (Const z) = true
-is_plain (Edge e c t) = true
-is_plain (Binary o l r) = true
-is_plain (Within x a b) = true
-is_plain (Not f) = true
-is_plain _ = false
+-- the values of a condition, and the numbers of an expression, pass a test
+abbrev pub condition_passes : (Value → Bool) → RowCondition → Bool
+condition_passes ok c = of_tests (comparison_is_spelled (λ c. true) ok) (λ b. b) ◌&&◌ c
 
--- a fact of some code and of what is known where it stands. A column is loaded where it is not
--- loaded yet, and a row found where it is not found yet; `Unseen` is what the fact asks of a column
--- that is loaded
-pub record IsCarried (js : List Join) (Fact : Env → Code → Type 0)
-    (Unseen : Env → ColumnId → Type 0) : Type 0 where
-  pub plain : (env : Env) (o : Operation) (rest : Code) → is_plain o ≡ true
-      → Fact (one_more env) rest → Fact env (Then (Assign env.next o) rest)
-  pub load : (env : Env) (c : ColumnId) (row : ℕ) (rest : Code) → Unseen env c
-      → Fact (with_loaded env c) rest → Fact env (Then (Assign env.next (Load c row)) rest)
-  pub find : (env : Env) (t : TableId) (key : ℕ) (rest : Code) → found_in env.found t ≡ None
-      → Fact (with_found env t) rest → Fact env (Then (Assign env.next (Find t key)) rest)
-  pub keep : (env : Env) (flag : ℕ) (rest : Code) → Fact env rest
+abbrev pub expression_passes : (Value → Bool) → Expression ColumnId → Bool
+expression_passes ok e = of_operands (λ c. true) (λ z. ok (Number z)) ◌&&◌ e
+
+abbrev pub measure_passes : (Value → Bool) → Measure ColumnId → Bool
+measure_passes ok count = true
+measure_passes ok (fold f e) = expression_passes ok e
+
+-- a fact of some code and of what is known where it stands; what is known of a register that was
+-- written, what makes an operation good, and which values are sound
+pub record Carrier : Type 1 where
+  pub Fact : Env → Code → Type 0
+  pub Known : ℕ → Type 0
+  pub Good : Operation → Type 0
+  pub sound : Value → Bool
+  pub written : (env : Env) (o : Operation) (rest : Code) → Good o
+      → (Known env.next → Fact (one_more env) rest) → Fact env (Then (Assign env.next o) rest)
+  pub load : (env : Env) (c : ColumnId) (row : ℕ) (rest : Code) → Known row
+      → (Known env.next → Fact (with_loaded env c) rest)
+      → Fact env (Then (Assign env.next (Load c row)) rest)
+  pub find : (env : Env) (t : TableId) (key : ℕ) (rest : Code) → Known key
+      → (Known env.next → Fact (with_found env t) rest)
+      → Fact env (Then (Assign env.next (Find t key)) rest)
+  pub keep : (env : Env) (flag : ℕ) (rest : Code) → Known flag → Fact env rest
       → Fact env (Then (Keep flag) rest)
-  pub put : (env : Env) (keys values : List ℕ) → Fact env (Then (Put 0 keys values) Stop)
-  pub unseen : (env : Env) (c : ColumnId) → loaded_in env.loaded c ≡ None → Unseen env c
-  pub still : (env : Env) (c : ColumnId) → is_table (table_of c) Lineorder ≡ false
-      → Unseen env c → Unseen (with_loaded env (foreign_of js (table_of c))) c
-  pub found : (env : Env) (t : TableId) (c : ColumnId) → Unseen env c
-      → Unseen (with_found env t) c
+  pub put : (env : Env) (keys values : List ℕ) → All Known keys → All Known values
+      → Fact env (Then (Put 0 keys values) Stop)
+  pub loaded : (env : Env) (c : ColumnId) (r : ℕ) (code : Code) → loaded_in env.loaded c ≡ Some r
+      → (Known r → Fact env code) → Fact env code
+  pub found : (env : Env) (t : TableId) (r : ℕ) (code : Code) → found_in env.found t ≡ Some r
+      → (Known r → Fact env code) → Fact env code
+  pub fact_row : Known 0
+  pub const : (z : ℤ) → sound (Number z) ≡ true → Good (Const z)
+  pub next : (z : ℤ) → sound (Number z) ≡ true → Good (Const (z +ℤ pos 1))
+  pub edge : (e : Edge) (c : ColumnId) (t : List ℕ) → sound (Text t) ≡ true
+      → Good (edge_of e c t)
+  pub binary : (o : Operator) (l r : ℕ) → Known l → Known r → Good (Binary o l r)
+  pub within : (x a b : ℕ) → Known x → Known a → Known b → Good (Within x a b)
+  pub negated : (f : ℕ) → Known f → Good (Not f)
 
-module _ (js : List Join) (Fact : Env → Code → Type 0) (Unseen : Env → ColumnId → Type 0)
-    (carried : IsCarried js Fact Unseen) where
-  -- the fact holds of what follows
-  abbrev Follows : {A : Type 0} → (Env → A → Code) → Type 0
-  Follows {A} k = (e : Env) (x : A) → Fact e (k e x)
+module _ (it : Carrier) (js : List Join) where
+  -- the fact holds of what follows, whatever result of this kind it is given
+  abbrev Follows : {A : Type 0} → (A → Type 0) → (Env → A → Code) → Type 0
+  Follows {A} Fine k = (e : Env) (x : A) → Fine x → it.Fact e (k e x)
 
   -- and so of a piece before it
-  abbrev Carries : {A : Type 0} → (Env → (Env → A → Code) → Code) → Type 0
-  Carries {A} piece = (env : Env) (k : Env → A → Code) → Follows k → Fact env (piece env k)
+  abbrev Carries : {A : Type 0} → (A → Type 0) → (Env → (Env → A → Code) → Code) → Type 0
+  Carries {A} Fine piece =
+      (env : Env) (k : Env → A → Code) → Follows Fine k → it.Fact env (piece env k)
 
-  of_write : (o : Operation) → is_plain o ≡ true → Carries (write o)
-  of_write o plain env k h =
-      carried.plain env o (k (one_more env) env.next) plain (h (one_more env) env.next)
+  of_write : (o : Operation) → it.Good o → Carries it.Known (write o)
+  of_write o good env k h =
+      it.written env o (k (one_more env) env.next) good (h (one_more env) env.next)
 
-  of_binary : (left right : Env → Rest → Code) (o : Operator) → Carries left → Carries right
-      → Carries (binary_code left right o)
+  of_binary : (left right : Env → Rest → Code) (o : Operator) → Carries it.Known left
+      → Carries it.Known right → Carries it.Known (binary_code left right o)
   of_binary left right o f g env k h =
       f env (λ e x. right e (λ e y. write (Binary o x y) e k))
-      (λ e x. g e (λ e y. write (Binary o x y) e k) (λ e y. of_write (Binary o x y) refl e k h))
+      (λ e x at_x. g e (λ e y. write (Binary o x y) e k)
+      (λ e y at_y. of_write (Binary o x y) (it.binary o x y at_x at_y) e k h))
 
-  of_before : (first : Env → Rest → Code) (others : Env → Rests → Code) → Carries first
-      → Carries others → Carries (one_before first others)
+  of_before : (first : Env → Rest → Code) (others : Env → Rests → Code) → Carries it.Known first
+      → Carries (All it.Known) others → Carries (All it.Known) (one_before first others)
   of_before first others f g env k h =
       f env (λ e x. others e (λ e xs. k e (x ∷ xs)))
-      (λ e x. g e (λ e xs. k e (x ∷ xs)) (λ e xs. h e (x ∷ xs)))
+      (λ e x at. g e (λ e xs. k e (x ∷ xs))
+      (λ e xs all. h e (x ∷ xs) (All-cons it.Known x xs at all)))
 
-  of_beside : (o : Operation) (used : ℕ → Operation) → is_plain o ≡ true
-      → ((n : ℕ) → is_plain (used n) ≡ true) → Carries (beside o used)
+  -- ---- tests
+
+  of_beside : (o : Operation) (used : ℕ → Operation) → it.Good o
+      → ((n : ℕ) → it.Known n → it.Good (used n)) → Carries it.Known (beside o used)
   of_beside o used first second env k h =
       of_write o first env (λ e n. write (used n) e k)
-      (λ e n. of_write (used n) (second n) e k h)
+      (λ e n at. of_write (used n) (second n at) e k h)
 
-  start_plain : (c : ColumnId) (v : Value) → is_plain (start_of c v) ≡ true
-  start_plain c (Number a) = refl
-  start_plain c (Text t) = refl
+  start_good : (c : ColumnId) (v : Value) → it.sound v ≡ true → it.Good (start_of c v)
+  start_good c (Number a) ok = it.const a ok
+  start_good c (Text t) ok = it.edge Low c t ok
 
-  end_plain : (c : ColumnId) (v : Value) → is_plain (end_behind c v) ≡ true
-  end_plain c (Number a) = refl
-  end_plain c (Text t) = refl
+  end_good : (c : ColumnId) (v : Value) → it.sound v ≡ true → it.Good (end_behind c v)
+  end_good c (Number a) ok = it.next a ok
+  end_good c (Text t) ok = it.edge High c t ok
 
-  of_between : (c : ColumnId) (x : ℕ) (a b : Value) → Carries (between_code c x a b)
-  of_between c x a b env k h =
-      of_write (start_of c a) (start_plain c a) env
+  of_between : (c : ColumnId) (x : ℕ) (a b : Value) → it.sound a ≡ true → it.sound b ≡ true
+      → it.Known x → Carries it.Known (between_code c x a b)
+  of_between c x a b ok_a ok_b at env k h =
+      of_write (start_of c a) (start_good c a ok_a) env
       (λ e m. beside (end_behind c b) (λ n. Within x m n) e k)
-      (λ e m. of_beside (end_behind c b) (λ n. Within x m n) (end_plain c b) (λ n. refl) e k h)
+      (λ e m from. of_beside (end_behind c b) (λ n. Within x m n) (end_good c b ok_b)
+      (λ n upto. it.within x m n at from upto) e k h)
 
-  of_equal : (c : ColumnId) (x : ℕ) (v : Value) → Carries (equal_code c x v)
-  of_equal c x (Number a) env k h =
-      of_beside (Const a) (λ n. Binary operator.Equal x n) refl (λ n. refl) env k h
-  of_equal c x (Text t) env k h = of_between c x (Text t) (Text t) env k h
+  -- an operator on a register and a bound, in either order
+  before_bound : (o : Operator) (edge : Operation) (x : ℕ) → it.Good edge → it.Known x
+      → Carries it.Known (beside edge (λ n. Binary o x n))
+  before_bound o edge x good at =
+      of_beside edge (λ n. Binary o x n) good (λ n bound. it.binary o x n at bound)
 
-  of_test : (s : Relation) (c : ColumnId) (x : ℕ) (v : Value) → Carries (test_code s c x v)
-  of_test sign.Equal c x v env k h = of_equal c x v env k h
-  of_test sign.Unequal c x v env k h =
-      of_equal c x v env (λ e y. write (Not y) e k) (λ e y. of_write (Not y) refl e k h)
-  of_test sign.Less c x v env k h =
-      of_beside (start_of c v) (λ n. Binary operator.Less x n) (start_plain c v) (λ n. refl) env k h
-  of_test sign.AtMost c x (Number a) env k h =
-      of_beside (Const a) (λ n. Binary operator.LessOrEqual x n) refl (λ n. refl) env k h
-  of_test sign.AtMost c x (Text t) env k h =
-      of_beside (Edge High c t) (λ n. Binary operator.Less x n) refl (λ n. refl) env k h
-  of_test sign.Greater c x (Number a) env k h =
-      of_beside (Const a) (λ n. Binary operator.Less n x) refl (λ n. refl) env k h
-  of_test sign.Greater c x (Text t) env k h =
-      of_beside (Edge High c t) (λ n. Binary operator.LessOrEqual n x) refl (λ n. refl) env k h
-  of_test sign.AtLeast c x v env k h =
-      of_beside (start_of c v) (λ n. Binary operator.LessOrEqual n x) (start_plain c v) (λ n. refl)
-      env k h
+  after_bound : (o : Operator) (edge : Operation) (x : ℕ) → it.Good edge → it.Known x
+      → Carries it.Known (beside edge (λ n. Binary o n x))
+  after_bound o edge x good at =
+      of_beside edge (λ n. Binary o n x) good (λ n bound. it.binary o n x bound at)
 
-  -- a column of a dimension is still not loaded where its row is found
-  of_fact : (c : ColumnId) → is_table (table_of c) Lineorder ≡ false → (env : Env) (k : Rest)
-      (o : Option ℕ) → loaded_in env.loaded (foreign_of js (table_of c)) ≡ o → Unseen env c
-      → ((e : Env) (r : ℕ) → e.found ≡ env.found → Unseen e c → Fact e (k e r))
-      → Fact env (fact_code (foreign_of js (table_of c)) env k o)
-  of_fact c away env k (Some r) known unseen h = h env r refl unseen
-  of_fact c away env k None known unseen h =
-      let f = foreign_of js (table_of c) in
-      carried.load env f 0 (k (with_loaded env f) env.next) (carried.unseen env f known)
-      (h (with_loaded env f) env.next refl (carried.still env c away unseen))
+  of_equal : (c : ColumnId) (x : ℕ) (v : Value) → it.sound v ≡ true → it.Known x
+      → Carries it.Known (equal_code c x v)
+  of_equal c x (Number a) ok at env k h =
+      before_bound operator.Equal (Const a) x (it.const a ok) at env k h
+  of_equal c x (Text t) ok at env k h = of_between c x (Text t) (Text t) ok ok at env k h
 
-  of_row : (c : ColumnId) → is_table (table_of c) Lineorder ≡ false → (env : Env) (k : Rest)
-      (o : Option ℕ) → found_in env.found (table_of c) ≡ o → Unseen env c
-      → ((e : Env) (r : ℕ) → Unseen e c → Fact e (k e r))
-      → Fact env (row_code js (table_of c) env k o)
-  of_row c away env k (Some r) known unseen h = h env r unseen
-  of_row c away env k None known unseen h =
-      let t = table_of c in
-      of_fact c away env (λ e r. find_code t r e k) (loaded_in env.loaded (foreign_of js t)) refl
-      unseen
-      (λ e r same unseen.
-      carried.find e t r (k (with_found e t) e.next) (ap (λ l. found_in l t) same ∙ known)
-      (h (with_found e t) e.next (carried.found e t c unseen)))
+  of_test : (s : Relation) (c : ColumnId) (x : ℕ) (v : Value) → it.sound v ≡ true → it.Known x
+      → Carries it.Known (test_code s c x v)
+  of_test sign.Equal c x v ok at env k h = of_equal c x v ok at env k h
+  of_test sign.Unequal c x v ok at env k h =
+      of_equal c x v ok at env (λ e y. write (Not y) e k)
+      (λ e y flag. of_write (Not y) (it.negated y flag) e k h)
+  of_test sign.Less c x v ok at env k h =
+      before_bound operator.Less (start_of c v) x (start_good c v ok) at env k h
+  of_test sign.AtMost c x (Number a) ok at env k h =
+      before_bound operator.LessOrEqual (Const a) x (it.const a ok) at env k h
+  of_test sign.AtMost c x (Text t) ok at env k h =
+      before_bound operator.Less (edge_of High c t) x (it.edge High c t ok) at env k h
+  of_test sign.Greater c x (Number a) ok at env k h =
+      after_bound operator.Less (Const a) x (it.const a ok) at env k h
+  of_test sign.Greater c x (Text t) ok at env k h =
+      after_bound operator.LessOrEqual (edge_of High c t) x (it.edge High c t ok) at env k h
+  of_test sign.AtLeast c x v ok at env k h =
+      after_bound operator.LessOrEqual (start_of c v) x (start_good c v ok) at env k h
 
-  of_place : (c : ColumnId) (env : Env) (k : Rest) (b : Bool)
-      → is_table (table_of c) Lineorder ≡ b → Unseen env c → Follows k
-      → Fact env (place_code js c env k b)
-  of_place c env k true at unseen h =
-      carried.load env c 0 (k (with_loaded env c) env.next) unseen (h (with_loaded env c) env.next)
-  of_place c env k false at unseen h =
-      of_row c at env (λ e r. load_code c r e k) (found_in env.found (table_of c)) refl unseen
-      (λ e r unseen. carried.load e c r (k (with_loaded e c) e.next) unseen
-      (h (with_loaded e c) e.next))
+  -- ---- columns
+
+  of_load : (c : ColumnId) (row : ℕ) → it.Known row → Carries it.Known (load_code c row)
+  of_load c row at env k h =
+      it.load env c row (k (with_loaded env c) env.next) at (h (with_loaded env c) env.next)
+
+  of_find : (t : TableId) (key : ℕ) → it.Known key → Carries it.Known (find_code t key)
+  of_find t key at env k h =
+      it.find env t key (k (with_found env t) env.next) at (h (with_found env t) env.next)
+
+  of_fact : (c : ColumnId) (env : Env) (k : Rest) (o : Option ℕ) → loaded_in env.loaded c ≡ o
+      → Follows it.Known k → it.Fact env (fact_code c env k o)
+  of_fact c env k (Some r) e h = it.loaded env c r (k env r) e (h env r)
+  of_fact c env k None e h = of_load c 0 it.fact_row env k h
+
+  of_row : (t : TableId) (env : Env) (k : Rest) (o : Option ℕ) → found_in env.found t ≡ o
+      → Follows it.Known k → it.Fact env (row_code js t env k o)
+  of_row t env k (Some r) e h = it.found env t r (k env r) e (h env r)
+  of_row t env k None e h =
+      of_fact (foreign_of js t) env (λ e r. find_code t r e k)
+      (loaded_in env.loaded (foreign_of js t)) refl (λ e r at. of_find t r at e k h)
+
+  of_place : (c : ColumnId) (env : Env) (k : Rest) (b : Bool) → Follows it.Known k
+      → it.Fact env (place_code js c env k b)
+  of_place c env k true h = of_load c 0 it.fact_row env k h
+  of_place c env k false h =
+      of_row (table_of c) env (λ e r. load_code c r e k) (found_in env.found (table_of c)) refl
+      (λ e r at. of_load c r at e k h)
 
   of_column_from : (c : ColumnId) (env : Env) (k : Rest) (o : Option ℕ)
-      → loaded_in env.loaded c ≡ o → Follows k → Fact env (column_from js c env k o)
-  of_column_from c env k (Some r) known h = h env r
-  of_column_from c env k None known h =
-      of_place c env k (is_table (table_of c) Lineorder) refl (carried.unseen env c known) h
+      → loaded_in env.loaded c ≡ o → Follows it.Known k → it.Fact env (column_from js c env k o)
+  of_column_from c env k (Some r) e h = it.loaded env c r (k env r) e (h env r)
+  of_column_from c env k None e h = of_place c env k (is_table (table_of c) Lineorder) h
 
-  of_column : (c : ColumnId) → Carries (column_code js c)
+  of_column : (c : ColumnId) → Carries it.Known (column_code js c)
   of_column c env k h = of_column_from c env k (loaded_in env.loaded c) refl h
 
-  of_condition : (c : RowCondition) → Carries (condition_code js c)
-  of_condition (or a b) env k h =
-      of_binary (condition_code js a) (condition_code js b) operator.Or (of_condition a)
-      (of_condition b) env k h
-  of_condition (and a b) env k h =
-      of_binary (condition_code js a) (condition_code js b) operator.And (of_condition a)
-      (of_condition b) env k h
-  of_condition (not a) env k h =
-      of_condition a env (λ e x. write (Not x) e k) (λ e x. of_write (Not x) refl e k h)
-  of_condition (test (compare c s v)) env k h =
-      of_column c env (λ e x. test_code s c x v e k) (λ e x. of_test s c x v e k h)
-  of_condition (test (between c a b)) env k h =
-      of_column c env (λ e x. between_code c x a b e k) (λ e x. of_between c x a b e k h)
+  -- ---- conditions and expressions
 
-  of_expression : (a : Expression ColumnId) → Carries (expression_code js a)
-  of_expression (column c) env k h = of_column c env k h
-  of_expression (constant z) env k h = of_write (Const z) refl env k h
-  of_expression (add a b) env k h =
-      of_binary (expression_code js a) (expression_code js b) operator.Add (of_expression a)
-      (of_expression b) env k h
-  of_expression (sub a b) env k h =
-      of_binary (expression_code js a) (expression_code js b) operator.Sub (of_expression a)
-      (of_expression b) env k h
-  of_expression (mul a b) env k h =
-      of_binary (expression_code js a) (expression_code js b) operator.Mul (of_expression a)
-      (of_expression b) env k h
+  of_condition : (c : RowCondition) → condition_passes it.sound c ≡ true
+      → Carries it.Known (condition_code js c)
+  of_condition (or a b) ok env k h =
+      let parts = and_parts (condition_passes it.sound a) (condition_passes it.sound b) ok in
+      of_binary (condition_code js a) (condition_code js b) operator.Or (of_condition a parts.0)
+      (of_condition b parts.1) env k h
+  of_condition (and a b) ok env k h =
+      let parts = and_parts (condition_passes it.sound a) (condition_passes it.sound b) ok in
+      of_binary (condition_code js a) (condition_code js b) operator.And (of_condition a parts.0)
+      (of_condition b parts.1) env k h
+  of_condition (not a) ok env k h =
+      of_condition a ok env (λ e x. write (Not x) e k)
+      (λ e x at. of_write (Not x) (it.negated x at) e k h)
+  of_condition (test (compare c s v)) ok env k h =
+      of_column c env (λ e x. test_code s c x v e k) (λ e x at. of_test s c x v ok at e k h)
+  of_condition (test (between c a b)) ok env k h =
+      let parts = and_parts (it.sound a) (it.sound b) ok in
+      of_column c env (λ e x. between_code c x a b e k)
+      (λ e x at. of_between c x a b parts.0 parts.1 at e k h)
 
-  of_conjuncts : (cs : List RowCondition) (env : Env) (k : Env → Code)
-      → ((e : Env) → Fact e (k e)) → Fact env (conjuncts_code js cs env k)
-  of_conjuncts [] env k h = h env
-  of_conjuncts (c ∷ cs) env k h =
-      of_condition c env (λ e x. Then (Keep x) (conjuncts_code js cs e k))
-      (λ e x. carried.keep e x (conjuncts_code js cs e k) (of_conjuncts cs e k h))
+  of_expression : (a : Expression ColumnId) → expression_passes it.sound a ≡ true
+      → Carries it.Known (expression_code js a)
+  of_expression (column c) ok env k h = of_column c env k h
+  of_expression (constant z) ok env k h = of_write (Const z) (it.const z ok) env k h
+  of_expression (add a b) ok env k h =
+      let parts = and_parts (expression_passes it.sound a) (expression_passes it.sound b) ok in
+      of_binary (expression_code js a) (expression_code js b) operator.Add
+      (of_expression a parts.0) (of_expression b parts.1) env k h
+  of_expression (sub a b) ok env k h =
+      let parts = and_parts (expression_passes it.sound a) (expression_passes it.sound b) ok in
+      of_binary (expression_code js a) (expression_code js b) operator.Sub
+      (of_expression a parts.0) (of_expression b parts.1) env k h
+  of_expression (mul a b) ok env k h =
+      let parts = and_parts (expression_passes it.sound a) (expression_passes it.sound b) ok in
+      of_binary (expression_code js a) (expression_code js b) operator.Mul
+      (of_expression a parts.0) (of_expression b parts.1) env k h
 
-  of_keys : (cs : List ColumnId) → Carries (keys_code js cs)
-  of_keys [] env k h = h env []
+  -- ---- a turn
+
+  of_conjuncts : (cs : List RowCondition) → list_all (condition_passes it.sound) cs ≡ true
+      → (env : Env) (k : Env → Code) → ((e : Env) → it.Fact e (k e))
+      → it.Fact env (conjuncts_code js cs env k)
+  of_conjuncts [] ok env k h = h env
+  of_conjuncts (c ∷ cs) ok env k h =
+      let parts = and_parts (condition_passes it.sound c)
+      (list_all (condition_passes it.sound) cs) ok in
+      of_condition c parts.0 env (λ e x. Then (Keep x) (conjuncts_code js cs e k))
+      (λ e x at. it.keep e x (conjuncts_code js cs e k) at (of_conjuncts cs parts.1 e k h))
+
+  of_keys : (cs : List ColumnId) → Carries (All it.Known) (keys_code js cs)
+  of_keys [] env k h = h env [] (All-nil it.Known)
   of_keys (c ∷ cs) env k h =
       of_before (column_code js c) (keys_code js cs) (of_column c) (of_keys cs) env k h
 
-  of_values : (ms : List (Measure ColumnId)) → Carries (values_code js ms)
-  of_values [] env k h = h env []
-  of_values (count ∷ ms) env k h = of_values ms env k h
-  of_values (fold f a ∷ ms) env k h =
-      of_before (expression_code js a) (values_code js ms) (of_expression a) (of_values ms) env k h
+  of_values : (ms : List (Measure ColumnId)) → list_all (measure_passes it.sound) ms ≡ true
+      → Carries (All it.Known) (values_code js ms)
+  of_values [] ok env k h = h env [] (All-nil it.Known)
+  of_values (count ∷ ms) ok env k h = of_values ms ok env k h
+  of_values (fold f a ∷ ms) ok env k h =
+      let parts = and_parts (expression_passes it.sound a)
+      (list_all (measure_passes it.sound) ms) ok in
+      of_before (expression_code js a) (values_code js ms) (of_expression a parts.0)
+      (of_values ms parts.1) env k h
 
-pub turn_carries : (p : Plan) (Fact : Env → Code → Type 0) (Unseen : Env → ColumnId → Type 0)
-    → IsCarried p.joins Fact Unseen → Fact env_first (turn_code p)
-turn_carries p Fact Unseen carried =
-    of_conjuncts p.joins Fact Unseen carried p.conjuncts env_first
+pub turn_carries : (it : Carrier) (p : Plan)
+    → list_all (condition_passes it.sound) p.conjuncts ≡ true
+    → list_all (measure_passes it.sound) p.measures ≡ true → it.Fact env_first (turn_code p)
+turn_carries it p conditions measures =
+    of_conjuncts it p.joins p.conjuncts conditions env_first
     (λ e. keys_code p.joins p.keys e (λ e ks. values_code p.joins p.measures e (put_code ks)))
-    (λ e. of_keys p.joins Fact Unseen carried p.keys e
+    (λ e. of_keys it p.joins p.keys e
     (λ e ks. values_code p.joins p.measures e (put_code ks))
-    (λ e ks. of_values p.joins Fact Unseen carried p.measures e (put_code ks)
-    (λ e vs. carried.put e ks vs)))
+    (λ e ks keys. of_values it p.joins p.measures measures e (put_code ks)
+    (λ e vs values. it.put e ks vs keys values)))
+
+-- ---- a fact of code alone
+
+-- an operation that a turn may have
+abbrev pub is_made : Operation → Bool
+is_made (Read g a n) = false
+is_made _ = true
+
+any_condition : (c : RowCondition) → condition_passes (λ v. true) c ≡ true
+any_condition (or a b) = and_from _ _ (any_condition a) (any_condition b)
+any_condition (and a b) = and_from _ _ (any_condition a) (any_condition b)
+any_condition (not a) = any_condition a
+any_condition (test (compare c s v)) = refl
+any_condition (test (between c a b)) = refl
+
+any_expression : (e : Expression ColumnId) → expression_passes (λ v. true) e ≡ true
+any_expression (column c) = refl
+any_expression (constant z) = refl
+any_expression (add a b) = and_from _ _ (any_expression a) (any_expression b)
+any_expression (sub a b) = and_from _ _ (any_expression a) (any_expression b)
+any_expression (mul a b) = and_from _ _ (any_expression a) (any_expression b)
+
+any_measure : (m : Measure ColumnId) → measure_passes (λ v. true) m ≡ true
+any_measure count = refl
+any_measure (fold f e) = any_expression e
+
+each : {A : Type 0} (passes : A → Bool) → ((x : A) → passes x ≡ true) → (xs : List A)
+    → list_all passes xs ≡ true
+each passes all [] = refl
+each passes all (x ∷ xs) = and_from _ _ (all x) (each passes all xs)
+
+pub turn_has : (p : Plan) (Fact : Code → Type 0)
+    → ((t : ℕ) (o : Operation) (rest : Code) → is_made o ≡ true → Fact rest
+    → Fact (Then (Assign t o) rest))
+    → ((flag : ℕ) (rest : Code) → Fact rest → Fact (Then (Keep flag) rest))
+    → ((keys values : List ℕ) → Fact (Then (Put 0 keys values) Stop)) → Fact (turn_code p)
+turn_has p Fact made kept put =
+    turn_carries (record {
+      Fact = λ env code. Fact code;
+      Known = λ r. Unit {0};
+      Good = λ o. is_made o ≡ true;
+      sound = λ v. true;
+      written = λ env o rest good h. made env.next o rest good (h tt);
+      load = λ env c row rest at h. made env.next (Load c row) rest refl (h tt);
+      find = λ env t key rest at h. made env.next (Find t key) rest refl (h tt);
+      keep = λ env flag rest at h. kept flag rest h;
+      put = λ env keys values at_keys at_values. put keys values;
+      loaded = λ env c r code e h. h tt;
+      found = λ env t r code e h. h tt;
+      fact_row = tt;
+      const = λ z ok. refl;
+      next = λ z ok. refl;
+      edge = λ e c t ok. refl;
+      binary = λ o l r at_l at_r. refl;
+      within = λ x a b at_x at_a at_b. refl;
+      negated = λ f at. refl;
+    }) p (each (condition_passes (λ v. true)) any_condition p.conjuncts)
+    (each (measure_passes (λ v. true)) any_measure p.measures)

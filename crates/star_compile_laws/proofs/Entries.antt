@@ -6,7 +6,9 @@ use Rattle.std.proofs.lemmas.Bool.{cond-true, cond-false, eq-eqb, ne_eqb}
 use Rattle.std.proofs.lemmas.Option.{same_Some}
 use Rattle.star_program.specs.Values.{with_entry}
 use Rattle.star_compile_laws.specs.Compiled.{register_in}
-use Rattle.star_compile_laws.specs.Looks.{one_if}
+
+abbrev pub one_if : Bool → ℕ
+one_if b = if b then 1 else 0
 
 -- ---- registers
 

@@ -27,7 +27,7 @@ use Rattle.star_safety.specs.Private.Forward.{first_reason, open_with}
 use Rattle.star_plan.specs.Meaning.{Plan}
 use Rattle.star_compile_laws.specs.Compiled.{turn_code}
 use Rattle.star_compile_laws.specs.Wide.{Computed, computed, first_wide, given, too_wide, turn_wide}
-use Rattle.star_compile_laws.proofs.Carried.{is_plain, turn_carries}
+use Rattle.star_compile_laws.proofs.Carried.{is_made, turn_has}
 use Rattle.star_compile_laws.proofs.Points.{Overflows, in_turn}
 
 -- ---- a turn has no scan and no read
@@ -38,29 +38,20 @@ IsStraight (Then (Assign t (Read g a n)) rest) = ⊥
 IsStraight (Then op rest) = IsStraight rest
 IsStraight (Each t r body rest) = ⊥
 
-plain_straight : (t : ℕ) (o : Operation) (rest : Code) → is_plain o ≡ true → IsStraight rest
+made_straight : (t : ℕ) (o : Operation) (rest : Code) → is_made o ≡ true → IsStraight rest
     → IsStraight (Then (Assign t o) rest)
-plain_straight t (Const z) rest e h = h
-plain_straight t (Edge edge c text) rest e h = h
-plain_straight t (Binary o l r) rest e h = h
-plain_straight t (Within x a b) rest e h = h
-plain_straight t (Not f) rest e h = h
-plain_straight t (Load c row) rest e h = absurd (cc)
-plain_straight t (Find table key) rest e h = absurd (cc)
-plain_straight t (Read g a n) rest e h = absurd (cc)
+made_straight t (Read g a n) rest e h = absurd (cc)
+made_straight t (Const z) rest e h = h
+made_straight t (Edge edge c text) rest e h = h
+made_straight t (Binary o l r) rest e h = h
+made_straight t (Within x a b) rest e h = h
+made_straight t (Not f) rest e h = h
+made_straight t (Load c row) rest e h = h
+made_straight t (Find table key) rest e h = h
 
 turn_is_straight : (p : Plan) → IsStraight (turn_code p)
 turn_is_straight p =
-    turn_carries p (λ env code. IsStraight code) (λ env c. Unit {0}) (record {
-      plain = λ env o rest plain h. plain_straight env.next o rest plain h;
-      load = λ env c row rest none h. h;
-      find = λ env t key rest none h. h;
-      keep = λ env flag rest h. h;
-      put = λ env keys values. tt;
-      unseen = λ env c none. tt;
-      still = λ env c away none. tt;
-      found = λ env t c none. tt;
-    })
+    turn_has p IsStraight made_straight (λ flag rest h. h) (λ keys values. tt)
 
 -- ---- what is known of the registers
 

@@ -2,33 +2,21 @@
 use Rattle.std.proofs.Common.{◌≡◌, ℕ, ◌+◌, ◌*◌, Bool, true, false, List, refl, ap, ◌∙◌, arith}
 use Rattle.star_schema.specs.declared.table.TableId.{TableId}
 use Rattle.star_schema.specs.declared.table.TableId.TheVariants.{Lineorder}
-use Rattle.star_plan.specs.declared.tree.Join.{Join}
 use Rattle.star_plan.specs.Meaning.{Plan}
 use Rattle.star_program.specs.Code.{Code, Stop, Then, Each, scan_depth}
 use Rattle.star_safety.specs.Quote.{turns_met, quote}
 use Rattle.star_compile_laws.specs.Compiled.{turn_code, compiled}
-use Rattle.star_compile_laws.proofs.Carried.{IsCarried, turn_carries}
+use Rattle.star_compile_laws.proofs.Carried.{turn_has}
 
 abbrev pub flat : Code → Bool
 flat Stop = true
 flat (Then o rest) = flat rest
 flat (Each t r body rest) = false
 
-flat_carried : (js : List Join) → IsCarried js (λ env code. flat code ≡ true) (λ env c. Unit {0})
-flat_carried js = record {
-  plain = λ env o rest plain h. h;
-  load = λ env c row rest unseen h. h;
-  find = λ env t key rest none h. h;
-  keep = λ env flag rest h. h;
-  put = λ env keys values. refl;
-  unseen = λ env c none. tt;
-  still = λ env c away unseen. tt;
-  found = λ env t c unseen. tt;
-}
-
 pub turn_is_flat : (p : Plan) → flat (turn_code p) ≡ true
 turn_is_flat p =
-    turn_carries p (λ env code. flat code ≡ true) (λ env c. Unit {0}) (flat_carried p.joins)
+    turn_has p (λ code. flat code ≡ true) (λ t o rest made h. h) (λ flag rest h. h)
+    (λ keys values. refl)
 
 pub flat_depth : (c : Code) → flat c ≡ true → scan_depth c ≡ 0
 flat_depth Stop h = refl

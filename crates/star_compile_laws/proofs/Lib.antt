@@ -5,7 +5,6 @@ pub mod Flat
 pub mod Sizes
 pub mod Sayable
 pub mod Programs
-pub mod Looks
 pub mod Joins
 pub mod TurnRows
 pub mod SeenRows
@@ -31,6 +30,4 @@ mod Accepts
 mod AcceptsPlan
 mod Verdicts
 mod OutsideBounds
-mod WorkedVerdicts
-mod WorkedAnswers
-mod WorkedCounts
+mod Worked

@@ -2,9 +2,7 @@
 use Rattle.std.proofs.Common.{ℕ, List, [], ◌∷◌}
 use Rattle.std.specs.Prelude.{pos, negsuc, codes}
 use Rattle.star_schema.specs.declared.column.ColumnId.{ColumnId}
-use Rattle.star_schema.specs.declared.column.ColumnId.TheVariants.{CCity, CCustkey, CNation, CRegion, DDatekey, DMonth, DWeeknuminyear, DYear, DYearmonth, DYearmonthnum}
-use Rattle.star_schema.specs.declared.column.ColumnId.TheVariants.{LoCommitdate, LoCustkey, LoDiscount, LoExtendedprice, LoOrderdate, LoPartkey, LoQuantity, LoRevenue, LoShipmode}
-use Rattle.star_schema.specs.declared.column.ColumnId.TheVariants.{LoSuppkey, LoSupplycost, LoTax, PBrand1, PCategory, PMfgr, PPartkey, SCity, SNation, SRegion, SSuppkey}
+use Rattle.star_schema.specs.declared.column.ColumnId.TheVariants.{CCity, CCustkey, CNation, CRegion, DDatekey, DMonth, DWeeknuminyear, DYear, DYearmonth, DYearmonthnum, LoCommitdate, LoCustkey, LoDiscount, LoExtendedprice, LoOrderdate, LoPartkey, LoQuantity, LoRevenue, LoShipmode, LoSuppkey, LoSupplycost, LoTax, PBrand1, PCategory, PMfgr, PPartkey, SCity, SNation, SRegion, SSuppkey}
 use Rattle.star_schema.specs.declared.group.Direction.TheVariants.{Ascending, Descending}
 use Rattle.star_schema.specs.declared.group.Shape.TheVariants.{Plain, Cube}
 use Rattle.star_schema.specs.declared.group.GroupColumn.{GroupColumn}

@@ -15,7 +15,7 @@ use Rattle.star_schema.specs.declared.group.GroupColumn.TheVariants as group
 use Rattle.star_schema.specs.declared.group.SortKey.{SortKey}
 use Rattle.star_schema.specs.declared.table.TableId.TheVariants.{Lineorder}
 use Rattle.star_schema.specs.Schema.{column_name, column_of}
-use Rattle.star_query.specs.Cut.{begins_with_letter, is_word_byte}
+use Rattle.star_query.specs.Tokens.{begins_with_letter, is_word_byte}
 use Rattle.star_query.specs.Spelled as asked
 use Rattle.star_plan.specs.Meaning.{aggregate_of, Plan}
 use Rattle.star_plan.specs.Limits.{IsPlanWithinLimits}

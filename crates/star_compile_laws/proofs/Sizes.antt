@@ -16,18 +16,14 @@ use Rattle.star_query.specs.Tree.{Expression, column, constant, add, sub, mul, o
 use Rattle.star_plan.specs.Meaning.{Plan, RowCondition}
 use Rattle.star_query.specs.Limits.{operands_of, comparisons_of, measure_operands}
 use Rattle.star_program.specs.declared.op.Op.TheVariants.{Keep}
-use Rattle.star_program.specs.declared.op.Edge.TheVariants.{High}
 use Rattle.star_program.specs.declared.op.Operation.{Operation}
-use Rattle.star_program.specs.declared.op.Operation.TheVariants.{Binary, Const, Edge, Not, Within}
+use Rattle.star_program.specs.declared.op.Operation.TheVariants.{Binary, Const, Not}
 use Rattle.star_program.specs.declared.op.Operator.{Operator}
 use Rattle.star_program.specs.declared.op.Operator.TheVariants as operator
 use Rattle.star_program.specs.Code.{Code, Stop, Then, Each, code_size}
 use Rattle.star_program.specs.Faults.{target_of}
-use Rattle.star_compile_laws.specs.Compiled.{Env, Rest, Rests, one_before, beside, binary_code, column_code, start_of, end_behind, equal_code, find_code, env_first, loaded_in}
-use Rattle.star_compile_laws.specs.Compiled.{found_in, one_more, with_loaded, with_found, foreign_of, fact_code, row_code, place_code, column_from, test_code, between_code}
-use Rattle.star_compile_laws.specs.Compiled.{condition_code, expression_code, conjuncts_code, keys_code, values_code, put_code, body_code, write, load_code, writes_one, register_count}
-use Rattle.star_compile_laws.specs.Looks.{one_if}
-use Rattle.star_compile_laws.proofs.Entries.{missing, entry_falls}
+use Rattle.star_compile_laws.specs.Compiled.{Env, Rest, Rests, one_before, beside, binary_code, column_code, start_of, end_behind, equal_code, find_code, env_first, loaded_in, found_in, one_more, with_loaded, with_found, foreign_of, fact_code, row_code, place_code, column_from, test_code, between_code, condition_code, expression_code, conjuncts_code, keys_code, values_code, put_code, body_code, write, load_code, writes_one, register_count}
+use Rattle.star_compile_laws.proofs.Entries.{one_if, missing, entry_falls}
 
 -- ---- tables whose rows are not found
 
@@ -122,44 +118,26 @@ of_one : (o : Operation) (env : Env) (k : Rest) (m : ℕ) → Short m k
     → code_size (write o env k) ≤ 1 + m + 2 * unfound env.found
 of_one o env k m h = omega (arith, h (one_more env) env.next)
 
-of_beside : (o : Operation) (used : ℕ → Operation) → Adds 2 (beside o used)
-of_beside o used env k m h =
-    let p = of_one o env (λ e n. write (used n) e k) (1 + m) (λ e n. of_one (used n) e k m h) in
-    omega arith
+-- what follows some writes
+abbrev behind : ℕ → Env → Env
+behind zero env = env
+behind (suc n) env = one_more (behind n env)
 
 of_between : (c : ColumnId) (x : ℕ) (a b : Value) → Adds 3 (between_code c x a b)
-of_between c x a b env k m h =
-    let p =
-    of_one (start_of c a) env (λ e n. beside (end_behind c b) (λ l. Within x n l) e k) (2 + m)
-    (λ e n. of_beside (end_behind c b) (λ l. Within x n l) e k m h) in
-    omega arith
-
-of_equal : (c : ColumnId) (x : ℕ) (v : Value) → Adds 3 (equal_code c x v)
-of_equal c x (Number a) env k m h =
-    omega (arith, of_beside (Const a) (λ n. Binary operator.Equal x n) env k m h)
-of_equal c x (Text t) env k m h = of_between c x (Text t) (Text t) env k m h
+of_between c x a b env k m h = omega (arith, h (behind 3 env) (behind 2 env).next)
 
 -- a column beside a value takes at most four
 of_test : (s : Relation) (c : ColumnId) (x : ℕ) (v : Value) → Adds 4 (test_code s c x v)
-of_test sign.Equal c x v env k m h = omega (arith, of_equal c x v env k m h)
-of_test sign.Unequal c x v env k m h =
-    omega (
-      arith,
-      of_equal c x v env (λ e y. write (Not y) e k) (1 + m)
-          (λ e y. of_one (Not y) e k m h),
-    )
-of_test sign.Less c x v env k m h =
-    omega (arith, of_beside (start_of c v) (λ n. Binary operator.Less x n) env k m h)
-of_test sign.AtMost c x (Number a) env k m h =
-    omega (arith, of_beside (Const a) (λ n. Binary operator.LessOrEqual x n) env k m h)
-of_test sign.AtMost c x (Text t) env k m h =
-    omega (arith, of_beside (Edge High c t) (λ n. Binary operator.Less x n) env k m h)
-of_test sign.Greater c x (Number a) env k m h =
-    omega (arith, of_beside (Const a) (λ n. Binary operator.Less n x) env k m h)
-of_test sign.Greater c x (Text t) env k m h =
-    omega (arith, of_beside (Edge High c t) (λ n. Binary operator.LessOrEqual n x) env k m h)
-of_test sign.AtLeast c x v env k m h =
-    omega (arith, of_beside (start_of c v) (λ n. Binary operator.LessOrEqual n x) env k m h)
+of_test sign.Equal c x (Number a) env k m h = omega (arith, h (behind 2 env) (behind 1 env).next)
+of_test sign.Equal c x (Text t) env k m h = omega (arith, h (behind 3 env) (behind 2 env).next)
+of_test sign.Unequal c x (Number a) env k m h = omega (arith, h (behind 3 env) (behind 2 env).next)
+of_test sign.Unequal c x (Text t) env k m h = omega (arith, h (behind 4 env) (behind 3 env).next)
+of_test sign.AtMost c x (Number a) env k m h = omega (arith, h (behind 2 env) (behind 1 env).next)
+of_test sign.AtMost c x (Text t) env k m h = omega (arith, h (behind 2 env) (behind 1 env).next)
+of_test sign.Greater c x (Number a) env k m h = omega (arith, h (behind 2 env) (behind 1 env).next)
+of_test sign.Greater c x (Text t) env k m h = omega (arith, h (behind 2 env) (behind 1 env).next)
+of_test sign.Less c x v env k m h = omega (arith, h (behind 2 env) (behind 1 env).next)
+of_test sign.AtLeast c x v env k m h = omega (arith, h (behind 2 env) (behind 1 env).next)
 
 module _ (js : List Join) where
   of_row : (t : TableId) (env : Env) (k : Rest) (m : ℕ) (o : Option ℕ)

@@ -28,8 +28,7 @@ use Rattle.star_program.specs.Faults.{fault_of}
 use Rattle.star_program.specs.Effects.{State, loaded, kinds_in}
 use Rattle.star_program.specs.Private.Doing.{sets_found}
 use Rattle.star_program.specs.Run.{End, Ended, follow, meaning}
-use Rattle.star_compile_laws.specs.Compiled.{Env, Rest, loaded_in, found_in, with_loaded, with_found, write, load_code, find_code, foreign_of, fact_code}
-use Rattle.star_compile_laws.specs.Compiled.{row_code, place_code, column_from, column_code, test_code, between_code, condition_code, expression_code}
+use Rattle.star_compile_laws.specs.Compiled.{Env, Rest, loaded_in, found_in, with_loaded, with_found, write, load_code, find_code, foreign_of, fact_code, row_code, place_code, column_from, column_code, test_code, between_code, condition_code, expression_code}
 use Rattle.star_compile_laws.proofs.TurnRows.{Shows, IsTurn}
 use Rattle.star_compile_laws.proofs.Entries.{entry_same, entry_other, entry_known}
 use Rattle.star_compile_laws.proofs.Joins.{holds_numbers}

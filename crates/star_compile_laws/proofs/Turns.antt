@@ -30,7 +30,7 @@ use Rattle.star_program.specs.Run.{End, Ended, Trapped, Limited, follow, after, 
 use Rattle.star_compile_laws.specs.Compiled.{Env, Rest, Rests, one_before, column_code, conjuncts_code, env_first, expression_code, keys_code, values_code, put_code, turn_code, body_code}
 use Rattle.star_compile_laws.specs.Answers.{coded, update_of_row}
 use Rattle.star_compile_laws.specs.Counts.{turn_lookups}
-use Rattle.star_compile_laws.specs.Looks.{one_if}
+use Rattle.star_compile_laws.proofs.Entries.{one_if}
 use Rattle.star_compile_laws.proofs.TurnRows.{Shows, IsTurn, numbers}
 use Rattle.star_compile_laws.proofs.Pieces.{ahead, no_fault, Knows, Reached, Runs, At, chained_as, reached}
 use Rattle.star_compile_laws.proofs.TurnPieces.{here, column_runs, condition_runs, expression_runs}

@@ -1,5 +1,4 @@
 pub mod Compiled
-pub mod Looks
 pub mod Answers
 pub mod Judged
 pub mod Counts

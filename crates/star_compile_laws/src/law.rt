@@ -1,7 +1,6 @@
 //! Laws of compiled programs: functions with no body, whose clauses are the laws.
 
 ghost use Rattle.std.specs.Prelude.{◌≡◌, ◌≤◌, ℕ, None};
-ghost use Rattle.star_schema.specs.declared.column.ColumnId.{ColumnId};
 ghost use Rattle.star_schema.specs.declared.table.TableId.{TableId};
 ghost use Rattle.star_schema.specs.declared.table.TableId.TheVariants.{Lineorder};
 ghost use Rattle.star_plan.specs.Limits.{IsPlanWithinLimits};
@@ -14,7 +13,6 @@ ghost use Rattle.star_program.specs.ShowLines.{shown_fault};
 ghost use Rattle.star_program.specs.Text.Spellable.{IsSpellable};
 ghost use Rattle.star_safety.specs.Quote.{quote};
 ghost use Rattle.star_compile_laws.specs.Compiled.{compiled};
-ghost use Rattle.star_compile_laws.specs.Looks.{finds, loads, times_made};
 
 /// A compiled plan is a program: within the limits, of a report that names what is there, and
 /// spelled by some text. It has far fewer instructions than a program may have.
@@ -30,13 +28,4 @@ pub fn compiled_plans_are_programs()
 /// once.
 pub fn compiled_programs_visit_each_row_once()
     ensures { (rows : TableId → ℕ) (p : Plan) → quote rows (compiled p) ≡ rows Lineorder }
-{}
-
-/// A compiled program looks once at most: it loads each column once, and finds a row of each
-/// dimension once.
-pub fn compiled_programs_look_once()
-    ensures columns { (p : Plan) (c : ColumnId)
-        → IsSoundPlan p → times_made (loads c) (compiled p).body ≤ 1 }
-    ensures rows { (p : Plan) (t : TableId)
-        → IsSoundPlan p → times_made (finds t) (compiled p).body ≤ 1 }
 {}

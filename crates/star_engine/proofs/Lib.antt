@@ -4,7 +4,7 @@ mod Reported
 pub mod ListingLemmas
 pub mod Trials
 pub mod OneReport
-pub mod OneQuery
+pub mod NoFaultDue
 pub mod Noting
 pub mod Executing
 pub mod NotedAs
@@ -21,6 +21,5 @@ pub mod Meanings
 pub mod ThirteenMeant
 pub mod BenchSections
 pub mod BenchAnswers
-mod WorkedFaults
 pub mod PieceFeeds
 pub mod Unloaded

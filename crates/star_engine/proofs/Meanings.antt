@@ -2,11 +2,12 @@
 use Rattle.std.proofs.Common.{◌≡◌, ◌∙◌, ◌≤◌, ℕ, List, [], None, Result, Ok, Err, Bool, true, false, refl, length, ap, sym}
 use Rattle.star_query.specs.declared.fault.QueryFault.{QueryFault}
 use Rattle.star_query.specs.Symbols.{Placed, symbols}
-use Rattle.star_query.specs.Cut.{cut_of}
+use Rattle.star_query.specs.Private.Cut.{cut_of}
 use Rattle.star_query.specs.Private.Phrases.{Query, query_tree, one, plain, ungrouped}
 use Rattle.star_query.specs.Tree.{Name, Tree}
 use Rattle.star_query.specs.Derives.{Means}
 use Rattle.star_query.specs.Private.Machine.{Verdict, Whole, Bad}
+use Rattle.star_query.proofs.Cuts.{tokens_make_text}
 use Rattle.star_query.proofs.Verdicts.{derives, one_meaning, verdict_of}
 use Rattle.star_plan.specs.Faults.{plan_fault}
 use Rattle.star_plan.specs.WellNamed.{IsWellNamed}
@@ -65,7 +66,7 @@ pub means : (text : List ℕ) → IsWorked text → Means text (meaning text)
 means text w = record {
   short = w.short;
   tokens = tokens_in (cut_of text);
-  cut = cut_is (cut_of text) w.cut;
+  cut = (tokens_make_text text (tokens_in (cut_of text))).0 (cut_is (cut_of text) w.cut);
   derives = derives (symbols (tokens_in (cut_of text))) (query_in (verdict text))
       (whole_is (verdict text) w.whole);
 }

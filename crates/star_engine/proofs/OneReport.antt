@@ -1,12 +1,11 @@
--- A file's report over some tables is one, and so is what is told of its run; where it is told, no
--- fault is due.
+-- A file's report over some tables is one, and where it is due, no fault is.
 use Rattle.std.proofs.Common.{◌≡◌, ◌∙◌, ℕ, List, subst, sym}
 use Rattle.star_schema.specs.Loadable.{database_of}
 use Rattle.star_schema.specs.Database.{Database, TableTexts}
 use Rattle.star_program.specs.declared.outcome.Outcome.{Outcome}
 use Rattle.star_program.specs.declared.program.Parts.{Parts}
 use Rattle.star_program.specs.Outcome.{IsOutcome}
-use Rattle.star_program.specs.Run.{End, bounded_run_of, run_of}
+use Rattle.star_program.specs.Run.{End, bounded_run_of}
 use Rattle.star_program.specs.World.{World}
 use Rattle.star_program.proofs.Text.OneProgram.{one_program}
 use Rattle.star_report.specs.Report.{report_text}
@@ -15,14 +14,13 @@ use Rattle.star_outcome.specs.Yields.{Yields}
 use Rattle.star_world.specs.WorldOf.{world_of}
 use Rattle.star_program.specs.Text.FirstFaults.{FirstTextFault}
 use Rattle.star_program.specs.declared.spelling.fault.TextFault.{TextFault}
-use Rattle.star_program.proofs.Text.FirstFaultLaw.{never_both}
+use Rattle.star_program.proofs.Text.Faultless.{never_both}
 use Rattle.star_verify.specs.declared.refusal.Refusal.{Refusal}
 use Rattle.star_engine.specs.declared.fault.EngineFault.{EngineFault}
 use Rattle.star_engine.specs.declared.fault.EngineFault.TheVariants.{Load, Program, Refused}
-use Rattle.star_engine.specs.Executions.{IsAcceptedWithin, IsRefusal, IsToldOf, IsToldOver, IsUntold, IsUntoldOver, quote_over}
+use Rattle.star_engine.specs.Executions.{IsAcceptedWithin, IsRefusal, IsToldOf, IsToldOver, IsUntold, IsUntoldOver}
 use Rattle.star_engine.specs.Loads.{IsProgramOf}
 use Rattle.star_engine.specs.Noted.{Telling}
-use Rattle.star_engine.specs.Notes.{counts_line, quote_line}
 use Rattle.star_engine.specs.Trials.{IsBoundedReport}
 
 -- a run that comes to its end has one outcome
@@ -42,26 +40,6 @@ report_is_one database file visits report other h k =
     let outcome = yields_one w k.program (bounded_run_of w visits k.program) h.outcome k.outcome
     yields k.yields in
     h.printed ∙ (λ i. report_text (outcome i).names (outcome i).rows) ∙ sym k.printed
-
--- what is told of the program of a file is one
-pub telling_is_one : (visits : ℕ) (database : Database) (file : List ℕ)
-    (telling other : Telling) → IsToldOver visits database file telling
-    → IsToldOver visits database file other → telling ≡ other
-telling_is_one visits database file telling other h k =
-    let w = world_of database in
-    let program = one_program file h.program k.program h.of_file.spelled k.of_file.spelled in
-    let yields = subst (λ p. Yields w p (run_of w p) h.holds.outcome) program h.holds.yields in
-    let outcome = yields_one w k.program (run_of w k.program) h.holds.outcome k.holds.outcome yields
-    k.holds.yields in
-    let quoted : telling.quoted ≡ other.quoted =
-    h.holds.quoted ∙ (λ i. quote_line (quote_over database (program i))) ∙ sym k.holds.quoted in
-    let report : telling.report ≡ other.report =
-    h.holds.reported ∙ (λ i. report_text (outcome i).names (outcome i).rows)
-    ∙ sym k.holds.reported in
-    let done : telling.done ≡ other.done =
-    h.holds.done ∙ (λ i. counts_line (outcome i).visits (outcome i).lookups (outcome i).updates)
-    ∙ sym k.holds.done in
-    λ i. record { quoted = quoted i; report = report i; done = done i }
 
 -- ---- what is told is not refused
 

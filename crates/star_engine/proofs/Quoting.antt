@@ -22,16 +22,6 @@ unquoted_tables false rows texts file program told (engine.Load fault) is =
     ((told.p, told.meant), is)
 unquoted_tables is_program rows texts file program told _ is = absurd is
 
--- it tells no program
-pub unquoted_file : (is_program : Bool) (rows : ℕ) (texts : TableTexts) (file : List ℕ)
-    (fault : EngineFault) → IsNoneOfKind is_program file fault
-    → IsUnquotedOfKind is_program rows texts file fault
-unquoted_file true rows texts file (engine.Program fault) is = is
-unquoted_file true rows texts file _ is = absurd is
-unquoted_file false rows texts file (engine.Query fault) is = is
-unquoted_file false rows texts file (engine.Plan fault) is = is
-unquoted_file false rows texts file _ is = absurd is
-
 -- ---- the line
 
 pub quoted : (is_program : Bool) (database : Database) (file text : List ℕ) (program : Parts)

@@ -2,9 +2,9 @@
 use Rattle.std.proofs.Common.{◌≡◌, Some, None, lit≤, refl}
 use Rattle.star_common.specs.First.{first_answer}
 use Rattle.star_schema.specs.Schema.{column_of, table_name}
-use Rattle.star_query.specs.Cut.{cut_from, reserved}
+use Rattle.star_query.specs.Private.Cut.{cut_from, reserved, reserved_words}
 use Rattle.star_query.specs.Derives.{Means}
-use Rattle.star_query.specs.Symbols.{reserved_words, spelling}
+use Rattle.star_query.specs.Symbols.{spelling}
 use Rattle.star_query.specs.Tree.{Tree}
 use Rattle.star_query.proofs.FirstFaults.{no_fault as no_first_fault}
 use Rattle.star_plan.specs.Faults.{plan_fault}

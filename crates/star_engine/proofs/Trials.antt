@@ -19,17 +19,6 @@ use Rattle.star_engine.specs.Faults.{fault_of_trial}
 use Rattle.star_engine.specs.Loads.{IsProgramOf}
 use Rattle.star_engine.specs.Trials.{IsNoTrial, IsNoTrialOver}
 
--- a program whose run over loaded tables doesn't come to its end has no report
-pub no_trial : (database : Database) (file : List ℕ) (program : Parts) (visits : ℕ)
-    (fault : TrialFault) → IsProgramOf file program
-    → IsFaultOfEnd (bounded_run_of (world_of database) visits program) fault
-    → OrMemory (IsNoTrialOver database file visits) (fault_of_trial fault)
-no_trial database file program visits trial.OutOfMemory of_file stopped = tt
-no_trial database file program visits (trial.Trap at kind) of_file stopped =
-    record { program = program; of_file = of_file; holds = stopped }
-no_trial database file program visits trial.Limit of_file stopped =
-    record { program = program; of_file = of_file; holds = stopped }
-
 -- over the texts that hold the rows
 pub no_trial_over : (most : ℕ) (texts : TableTexts) (file : List ℕ) (visits : ℕ)
     (fault : EngineFault) → IsLoadable most texts

@@ -16,20 +16,13 @@ pub fn one_report()
         → report ≡ other }
 {}
 
-/// Of the program of one file, checked and run over the same rows, or over the same texts, under
-/// the same limits, one report and one pair of notes is told; and where these are told, no fault is
-/// due.
-pub fn one_telling()
-    ensures one { (visits : ℕ) (database : Database) (file : List ℕ) (telling other : Telling)
-        → IsToldOver visits database file telling → IsToldOver visits database file other
-        → telling ≡ other }
-    ensures not_refused { (visits : ℕ) (database : Database) (file : List ℕ)
+/// Where a report of the program of one file and its notes are due, over the same rows, or over the
+/// same texts, under the same limits, no fault is.
+pub fn reported_files_have_no_fault()
+    ensures over_rows { (visits : ℕ) (database : Database) (file : List ℕ)
         (telling : Telling) (fault : EngineFault) → IsToldOver visits database file telling
         → ¬ IsUntoldOver visits database file fault }
-    ensures one_of_texts { (most visits : ℕ) (texts : TableTexts) (file : List ℕ)
-        (telling other : Telling) → IsToldOf most visits texts file telling
-        → IsToldOf most visits texts file other → telling ≡ other }
-    ensures not_refused_of_texts { (most visits : ℕ) (texts : TableTexts) (file : List ℕ)
+    ensures of_texts { (most visits : ℕ) (texts : TableTexts) (file : List ℕ)
         (telling : Telling) (fault : EngineFault) → IsToldOf most visits texts file telling
         → ¬ IsUntold most visits texts file fault }
 {}

@@ -106,27 +106,14 @@ pub fn the_thirteen_are_queries()
     ensures read { (q : BenchmarkQuery) (fault : EngineFault) → ¬ IsNoQuery (query_text q) fault }
 {}
 
-/// Of the query of one text over the same rows, or the same texts, under the same limits, one report
-/// with one pair of notes is told; where these are told no fault is due; and no two faults are. So
-/// what a call answers on Ok, and which fault it answers else, hangs on these alone.
-pub fn one_telling_of_a_query()
-    ensures one { (visits : ℕ) (database : Database) (query : List ℕ) (telling other : Telling)
-        → IsQueryToldOver visits database query telling
-        → IsQueryToldOver visits database query other → telling ≡ other }
-    ensures not_refused { (visits : ℕ) (database : Database) (query : List ℕ)
+/// Where a report of the query of one text and its notes are due, over the same rows, or over the
+/// same texts, under the same limits, no fault is.
+pub fn reported_queries_have_no_fault()
+    ensures over_rows { (visits : ℕ) (database : Database) (query : List ℕ)
         (telling : Telling) (fault : EngineFault)
         → IsQueryToldOver visits database query telling
         → ¬ IsUnansweredOver visits database query fault }
-    ensures one_fault { (visits : ℕ) (database : Database) (query : List ℕ)
-        (fault other : EngineFault) → IsUnansweredOver visits database query fault
-        → IsUnansweredOver visits database query other → fault ≡ other }
-    ensures one_of_texts { (rows visits : ℕ) (texts : TableTexts) (query : List ℕ)
-        (telling other : Telling) → IsQueryTold rows visits texts query telling
-        → IsQueryTold rows visits texts query other → telling ≡ other }
-    ensures not_refused_of_texts { (rows visits : ℕ) (texts : TableTexts) (query : List ℕ)
+    ensures of_texts { (rows visits : ℕ) (texts : TableTexts) (query : List ℕ)
         (telling : Telling) (fault : EngineFault) → IsQueryTold rows visits texts query telling
         → ¬ IsUnanswered rows visits texts query fault }
-    ensures one_fault_of_texts { (rows visits : ℕ) (texts : TableTexts) (query : List ℕ)
-        (fault other : EngineFault) → IsUnanswered rows visits texts query fault
-        → IsUnanswered rows visits texts query other → fault ≡ other }
 {}

@@ -6,7 +6,8 @@ use Rattle.star_query.specs.Limits.{aggregates_in}
 use Rattle.star_query.specs.Tree.{Aggregate, Item, Name, aggregate, plain}
 use Rattle.star_plan.specs.declared.fault.PlanFault.TheVariants.{DuplicateAlias}
 use Rattle.star_plan.specs.declared.tree.Aggregate.{Aggregate as Named}
-use Rattle.star_plan.specs.Faults.{alias_fault, item_fault, item_fault_after}
+use Rattle.star_plan.specs.Faults.{item_fault, item_fault_after}
+use Rattle.star_plan.specs.Private.Stages.{alias_fault}
 use Rattle.star_plan.specs.Names.{has_name}
 use Rattle.star_plan.specs.Naming.{name_of_aggregate, aggregate_names, has_text, name_place, names_from}
 use Rattle.star_plan.specs.Views.{names_view}

@@ -18,8 +18,8 @@ use Rattle.star_plan.specs.Names.{has_name, table_at}
 use Rattle.star_plan.specs.Uses.{uses_of}
 use Rattle.star_plan.specs.Joins.{Pair, is_joined, joins, joins_of, where_pairs}
 use Rattle.star_plan.specs.Naming.{name_of_aggregate, aggregate_names, has_text, names_from}
-use Rattle.star_plan.specs.Faults.{aggregates_fault, fact_fault, group_fault, item_fault, item_fault_after, key_fault, use_kind_fault, missing_fault}
-use Rattle.star_plan.specs.Faults.{of_column, of_missing, of_pair, of_table, order_fault, pair_fault, plan_fault, scope_fault, from_table_fault}
+use Rattle.star_plan.specs.Faults.{aggregates_fault, fact_fault, group_fault, item_fault, item_fault_after, key_fault, use_kind_fault, missing_fault, of_column, of_missing, of_pair, of_table, pair_fault, plan_fault, scope_fault, from_table_fault}
+use Rattle.star_plan.specs.Private.Stages.{order_fault}
 use Rattle.star_plan.specs.Sound.{are_distinct}
 use Rattle.star_plan.specs.WellNamed.{IsThere, IsWellNamed, is_grouped, is_in_from, is_reached, same_name, same_text}
 use Rattle.star_plan.proofs.Known.{each_none, named_of}

@@ -11,9 +11,8 @@ use Rattle.std.proofs.lemmas.List.Folds.{list_all-append}
 use Rattle.star_schema.specs.declared.column.ColumnId.{ColumnId}
 use Rattle.star_query.specs.declared.token.Fold.TheVariants as fold
 use Rattle.star_query.specs.Tree as tree
-use Rattle.star_query.specs.Tree.{Aggregate, Item, Literal, Name, Expression, column, constant, add, sub, mul, or, and, not, test, compare, between, Measure}
-use Rattle.star_query.specs.Tree.{count as counted, fold as folds}
-use Rattle.star_query.specs.Cut.{begins_with_letter, is_letter, is_word_byte}
+use Rattle.star_query.specs.Tree.{Aggregate, Item, Literal, Name, Expression, column, constant, add, sub, mul, or, and, not, test, compare, between, Measure, count as counted, fold as folds}
+use Rattle.star_query.specs.Tokens.{begins_with_letter, is_letter, is_word_byte}
 use Rattle.star_query.specs.Spelled as asked
 use Rattle.star_query.specs.Spelled.{is_name}
 use Rattle.star_plan.specs.Meaning.{RowCondition}

@@ -23,7 +23,8 @@ use Rattle.star_plan.specs.declared.tree.Join.{Join}
 use Rattle.star_plan.specs.First.{first_after}
 use Rattle.star_plan.specs.Meaning.{RowCondition}
 use Rattle.star_plan.specs.Names.{column_at, has_name, is_of, literal_value, same_kind, table_called}
-use Rattle.star_plan.specs.Uses.{Use, condition_uses, expression_uses, groups_uses, items_uses, kind_of_literal, measure_uses, where_uses}
+use Rattle.star_plan.specs.Uses.{Use, expression_uses, kind_of_literal, measure_uses, where_uses}
+use Rattle.star_plan.specs.Private.Stages.{condition_uses, groups_uses, items_uses}
 use Rattle.star_plan.specs.Joins.{Pair, is_joined, joins_of, pairs_of, where_pairs}
 use Rattle.star_plan.specs.Naming.{key_column, resolved_key}
 use Rattle.star_plan.specs.Faults.{item_fault, key_fault, use_kind_fault, missing_fault, pair_fault, scope_fault, of_column, of_missing}

@@ -12,7 +12,5 @@ pub mod KeptCounts
 pub mod KeptSpelling
 pub mod Kept
 pub mod Conditions
-pub mod OnePlan
 pub mod PlannedQueries
-mod WorkedResolved
-mod WorkedNames
+mod Worked

@@ -8,17 +8,16 @@ use Rattle.star_schema.specs.declared.group.GroupColumn.{GroupColumn}
 use Rattle.star_schema.specs.declared.group.SortKey.{SortKey}
 use Rattle.star_common.specs.First.{first_answer}
 use Rattle.star_schema.specs.Schema.{table_of}
-use Rattle.star_query.specs.Tree.{Tree}
+use Rattle.star_query.specs.Tree.{Tree, Measure}
 use Rattle.star_plan.specs.declared.tree.Join.{Join}
 use Rattle.star_plan.specs.First.{first_beside}
-use Rattle.star_query.specs.Tree.{Measure}
 use Rattle.star_plan.specs.Meaning.{RowCondition}
 use Rattle.star_plan.specs.Names.{column_at}
-use Rattle.star_plan.specs.Uses.{groups_uses, items_uses, uses_of, where_uses}
+use Rattle.star_plan.specs.Uses.{uses_of, where_uses}
+use Rattle.star_plan.specs.Private.Stages.{groups_uses, items_uses, from_fault, grouping_fault, join_fault, naming_fault, order_fault, select_fault}
 use Rattle.star_plan.specs.Joins.{joins_of, where_pairs}
 use Rattle.star_plan.specs.Naming.{aggregate_names, resolved_key}
-use Rattle.star_plan.specs.Faults.{aggregates_fault, fact_fault, from_fault, group_fault, grouping_fault, item_fault, join_fault, key_fault, use_kind_fault}
-use Rattle.star_plan.specs.Faults.{missing_fault, naming_fault, order_fault, pair_fault, plan_fault, scope_fault, select_fault, from_table_fault}
+use Rattle.star_plan.specs.Faults.{aggregates_fault, fact_fault, group_fault, item_fault, key_fault, use_kind_fault, missing_fault, pair_fault, plan_fault, scope_fault, from_table_fault}
 use Rattle.star_plan.specs.Resolved.{items_from, resolved_measures, option_all, where_conjuncts}
 use Rattle.star_plan.specs.Sound.{are_distinct, condition_is_sound, in_scope, measure_is_sound}
 use Rattle.star_plan.proofs.Known.{Reaches, each_left, each_none, each_right, groups_known, grouped, items_known, joined_each, measures_known, order_known, reaches, where_known, IsGrouped}
@@ -125,8 +124,3 @@ measures_there t p =
 pub items_there : (t : Tree) → Parts t
     → (cs : List GroupColumn) × (items_from t.grouping.columns 0 t.items ≡ Some cs)
 items_there t p = items_known t.grouping.columns 0 t.items p.items
-
-pub order_there : (t : Tree) → Parts t
-    → (ss : List SortKey) × (option_all (resolved_key t.grouping.columns (aggregate_names t.items))
-    t.keys ≡ Some ss)
-order_there t p = order_known t.grouping.columns (aggregate_names t.items) t.keys p.order

@@ -6,7 +6,7 @@ use Rattle.star_schema.specs.declared.table.TableId.TheVariants.{Lineorder}
 use Rattle.star_schema.specs.declared.column.ColumnId.{ColumnId}
 use Rattle.star_common.specs.First.{first_answer}
 use Rattle.star_schema.specs.Schema.{is_table, table_name, table_of}
-use Rattle.star_query.specs.Tree.{Aggregate, Item, Name, SortKey, Tree, aggregate, plain}
+use Rattle.star_query.specs.Tree.{Item, Name, SortKey, Tree, aggregate, plain}
 use Rattle.star_plan.specs.declared.fault.PlanFault.{PlanFault}
 use Rattle.star_plan.specs.declared.fault.PlanFault.TheVariants.{UnknownName, NoFactTable, TableTwice, TableNotNamed, JoinMissing, JoinTwice, NotAKeyPair, WrongKind, NotGrouped, DuplicateGroup, UnknownOrderKey, DuplicateAlias, NoAggregate}
 use Rattle.star_plan.specs.declared.tree.Join.{Join}
@@ -66,20 +66,12 @@ missing_fault pairs n = of_missing pairs n.place (table_at n)
 abbrev pub group_fault : List Name → Name → Option PlanFault
 group_fault before n = if has_name before n.text then Some (DuplicateGroup n.place) else None
 
--- an aggregate's name is that of one before it, or a group column's
-abbrev pub alias_fault : List Name → List (List ℕ) → Aggregate → Option PlanFault
-alias_fault groups names a =
+-- after aggregates of these names a plain column isn't in GROUP BY, or an aggregate's name is one of them or a group column's
+abbrev pub item_fault_after : List Name → List (List ℕ) → Item → Option PlanFault
+item_fault_after groups names (plain n) = if has_name groups n.text then None else Some (NotGrouped n.place)
+item_fault_after groups names (aggregate a) =
     if has_text names (name_of_aggregate (length names + 1) a) || has_name groups (name_of_aggregate (length names + 1) a)
     then Some (DuplicateAlias (name_place a)) else None
-
--- a plain column isn't in GROUP BY
-abbrev pub column_fault : List Name → Name → Option PlanFault
-column_fault groups n = if has_name groups n.text then None else Some (NotGrouped n.place)
-
--- an item after aggregates of these names
-abbrev pub item_fault_after : List Name → List (List ℕ) → Item → Option PlanFault
-item_fault_after groups names (plain n) = column_fault groups n
-item_fault_after groups names (aggregate a) = alias_fault groups names a
 
 -- an item after others
 abbrev pub item_fault : List Name → List Item → Item → Option PlanFault
@@ -96,33 +88,14 @@ key_fault groups names k =
 
 -- ---- the first fault of a query
 
-abbrev pub from_fault : List Name → Option PlanFault
-from_fault tables = option_or (first_beside from_table_fault tables) (fact_fault tables)
-
-abbrev pub join_fault : List Name → List Pair → Option PlanFault
-join_fault tables pairs = option_or (first_beside pair_fault pairs) (first_answer (missing_fault pairs) tables)
-
-abbrev pub select_fault : List Name → List Item → Option PlanFault
-select_fault groups items = option_or (first_beside (item_fault groups) items) (aggregates_fault (aggregate_names items))
-
--- of the names of tables and columns
-abbrev pub naming_fault : List Name → List Use → List Pair → Option PlanFault
-naming_fault tables uses pairs =
-    option_or (from_fault tables)
-    (option_or (first_answer (scope_fault tables) uses)
-    (option_or (join_fault tables pairs) (first_answer use_kind_fault uses)))
-
-abbrev pub order_fault : List Name → List Item → List SortKey → Option PlanFault
-order_fault groups items keys = first_answer (key_fault groups (aggregate_names items)) keys
-
--- of the groups, the items and the order
-abbrev pub grouping_fault : List Name → List Item → List SortKey → Option PlanFault
-grouping_fault groups items keys =
-    option_or (first_beside group_fault groups)
-    (option_or (select_fault groups items) (order_fault groups items keys))
-
--- the first fault in: FROM, the names of columns, the joins, the kinds of columns, GROUP BY, the items, ORDER BY
+-- in: FROM, the names of columns, the joins, the kinds of columns, GROUP BY, the items, ORDER BY
 abbrev pub plan_fault : Tree → Option PlanFault
 plan_fault t =
-    option_or (naming_fault t.tables (uses_of t) (where_pairs t.condition))
-    (grouping_fault t.grouping.columns t.items t.keys)
+    option_or
+    (option_or (option_or (first_beside from_table_fault t.tables) (fact_fault t.tables))
+    (option_or (first_answer (scope_fault t.tables) (uses_of t))
+    (option_or (option_or (first_beside pair_fault (where_pairs t.condition)) (first_answer (missing_fault (where_pairs t.condition)) t.tables))
+    (first_answer use_kind_fault (uses_of t)))))
+    (option_or (first_beside group_fault t.grouping.columns)
+    (option_or (option_or (first_beside (item_fault t.grouping.columns) t.items) (aggregates_fault (aggregate_names t.items)))
+    (first_answer (key_fault t.grouping.columns (aggregate_names t.items)) t.keys)))

@@ -8,7 +8,8 @@ ghost use Rattle.star_common.specs.First.{first_answer};
 ghost use Rattle.star_query.specs.Views.{condition_view, name_view};
 ghost use Rattle.star_plan.specs.First.{first_beside};
 ghost use Rattle.star_plan.specs.Joins as spec;
-ghost use Rattle.star_plan.specs.Faults.{join_fault, missing_fault, pair_fault};
+ghost use Rattle.star_plan.specs.Faults.{missing_fault, pair_fault};
+ghost use Rattle.star_plan.specs.Private.Stages.{join_fault};
 ghost use Rattle.star_plan.specs.Private.Found.{pair_view, pairs_view};
 
 use crate::fault::PlanFault;

@@ -1,13 +1,11 @@
 //! Laws of plans: functions with no body, whose clauses are the laws.
 
-ghost use Rattle.std.specs.Prelude.{◌≡◌, ◌↔◌, ℕ, List, None};
-ghost use Rattle.star_query.specs.Derives.{Means};
+ghost use Rattle.std.specs.Prelude.{◌≡◌, ◌↔◌, None};
 ghost use Rattle.star_query.specs.Tree.{Tree};
 ghost use Rattle.star_plan.specs.Faults.{plan_fault};
 ghost use Rattle.star_plan.specs.Meaning.{Plan};
 ghost use Rattle.star_plan.specs.Limits.{IsPlanWithinLimits};
 ghost use Rattle.star_plan.specs.Planned.{IsPlanned};
-ghost use Rattle.star_plan.specs.Resolved.{IsResolved};
 ghost use Rattle.star_plan.specs.Sound.{IsSoundPlan};
 ghost use Rattle.star_plan.specs.Spelled.{IsSpelledPlan};
 ghost use Rattle.star_plan.specs.WellNamed.{IsWellNamed};
@@ -15,20 +13,6 @@ ghost use Rattle.star_plan.specs.WellNamed.{IsWellNamed};
 /// A query is well named exactly where none of its names is at fault.
 pub fn well_named_queries_have_no_fault()
     ensures { (tree : Tree) → IsWellNamed tree ↔ (plan_fault tree ≡ None) }
-{}
-
-/// A well named query has a plan, and no query has two.
-pub fn one_query_has_one_plan()
-    ensures some { (tree : Tree) → IsWellNamed tree → (p : Plan) × IsResolved tree p }
-    ensures one { (tree : Tree) (p other : Plan)
-        → IsResolved tree p → IsResolved tree other → p ≡ other }
-{}
-
-/// Nor has a text: what it means, and what the names in it stand for, is one.
-pub fn one_text_has_one_plan()
-    ensures { (text : List ℕ) (tree another : Tree) (p other : Plan)
-        → Means text tree → Means text another
-        → IsResolved tree p → IsResolved another other → p ≡ other }
 {}
 
 /// Of a plan each dimension is joined once by a foreign key, columns are of joined tables and of the

@@ -6,7 +6,6 @@
 //! `specs/Fits.antt`.
 #![tactic(auto)]
 
-mod display;
 mod fault;
 mod joins;
 pub mod law;

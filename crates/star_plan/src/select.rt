@@ -11,6 +11,7 @@ ghost use Rattle.star_plan.specs.First.{first_beside};
 ghost use Rattle.star_plan.specs.Names.{has_name};
 ghost use Rattle.star_plan.specs.Naming as spec;
 ghost use Rattle.star_plan.specs.Faults as faults;
+ghost use Rattle.star_plan.specs.Private.Stages as stages;
 ghost use Rattle.star_plan.specs.Resolved.{items_from};
 ghost use Rattle.star_plan.specs.Resolved as resolved;
 ghost use Rattle.star_plan.specs.Views.{names_view};
@@ -49,7 +50,7 @@ fn check_tables(tables: &[Name]) -> Result<(), PlanFault>
 
 /// Whether FROM names lineorder and other tables, each once.
 pub(crate) fn check_from(tables: &[Name]) -> Result<(), PlanFault>
-    ensures { result_err result ≡ faults.from_fault (map name_view tables.now) }
+    ensures { result_err result ≡ stages.from_fault (map name_view tables.now) }
 {
     check_tables(tables)?;
     if has_name(tables, name_of(TableId::Lineorder).as_bytes()) {
@@ -122,7 +123,7 @@ fn check_alias(
     requires there { place < length aggregates.now }
     requires named { get_or (names_view aggregates.now) place []
         ≡ spec.name_of_aggregate (place + 1) (aggregate_view aggregate.now) }
-    ensures { result_err result ≡ faults.alias_fault (map name_view groups.now)
+    ensures { result_err result ≡ stages.alias_fault (map name_view groups.now)
         (take place (names_view aggregates.now)) (aggregate_view aggregate.now) }
 {
     let place = place as usize;
@@ -205,7 +206,7 @@ pub(crate) fn select(
     requires groups { length groups.now ≤ most_columns }
     requires few { length items.now ≤ most_items }
     requires named { names_view aggregates.now ≡ spec.aggregate_names (map item_view items.now) }
-    ensures told { Tells (faults.select_fault (map name_view groups.now) (map item_view items.now))
+    ensures told { Tells (stages.select_fault (map name_view groups.now) (map item_view items.now))
         result }
     ensures shown { Resolves (λ columns. columns.items)
         (items_from (map name_view groups.now) 0 (map item_view items.now)) result }

@@ -4,6 +4,7 @@ ghost use Rattle.std.specs.Prelude.{◌≡◌, ◌++◌, OnOk, IfOk, map};
 ghost use Rattle.std.specs.Result.{result_err};
 ghost use Rattle.star_common.specs.First.{first_answer};
 ghost use Rattle.star_query.specs.Views.{condition_view, expression_view, item_view, literal_view, measure_view, name_view, test_view, tree_view};
+ghost use Rattle.star_plan.specs.Private.Stages as stages;
 ghost use Rattle.star_plan.specs.Uses as spec;
 ghost use Rattle.star_plan.specs.Faults.{use_kind_fault, scope_fault};
 ghost use Rattle.star_plan.specs.Private.Found.{use_view, uses_view};
@@ -27,7 +28,7 @@ pub(crate) struct Use {
 impl Use {
     // A column of any kind.
     fn any(name: &Name) -> Use
-        ensures { use_view result ≡ spec.any_use (name_view name.now) }
+        ensures { use_view result ≡ stages.any_use (name_view name.now) }
     {
         Use {
             column: column_at(name),
@@ -37,7 +38,7 @@ impl Use {
     }
 
     fn of_kind(kind: Kind, name: &Name) -> Use
-        ensures { use_view result ≡ spec.use_as kind (name_view name.now) }
+        ensures { use_view result ≡ stages.use_as kind (name_view name.now) }
     {
         let column = column_at(name);
         Use {
@@ -48,7 +49,7 @@ impl Use {
     }
 
     fn between(from: &Literal, upto: &Literal, name: &Name) -> Use
-        ensures { use_view result ≡ spec.use_between (literal_view from.now)
+        ensures { use_view result ≡ stages.use_between (literal_view from.now)
             (literal_view upto.now) (name_view name.now) }
     {
         let column = column_at(name);
@@ -155,7 +156,7 @@ fn add_test(uses: &mut Vec<Use>, test: &Test) -> Result<(), AllocError>
 
 fn add_condition(uses: &mut Vec<Use>, condition: &Condition<Test>) -> Result<(), AllocError>
     ensures { OnOk result (uses_view uses.new.items ≡ uses_view uses.old.items
-        ++ spec.condition_uses (condition_view condition.now)) }
+        ++ stages.condition_uses (condition_view condition.now)) }
 {
     match condition {
         Condition::Or(left, right) | Condition::And(left, right) => {
@@ -170,7 +171,7 @@ fn add_condition(uses: &mut Vec<Use>, condition: &Condition<Test>) -> Result<(),
 
 fn add_items(uses: &mut Vec<Use>, items: &[Item]) -> Result<(), AllocError>
     ensures { OnOk result (uses_view uses.new.items ≡ uses_view uses.old.items
-        ++ spec.items_uses (map item_view items.now)) }
+        ++ stages.items_uses (map item_view items.now)) }
 {
     for item in items {
         add_item(uses, item)?;
@@ -180,7 +181,7 @@ fn add_items(uses: &mut Vec<Use>, items: &[Item]) -> Result<(), AllocError>
 
 fn add_groups(uses: &mut Vec<Use>, names: &[Name]) -> Result<(), AllocError>
     ensures { OnOk result (uses_view uses.new.items ≡ uses_view uses.old.items
-        ++ spec.groups_uses (map name_view names.now)) }
+        ++ stages.groups_uses (map name_view names.now)) }
 {
     for name in names {
         uses.push(Use::any(name))?;

@@ -5,13 +5,12 @@ use Rattle.star_schema.specs.declared.table.TableId.{TableId}
 use Rattle.star_schema.specs.declared.table.TableId.TheVariants.{Date, Customer, Supplier, Part, Lineorder}
 use Rattle.star_schema.specs.declared.column.ColumnId.{ColumnId}
 use Rattle.star_schema.specs.declared.column.ColumnId.TheVariants.{LoQuantity, LoLinenumber, LoExtendedprice}
-use Rattle.star_schema.specs.declared.group.Shape.TheVariants.{Plain, Cube}
+use Rattle.star_schema.specs.declared.group.Shape.TheVariants.{Plain}
 use Rattle.star_schema.specs.declared.group.Aggregate.{Aggregate}
 use Rattle.star_schema.specs.declared.group.Aggregate.TheVariants as aggregate
 use Rattle.star_schema.specs.declared.group.GroupColumn.TheVariants as column
 use Rattle.star_interval.specs.Range.{Range, only}
 use Rattle.star_program.specs.declared.group.GroupDecl.{GroupDecl}
-use Rattle.star_program.specs.declared.group.GroupKey.TheVariants as key
 use Rattle.star_program.specs.declared.op.Op.TheVariants as op
 use Rattle.star_program.specs.declared.op.Operation.{Operation}
 use Rattle.star_program.specs.declared.op.Operation.TheVariants as operation
@@ -167,28 +166,3 @@ doubled_difference = program 10 (plain (aggregate.Sum ∷ []) ∷ plain (aggrega
     (assign 7 (operation.Binary operator.Sub 5 6)
     (assign 8 (operation.Const (pos 2))
     (assign 9 (operation.Binary operator.Mul 7 8) (Then (op.Put 1 [] (9 ∷ [])) Stop)))))))
-
-abbrev pub two_keys : GroupDecl
-two_keys = record {
-  shape = Cube;
-  keys = key.Number ∷ key.Number ∷ [];
-  aggregates =
-      aggregate.Sum ∷ aggregate.Count ∷ [];
-}
-
--- one update of a cube of these keys, with all of its columns shown
-abbrev pub one_put : Parts
-one_put = record {
-  registers = 3;
-  groups = two_keys ∷ [];
-  body = assign 0 (operation.Const (pos 1))
-      (assign 1 (operation.Const (pos 2))
-      (assign 2 (operation.Const (pos 7)) (Then (op.Put 0 (0 ∷ 1 ∷ []) (2 ∷ [])) Stop)));
-  report = 0;
-  shows =
-      record { name = codes "a"; column = column.Key 0 }
-      ∷ record { name = codes "b"; column = column.Key 1 }
-      ∷ record { name = codes "s"; column = column.Aggregate 0 }
-      ∷ record { name = codes "n"; column = column.Aggregate 1 } ∷ [];
-  sorts = [];
-}

@@ -1,6 +1,5 @@
 -- Lemmas on the text of programs.
 mod WorkedTexts
-mod WorkedLines
 pub mod Positions
 pub mod LineLemmas
 pub mod WordLemmas
@@ -18,7 +17,4 @@ pub mod SpelledWords
 pub mod Spelled
 pub mod Sayable
 pub mod Takes
-pub mod Paths
-pub mod Begun
 pub mod Faultless
-pub mod FirstFaultLaw

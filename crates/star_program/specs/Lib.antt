@@ -14,7 +14,6 @@ pub mod Run
 pub mod Rows
 pub mod RowCells
 pub mod Outcome
-pub mod Cells
 pub mod CellViews
 pub mod Overflow
 pub mod Text

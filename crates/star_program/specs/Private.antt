@@ -5,7 +5,6 @@ pub mod Followed
 pub mod Doing
 pub mod Returns
 pub mod Within
-pub mod Places
 pub mod Reading
 pub mod Drafts
 pub mod Kept

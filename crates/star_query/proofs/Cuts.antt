@@ -1,8 +1,6 @@
--- The cut of a text is what its laws say: white space and tokens, each the longest, up to what
--- stops it.
-use Rattle.std.proofs.Common.{◌≡◌, ◌∙◌, ◌↔◌, refl, sym, ap, subst, ℕ, zero, suc, ◌+◌, ◌<◌, ◌≤◌, ◌⊎◌, inl, inr, Bool, true, false, List, [], ◌∷◌, ◌++◌}
-use Rattle.std.proofs.Common.{length, take, drop, arith, Option, Some, None, Result, Ok, Err, append_assoc, length-append, nat_eq, find, append-nil}
-use Rattle.std.specs.Prelude.{◌==◌, ◌||◌, ◌&&◌, not as negated, nat_lt, cond, Contains, if◌then◌else◌, slice_index_or, nat_le}
+-- The cut of a text by the function is its tokens, up to what stops it.
+use Rattle.std.proofs.Common.{◌≡◌, ◌∙◌, ◌↔◌, refl, sym, ap, subst, ℕ, zero, suc, ◌+◌, ◌<◌, ◌≤◌, ◌⊎◌, inl, inr, Bool, true, false, List, [], ◌∷◌, ◌++◌, length, take, drop, arith, Option, Some, None, Result, Ok, Err, append_assoc, length-append, nat_eq, find, append-nil}
+use Rattle.std.specs.Prelude.{codes, ◌≢◌, ◌==◌, ◌||◌, ◌&&◌, not as negated, nat_lt, cond, Contains, if◌then◌else◌, slice_index_or, nat_le}
 use Rattle.std.specs.List.{AllByRecursion, flat_map, list_all, prefix_len, starts_with}
 use Rattle.std.specs.Char.{is_ascii_digit}
 use Rattle.std.specs.Cmp.Lexicographic.{same_text}
@@ -18,17 +16,20 @@ use Rattle.star_common.specs.Printable.{is_printable}
 use Rattle.star_query.specs.declared.token.Word.{Word}
 use Rattle.star_query.specs.declared.token.Word.TheVariants as words
 use Rattle.star_query.specs.declared.token.Relation.TheVariants as r
+use Rattle.star_query.specs.declared.token.Sign.TheVariants as s
+use Rattle.star_query.specs.declared.token.Additive.TheVariants as q
 use Rattle.star_query.specs.declared.fault.QueryFault.{QueryFault}
 use Rattle.star_query.specs.declared.fault.QueryFault.TheVariants.{BadCharacter, BadNumber, OpenText, OutOfMemory}
 use Rattle.star_query.specs.Maxima.{most_digits}
-use Rattle.star_query.specs.Symbols.{Symbol, Placed, relation, sign, additive, number, text, word_symbol}
-use Rattle.star_query.specs.Cut.{Piece, blank, token, bad, put_in_front, text_said, signs, is_letter, is_word_byte, begins_with_letter, reserved, word_of, word_piece, number_piece, text_piece, sign_piece, piece_at, cut_from, cut_of}
+use Rattle.star_query.specs.Symbols.{Symbol, Placed, relation, sign, additive, name, number, text, spelling, word_symbol, lowered}
+use Rattle.star_query.specs.Private.Cut.{Piece, blank, token, bad, put_in_front, text_said, reserved, word_of, word_piece, number_piece, text_piece, sign_piece, piece_at, cut_from, cut_of}
 use Rattle.star_common.specs.WhiteSpace.{is_blank}
-use Rattle.star_query.specs.Tokens.{IsToken, a_word, a_number, a_text, a_sign, continues, is_whole, AreTokens, no_more, white_space, a_token, IsBadNumber, IsStray, Stops, IsStopped}
+use Rattle.star_query.specs.Tokens.{is_letter, is_word_byte, begins_with_letter, is_word, signs, IsToken, a_word, a_name, a_number, a_text, a_sign, continues, is_whole, AreTokens, no_more, white_space, a_token, IsBadNumber, IsStray, Stops, IsStopped}
 use Rattle.star_query.specs.Private.Lexed.{front_piece, with_tokens}
 use Rattle.star_query.proofs.Counting.{by_bool}
 use Rattle.star_query.proofs.Lexing.{cut_bad, cut_blank, cut_token, number_followed, number_long, number_some, prefix_passes, prefix_within, word_some}
 use Rattle.star_query.proofs.Quotes.{Reads, read_closed, read_open, read_stopped, reads}
+use Rattle.star_query.proofs.Reserved.{spelled_alone}
 use Rattle.star_query.proofs.Signs.{same_sign_piece}
 
 -- ---- runs of bytes
@@ -78,7 +79,7 @@ unfolding ends
 over_to x p [] same over = refl
 over_to x p (b ∷ bs) same over = rw (← same b) over
 
-pub word_goes_on : (place : ℕ) (word : List ℕ) (b : ℕ)
+word_goes_on : (place : ℕ) (word : List ℕ) (b : ℕ)
     → continues (word_of place word) b ≡ is_word_byte b
 word_goes_on place word b = go (reserved word) refl
   where
@@ -90,6 +91,23 @@ word_goes_on place word b = go (reserved word) refl
     go : (o : Option Word) → reserved word ≡ o → continues (word_of place word) b ≡ is_word_byte b
     go None h = rw h refl
     go (Some w) h = rw h (of_word w)
+
+-- a word is a reserved word or a name
+word_token : (place : ℕ) (word : List ℕ) → is_word word ≡ true
+    → IsToken place word (word_of place word)
+word_token place word is = go (reserved word) refl
+  where
+    go : (o : Option Word) → reserved word ≡ o → IsToken place word (word_of place word)
+    go None h = rw h (a_name is (λ w e. let found = (spelled_alone w word).1 e in cc) refl)
+    go (Some w) h = rw h (a_word is w ((spelled_alone w word).0 h) refl)
+
+name_of : (place : ℕ) (word : List ℕ) → ((w : Word) → lowered word ≢ spelling w)
+    → word_of place word ≡ name (lowered word) place
+name_of place word none = go (reserved word) refl
+  where
+    go : (o : Option Word) → reserved word ≡ o → word_of place word ≡ name (lowered word) place
+    go None h = rw h refl
+    go (Some w) h = absurd (none w ((spelled_alone w word).0 h))
 
 if_then : {X : Type 0} (c : Bool) (x y : X) → c ≡ true → (if c then x else y) ≡ x
 if_then true x y e = refl
@@ -127,8 +145,9 @@ word_found place b bs letter =
     let width = prefix_len is_word_byte bytes in (
       word_some bytes letter,
       prefix_within is_word_byte bytes,
-      a_word (front_begins is_word_byte is_letter b bs byte letter)
-          (prefix_passes is_word_byte bytes) refl,
+      word_token place (take width bytes) (and_from _ _
+          (front_begins is_word_byte is_letter b bs byte letter)
+          (prefix_passes is_word_byte bytes)),
       over_from (word_of place (take width bytes)) is_word_byte (drop width bytes)
           (word_goes_on place (take width bytes)) (run_ends is_word_byte bytes),
     )
@@ -224,9 +243,18 @@ at_place P [] k d all below = absurd (omega arith)
 at_place P (x ∷ xs) zero d all below = all.0
 at_place P (x ∷ xs) (suc k) d all below = at_place P xs k d all.1 (omega arith)
 
-each_sign : (P : List ℕ × Symbol → Type 0) (word : List ℕ) (x : Symbol) → AllByRecursion P signs
+-- in the order of the table
+pub each_sign : (P : List ℕ × Symbol → Type 0) (word : List ℕ) (x : Symbol)
+    → P (codes "<=", relation r.AtMost) → P (codes "<>", relation r.Unequal)
+    → P (codes ">=", relation r.AtLeast) → P (codes "<", relation r.Less)
+    → P (codes ">", relation r.Greater) → P (codes "=", relation r.Equal)
+    → P (codes ",", sign s.Comma) → P (codes "(", sign s.Open) → P (codes ")", sign s.Close)
+    → P (codes "*", sign s.Star) → P (codes ";", sign s.Semicolon)
+    → P (codes "+", additive q.Plus) → P (codes "-", additive q.Minus)
     → Contains signs (word, x) → P (word, x)
-each_sign P word x all (k, below, is) = subst P is (at_place P signs k (word, x) all below)
+each_sign P word x a b c d e f g h i j k l m (n, below, is) =
+    subst P is (at_place P signs n (word, x)
+    (a, (b, (c, (d, (e, (f, (g, (h, (i, (j, (k, (l, (m, tt))))))))))))) below)
 
 -- a byte that signs begin with
 sign_first : (place b n : ℕ) (bs : List ℕ) → (b == n) ≡ true
@@ -314,43 +342,16 @@ sign_found place b bs no_blank no_word no_quote =
         no_word = no_word;
         no_quote = no_quote;
         no_sign = λ word x rest there.
-            each_sign (λ (w, y). (rest : List ℕ) → b ∷ bs ≡ w ++ rest → ⊥) word x (
-              (λ rest. other_first b 60 bs (61 ∷ []) rest e60),
-              (
-                (λ rest. other_first b 60 bs (62 ∷ []) rest e60),
-                (
-                  (λ rest. other_first b 62 bs (61 ∷ []) rest e62),
-                  (
-                    (λ rest. other_first b 60 bs [] rest e60),
-                    (
-                      (λ rest. other_first b 62 bs [] rest e62),
-                      (
-                        (λ rest. other_first b 61 bs [] rest e61),
-                        (
-                          (λ rest. other_first b 44 bs [] rest e44),
-                          (
-                            (λ rest. other_first b 40 bs [] rest e40),
-                            (
-                              (λ rest. other_first b 41 bs [] rest e41),
-                              (
-                                (λ rest. other_first b 42 bs [] rest e42),
-                                (
-                                  (λ rest. other_first b 59 bs [] rest e59),
-                                  (
-                                    (λ rest. other_first b 43 bs [] rest e43),
-                                    ((λ rest. other_first b 45 bs [] rest e45), tt),
-                                  ),
-                                ),
-                              ),
-                            ),
-                          ),
-                        ),
-                      ),
-                    ),
-                  ),
-                ),
-              ),
-            ) there rest;
+            each_sign (λ (w, y). (rest : List ℕ) → b ∷ bs ≡ w ++ rest → ⊥) word x
+            (λ rest. other_first b 60 bs (61 ∷ []) rest e60)
+            (λ rest. other_first b 60 bs (62 ∷ []) rest e60)
+            (λ rest. other_first b 62 bs (61 ∷ []) rest e62)
+            (λ rest. other_first b 60 bs [] rest e60) (λ rest. other_first b 62 bs [] rest e62)
+            (λ rest. other_first b 61 bs [] rest e61) (λ rest. other_first b 44 bs [] rest e44)
+            (λ rest. other_first b 40 bs [] rest e40) (λ rest. other_first b 41 bs [] rest e41)
+            (λ rest. other_first b 42 bs [] rest e42) (λ rest. other_first b 59 bs [] rest e59)
+            (λ rest. other_first b 43 bs [] rest e43) (λ rest. other_first b 45 bs [] rest e45)
+            there rest;
       },
     )))))))))))))
 
@@ -401,11 +402,12 @@ digit_no_letter b digit =
     rw (low, high, line) refl
 
 -- words
-word_front : (place : ℕ) (word rest : List ℕ) → begins_with_letter word ≡ true
-    → list_all is_word_byte word ≡ true → is_whole (word_of place word) rest ≡ true
+word_front : (place : ℕ) (word rest : List ℕ) → is_word word ≡ true
+    → is_whole (word_of place word) rest ≡ true
     → front_piece place (word ++ rest) ≡ token (word_of place word) (length word)
-word_front place [] rest begins all over = cc
-word_front place (b ∷ bs) rest begins all over =
+word_front place [] rest is over = cc
+word_front place (b ∷ bs) rest is over =
+    let (begins, all) = and_parts (is_letter b) (list_all is_word_byte (b ∷ bs)) is in
     let run : prefix_len is_word_byte ((b ∷ bs) ++ rest) ≡ length (b ∷ bs) =
     run_is is_word_byte (b ∷ bs) rest all
     (over_to (word_of place (b ∷ bs)) is_word_byte rest (word_goes_on place (b ∷ bs)) over) in
@@ -424,7 +426,7 @@ digit_piece place b bs digit =
     if_else (is_blank b) _ _ no_blank ∙ if_else (is_letter b) _ _ (digit_no_letter b digit)
     ∙ if_then (is_ascii_digit b) _ _ digit
 
-numeral_parts : (places : ℕ) (digits : List ℕ) (n : ℕ) → numeral_of places digits ≡ Some n
+pub numeral_parts : (places : ℕ) (digits : List ℕ) (n : ℕ) → numeral_of places digits ≡ Some n
     → (1 ≤ length digits) × (length digits ≤ places) × (list_all is_ascii_digit digits ≡ true)
     × (digits_value 10 digits ≡ n)
 numeral_parts places digits n e =
@@ -527,41 +529,22 @@ sign_front : (place : ℕ) (word : List ℕ) (x : Symbol) (rest : List ℕ) → 
     → front_piece place (word ++ rest) ≡ token x (length word)
 sign_front place word x rest there over =
     each_sign (λ (w, y). is_whole y rest ≡ true
-    → front_piece place (w ++ rest) ≡ token y (length w)) word x (
-      (λ o. refl),
-      (
-        (λ o. refl),
-        (
-          (λ o. refl),
-          (
-            less_front place rest,
-            (
-              greater_front place rest,
-              (
-                (λ o. refl),
-                (
-                  (λ o. refl),
-                  (
-                    (λ o. refl),
-                    (
-                      (λ o. refl),
-                      ((λ o. refl), ((λ o. refl), ((λ o. refl), ((λ o. refl), tt)))),
-                    ),
-                  ),
-                ),
-              ),
-            ),
-          ),
-        ),
-      ),
-    ) there over
+    → front_piece place (w ++ rest) ≡ token y (length w)) word x
+    (λ o. refl) (λ o. refl) (λ o. refl) (less_front place rest) (greater_front place rest)
+    (λ o. refl) (λ o. refl) (λ o. refl) (λ o. refl) (λ o. refl) (λ o. refl) (λ o. refl) (λ o. refl)
+    there over
 
-pub token_front : (place : ℕ) (word rest : List ℕ) (x : Symbol) → IsToken place word x
+token_front : (place : ℕ) (word rest : List ℕ) (x : Symbol) → IsToken place word x
     → is_whole x rest ≡ true
     → front_piece place (word ++ rest) ≡ token x (length word)
-token_front place word rest x (a_word begins all same) over =
-    let o : is_whole (word_of place word) rest ≡ true = rw (← same) over in
-    word_front place word rest begins all o ∙ ap (λ y. token y (length word)) (sym same)
+token_front place word rest x (a_word is w e same) over =
+    let found : word_of place word ≡ x = rw ((spelled_alone w word).1 e) (sym same) in
+    word_front place word rest is (subst (λ y. is_whole y rest ≡ true) (sym found) over)
+    ∙ ap (λ y. token y (length word)) found
+token_front place word rest x (a_name is none same) over =
+    let found : word_of place word ≡ x = name_of place word none ∙ sym same in
+    word_front place word rest is (subst (λ y. is_whole y rest ≡ true) (sym found) over)
+    ∙ ap (λ y. token y (length word)) found
 token_front place word rest x (a_number n e same) over =
     let o : is_whole (number n) rest ≡ true = rw (← same) over in
     number_front place word rest n e o ∙ ap (λ y. token y (length word)) (sym same)
@@ -643,7 +626,7 @@ stray_stop place b bs is =
         absurd (is.no_sign word x (drop (length word) (b ∷ bs)) one.0
         (begins_so (b ∷ bs) word one.1))
 
-pub stop_front : (place : ℕ) (bytes : List ℕ) (fault : QueryFault) → Stops place bytes fault
+stop_front : (place : ℕ) (bytes : List ℕ) (fault : QueryFault) → Stops place bytes fault
     → front_piece place bytes ≡ bad fault
 stop_front place bytes (BadNumber at) (same, is) =
     number_stop place bytes is ∙ ap (λ p. bad (BadNumber p)) (sym same)
@@ -741,32 +724,19 @@ cut_so (suc n) place (b ∷ bs) few =
 
 token_some : (place : ℕ) (word : List ℕ) (x : Symbol) → IsToken place word x → 1 ≤ length word
 unfolding quoted
-token_some place [] x (a_word begins all same) = absurd (cc)
-token_some place (b ∷ bs) x (a_word begins all same) = omega arith
+token_some place [] x (a_word is w e same) = absurd (cc)
+token_some place (b ∷ bs) x (a_word is w e same) = omega arith
+token_some place [] x (a_name is none same) = absurd (cc)
+token_some place (b ∷ bs) x (a_name is none same) = omega arith
 token_some place word x (a_number n e same) = (numeral_parts most_digits word n e).0
 token_some place word x (a_text t printed cut same) =
     omega (arith, ap length cut, length-append (flat_map doubled t) (39 ∷ []))
 token_some place word x (a_sign there) =
     let some : (n : ℕ) → 1 ≤ suc n = λ n. omega arith in
-    each_sign (λ (w, y). 1 ≤ length w) word x (
-      some 1,
-      (
-        some 1,
-        (
-          some 1,
-          (
-            some 0,
-            (
-              some 0,
-              (
-                some 0,
-                (some 0, (some 0, (some 0, (some 0, (some 0, (some 0, (some 0, tt))))))),
-              ),
-            ),
-          ),
-        ),
-      ),
-    ) there
+    let one : 1 ≤ 1 = some 0 in
+    let two : 1 ≤ 2 = some 1 in
+    each_sign (λ (w, y). 1 ≤ length w) word x two two two one one one one one one one one one one
+    there
 
 no_tokens : (o : Result (List Placed) QueryFault) → o ≡ with_tokens [] o
 no_tokens (Ok ts) = refl
@@ -818,147 +788,3 @@ stop_cuts bytes fault = (
       ∙ ap (with_tokens is.tokens)
       (cut_bad is.end is.left fault (stop_front is.end is.left fault is.stops)),
 )
-
--- ---- each token is the longest
-
-token_wide : (place b : ℕ) (bs : List ℕ) (x : Symbol) (w : ℕ)
-    → front_piece place (b ∷ bs) ≡ token x w → 1 ≤ w
-token_wide place b bs x w e = let found : Found place (b ∷ bs) (token x w) =
-    subst (Found place (b ∷ bs)) e (piece_found place b bs) in found.0
-
-token_width : (x y : Symbol) (v w : ℕ) → token x v ≡ token y w → v ≡ w
-token_width x y v w e = cc
-
-number_width : (place : ℕ) (bytes : List ℕ) (width : ℕ) (x : Symbol) (w : ℕ)
-    → number_by place bytes width ≡ token x w → width ≡ w
-number_width place bytes width x w e =
-    by_bool (nat_lt most_digits width || begins_with_letter (drop width bytes))
-    (λ wrong. let f : bad (BadNumber place) ≡ token x w = sym (if_then _ _ _ wrong) ∙ e in
-    absurd (cc))
-    (λ right. token_width _ _ _ _ (sym (if_else _ _ _ right) ∙ e))
-
--- a text is read to a quote that no other follows
-no_shorter : (s t left rest : List ℕ)
-    → flat_map doubled s ++ 39 ∷ left ≡ flat_map doubled t ++ 39 ∷ rest
-    → is_whole (text []) rest ≡ true
-    → length (flat_map doubled s) ≤ length (flat_map doubled t)
-no_shorter [] t left rest e over = omega arith
-no_shorter (b ∷ s) [] left rest e over =
-    by_bool (b == 39)
-    (λ quote. let f : 39 ∷ 39 ∷ (flat_map doubled s ++ 39 ∷ left) ≡ 39 ∷ rest = rw quote at e in
-    let more : 39 ∷ (flat_map doubled s ++ 39 ∷ left) ≡ rest = cc in
-    absurd (let wrong : false ≡ true = subst (λ r. is_whole (text []) r ≡ true) (sym more) over in
-    cc))
-    (λ other. let f : b ∷ (flat_map doubled s ++ 39 ∷ left) ≡ 39 ∷ rest = rw other at e in
-    let same : b ≡ 39 = cc in absurd (let wrong = rw (eq-eqb b 39 same) at other in cc))
-no_shorter (b ∷ s) (c ∷ t) left rest e over =
-    by_bool (b == 39)
-    (λ quote. by_bool (c == 39)
-    (λ second. let f : 39 ∷ 39 ∷ (flat_map doubled s ++ 39 ∷ left)
-    ≡ 39 ∷ 39 ∷ (flat_map doubled t ++ 39 ∷ rest) = rw (quote, second) at e in
-    let tails : flat_map doubled s ++ 39 ∷ left ≡ flat_map doubled t ++ 39 ∷ rest = cc in
-    let less = no_shorter s t left rest tails over in rw (quote, second) (omega (arith, less)))
-    (λ other. let f : 39 ∷ 39 ∷ (flat_map doubled s ++ 39 ∷ left)
-    ≡ c ∷ (flat_map doubled t ++ 39 ∷ rest) = rw (quote, other) at e in
-    let same : 39 ≡ c = cc in absurd (let wrong = rw (eq-eqb c 39 (sym same)) at other in cc)))
-    (λ other. by_bool (c == 39)
-    (λ second. let f : b ∷ (flat_map doubled s ++ 39 ∷ left)
-    ≡ 39 ∷ 39 ∷ (flat_map doubled t ++ 39 ∷ rest) = rw (other, second) at e in
-    let same : b ≡ 39 = cc in absurd (let wrong = rw (eq-eqb b 39 same) at other in cc))
-    (λ neither. let f : b ∷ (flat_map doubled s ++ 39 ∷ left)
-    ≡ c ∷ (flat_map doubled t ++ 39 ∷ rest) = rw (other, neither) at e in
-    let tails : flat_map doubled s ++ 39 ∷ left ≡ flat_map doubled t ++ 39 ∷ rest = cc in
-    let less = no_shorter s t left rest tails over in rw (other, neither) (omega (arith, less))))
-
-text_longest : (place : ℕ) (t left : List ℕ) (x : Symbol) (w : ℕ)
-    → front_piece place (quoted t ++ left) ≡ token x w → length (quoted t) ≤ w
-unfolding quoted
-text_longest place t left x w e =
-    let behind : (flat_map doubled t ++ 39 ∷ []) ++ left ≡ flat_map doubled t ++ 39 ∷ left =
-    append_assoc (flat_map doubled t) (39 ∷ []) left in
-    let bytes = flat_map doubled t ++ 39 ∷ left in
-    go (text_said place (place + 1) false bytes) refl (reads place (place + 1) false bytes)
-    (sym (ap (text_piece place) behind) ∙ e)
-  where
-    go : (o : Result (List ℕ) QueryFault)
-        → text_said place (place + 1) false (flat_map doubled t ++ 39 ∷ left) ≡ o
-        → Reads place (place + 1) false (flat_map doubled t ++ 39 ∷ left) o
-        → text_piece place (flat_map doubled t ++ 39 ∷ left) ≡ token x w
-        → length (39 ∷ (flat_map doubled t ++ 39 ∷ [])) ≤ w
-    go (Ok u) h (rest, parted, printed, over) f =
-        let same : token (text u) (length (flat_map doubled u) + 2) ≡ token x w =
-        sym (text_is place (flat_map doubled t ++ 39 ∷ left) (Ok u) h) ∙ f in
-        let width : length (flat_map doubled u) + 2 ≡ w = cc in
-        omega (
-          arith,
-          width,
-          no_shorter t u left rest parted over,
-          length-append (flat_map doubled t) (39 ∷ []),
-        )
-    go (Err q) h is f =
-        let same : bad q ≡ token x w =
-        sym (text_is place (flat_map doubled t ++ 39 ∷ left) (Err q) h) ∙ f in absurd (cc)
-
--- what begins there has at least as many bytes as any token that the bytes begin with
-as_wide : (place : ℕ) (longer left : List ℕ) (y x : Symbol) (w : ℕ) → IsToken place longer y
-    → front_piece place (longer ++ left) ≡ token x w → length longer ≤ w
-as_wide place [] left y x w (a_word begins all same) e = absurd (cc)
-as_wide place (b ∷ bs) left y x w (a_word begins all same) e =
-    let bytes = (b ∷ bs) ++ left in
-    let piece : word_piece place bytes ≡ token x w =
-    sym (if_else (is_blank b) _ _ (no_blank_by is_letter b begins refl refl refl refl)
-    ∙ if_then (is_letter b) _ _ begins) ∙ e in
-    let width : prefix_len is_word_byte bytes ≡ w = token_width _ _ _ _ piece in
-    omega (arith, width, run_within is_word_byte (b ∷ bs) left all)
-as_wide place longer left y x w (a_number n e same) f =
-    go longer (numeral_parts most_digits longer n e) f
-  where
-    go : (digits : List ℕ) → (1 ≤ length digits) × (length digits ≤ most_digits)
-        × (list_all is_ascii_digit digits ≡ true) × (digits_value 10 digits ≡ n)
-        → front_piece place (digits ++ left) ≡ token x w → length digits ≤ w
-    go [] (some, few, all, value) f = omega arith
-    go (b ∷ bs) (some, few, all, value) f =
-        let bytes = (b ∷ bs) ++ left in
-        let first = and_parts (is_ascii_digit b) (list_all is_ascii_digit bs) all in
-        let piece : number_by place bytes (prefix_len is_ascii_digit bytes) ≡ token x w =
-        sym (digit_piece place b (bs ++ left) first.0) ∙ f in
-        let width : prefix_len is_ascii_digit bytes ≡ w =
-        number_width place bytes (prefix_len is_ascii_digit bytes) x w piece in
-        omega (arith, width, run_within is_ascii_digit (b ∷ bs) left all)
-as_wide place longer left y x w (a_text t printed cut same) f =
-    let g : front_piece place (quoted t ++ left) ≡ token x w =
-    sym (ap (λ l. front_piece place (l ++ left)) cut) ∙ f in
-    let long = text_longest place t left x w g in omega (arith, ap length cut, long)
-as_wide place longer left y x w (a_sign there) f =
-    each_sign (λ (s, z). front_piece place (s ++ left) ≡ token x w → length s ≤ w) longer y (
-      two (relation r.AtMost),
-      (
-        two (relation r.Unequal),
-        (
-          two (relation r.AtLeast),
-          (
-            one 60,
-            (
-              one 62,
-              (
-                one 61,
-                (one 44, (one 40, (one 41, (one 42, (one 59, (one 43, (one 45, tt))))))),
-              ),
-            ),
-          ),
-        ),
-      ),
-    ) there f
-  where
-    one : (b : ℕ) → front_piece place (b ∷ left) ≡ token x w → 1 ≤ w
-    one b g = token_wide place b left x w g
-
-    two : (z : Symbol) → token z 2 ≡ token x w → 2 ≤ w
-    two z g = let width : 2 ≡ w = token_width _ _ _ _ g in omega (arith, width)
-
-pub longest : (place : ℕ) (word bytes longer left : List ℕ) (x y : Symbol) → IsToken place word x
-    → is_whole x bytes ≡ true
-    → IsToken place longer y → longer ++ left ≡ word ++ bytes → length longer ≤ length word
-longest place word bytes longer left x y is over other same =
-    as_wide place longer left y x (length word) other
-    (ap (front_piece place) same ∙ token_front place word bytes x is over)

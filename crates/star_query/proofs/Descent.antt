@@ -17,9 +17,7 @@ use Rattle.star_query.specs.declared.tree.Expression.TheVariants as expressions
 use Rattle.star_query.specs.Symbols.{Symbol, sign, additive, name, number}
 use Rattle.star_query.specs.Tree as tree
 use Rattle.star_query.specs.Private.Phrases.{Expr, plus_or_minus, Term, times, column, constant, negative, parens, first, ident, sum_or_difference, expr_tree, term_tree, factor_tree}
-use Rattle.star_query.specs.Private.Machine.{ExprHole, in_parens, TermHole, first_term, next_term, FactorHole, first_factor, next_factor, expr_depth}
-use Rattle.star_query.specs.Private.Machine.{term_depth, factor_depth, ParserState, factor_wanted, factor_negative, term_had, expr_had, give_factor}
-use Rattle.star_query.specs.Private.Machine.{to, next_step, query_at_end, Verdict, Bad, plus, checked, verdict_after, ends, run}
+use Rattle.star_query.specs.Private.Machine.{ExprHole, in_parens, TermHole, first_term, next_term, FactorHole, first_factor, next_factor, expr_depth, term_depth, factor_depth, ParserState, factor_wanted, factor_negative, term_had, expr_had, give_factor, to, next_step, query_at_end, Verdict, Bad, plus, checked, verdict_after, ends, run}
 use Rattle.star_query.specs.Views.{name_view, expression_view}
 use Rattle.star_query.specs.Private.Reads.{Spot, head_of, No, verdict, EndsBad, Takes, NoName, NoNumber, IsName, IsNumber, IsBeyond, ReadsToken, ReadsName, ReadsNumber, Nests, ReadsPhrase, ReadsOperand, ReadsFactor, ReadsTerm, ReadsExpr}
 use Rattle.star_query.specs.Private.Lists.{bad_along}
@@ -55,19 +53,6 @@ head_is : (left : List Symbol) (x : Symbol) → head_of left ≡ Some x
     → (rest : List Symbol) × (left ≡ x ∷ rest)
 head_is [] x e = cc
 head_is (y ∷ ys) x e = (ys, (let same : y ≡ x = cc in ap (λ z. z ∷ ys) same))
-
--- too deep at the next symbol
-pub too_deep : (old : Spot) (x : Symbol) (ps : List Part) (d : ℕ) (from next : ParserState)
-    → head_of old.left ≡ Some x → 32 < d → next_step from x ≡ to next (first ps d x)
-    → verdict old from ≡ Bad TooDeep old.left
-too_deep old x ps d from next h deep e =
-    let l = head_is old.left x h in
-    let over : nat_lt 32 d ≡ true = grind (arith, deep) in
-    let now : checked old.counts (first ps d x) (x ∷ l.0) (run l.0 next) ≡ Bad TooDeep (x ∷ l.0) =
-    rw over refl in
-    ap (λ left. run left from old.counts) l.1
-    ∙ ap (λ o. verdict_after o old.counts (x ∷ l.0) (run l.0)) e ∙ now
-    ∙ ap (Bad TooDeep) (sym l.1)
 
 -- too many at the next symbol
 pub too_many : (old : Spot) (ps : List Part) (d : ℕ) (from : ParserState)

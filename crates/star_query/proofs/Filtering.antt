@@ -21,9 +21,7 @@ use Rattle.star_query.specs.declared.tree.Condition.TheVariants as conditions
 use Rattle.star_query.specs.Symbols.{Symbol, keyword, relation, sign, additive, name, number, text}
 use Rattle.star_query.specs.Tree as tree
 use Rattle.star_query.specs.Private.Phrases.{unsigned_literal, negative_literal, string_literal, Cond, or_conj, Conj, and_unit, Unary, not_unit, group, pair, compare, between, ident, lit_tree, cond_tree, conj_tree, unit_tree}
-use Rattle.star_query.specs.Private.Machine.{compared, low, high, UnitHole, first_unit, next_unit, under_not, ConjHole, first_conj, next_conj, CondHole}
-use Rattle.star_query.specs.Private.Machine.{in_group, lit_depth, unit_depth, conj_depth, cond_depth, lit_wanted, lit_negative, low_had, unit_wanted}
-use Rattle.star_query.specs.Private.Machine.{unit_named, equal_had, conj_had, cond_had, give_lit, give_unit, behind_relation, next_step, Verdict}
+use Rattle.star_query.specs.Private.Machine.{compared, low, high, UnitHole, first_unit, next_unit, under_not, ConjHole, first_conj, next_conj, CondHole, in_group, lit_depth, unit_depth, conj_depth, cond_depth, lit_wanted, lit_negative, low_had, unit_wanted, unit_named, equal_had, conj_had, cond_had, give_lit, give_unit, behind_relation, next_step, Verdict}
 use Rattle.star_query.specs.Views.{name_view, literal_view, condition_view}
 use Rattle.star_query.specs.Private.Reads.{Spot, No, verdict, Takes, NoName, ReadsName, ReadsLit, ReadsNamed, ReadsUnit, ReadsConj, ReadsCond}
 use Rattle.star_query.specs.Private.Lists.{bad_along}

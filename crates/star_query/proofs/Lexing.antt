@@ -1,6 +1,5 @@
 -- The readers of the lexer read what begins at a place.
-use Rattle.std.proofs.Common.{None, ◌≡◌, ◌∙◌, ◌↔◌, ℕ, Bool, true, false, List, [], ◌∷◌, IsTrue, nat_eq, refl, sym, ap, subst, ◌+◌, ◌<◌, ◌≤◌}
-use Rattle.std.proofs.Common.{◌-◌, arith, length, drop, take, zero, suc, Result, Ok, Err, ◌++◌, append_assoc, append-nil, drop-drop}
+use Rattle.std.proofs.Common.{None, ◌≡◌, ◌∙◌, ◌↔◌, ℕ, Bool, true, false, List, [], ◌∷◌, IsTrue, nat_eq, refl, sym, ap, subst, ◌+◌, ◌<◌, ◌≤◌, ◌-◌, arith, length, drop, take, zero, suc, Result, Ok, Err, ◌++◌, append_assoc, append-nil, drop-drop}
 use Rattle.std.specs.Cmp.Lexicographic.{pointwise, same_text}
 use Rattle.std.proofs.lemmas.Bool.{and_from, eq-eqb, le-leb, lt-ltb, ltb-false, ltb-true, or_right}
 use Rattle.star_query.specs.declared.token.Word.{Word}
@@ -8,7 +7,8 @@ use Rattle.star_query.specs.declared.token.Word.TheVariants.{Keyword, Fold, Coun
 use Rattle.star_query.specs.declared.token.Keyword.TheVariants.{Select}
 use Rattle.star_query.specs.declared.token.Fold.TheVariants.{Sum}
 use Rattle.star_query.specs.Symbols.{Symbol, Placed, spelling, lowered}
-use Rattle.star_query.specs.Cut.{is_spelled, blank, token, bad, cut_from, cut_of, put_in_front, begins_with_letter, is_word_byte, number_piece}
+use Rattle.star_query.specs.Private.Cut.{is_spelled, blank, token, bad, cut_from, cut_of, put_in_front, number_piece}
+use Rattle.star_query.specs.Tokens.{begins_with_letter, is_word_byte}
 use Rattle.star_query.specs.declared.fault.QueryFault.TheVariants.{BadNumber, OutOfMemory, TooLong}
 use Rattle.star_query.specs.declared.fault.QueryFault.{QueryFault}
 use Rattle.std.specs.Char.{is_ascii_digit}

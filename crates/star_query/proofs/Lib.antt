@@ -7,7 +7,6 @@ pub mod Finishes
 pub mod Counting
 pub mod Verdicts
 pub mod WorkedRows
-pub mod WorkedQuery
 pub mod Tokens
 pub mod Descent
 pub mod Filtering
@@ -22,3 +21,4 @@ pub mod MeantTrees
 pub mod Reserved
 pub mod FirstFaults
 pub mod Phrased
+pub mod Told

@@ -11,15 +11,17 @@ use Rattle.star_query.specs.declared.fault.QueryFault.TheVariants as faults
 use Rattle.star_query.specs.declared.tree.Tree.{Tree}
 use Rattle.star_query.specs.Symbols.{Symbol, Placed, symbols}
 use Rattle.star_query.specs.Private.Lexed.{placed, symbol_of, IsCutFault, IsLexical}
-use Rattle.star_query.specs.Cut.{cut_of}
+use Rattle.star_query.specs.Private.Cut.{cut_of}
 use Rattle.star_query.specs.Tree as tree
-use Rattle.star_query.specs.Derives.{symbols_at, Derives, FirstQueryFault, Means, IsFirstQueryFault, first_place}
+use Rattle.star_query.specs.Tokens.{AreTokens}
+use Rattle.star_query.specs.Derives.{symbols_at, Derives, FirstQueryFault, Means, StopsAt, IsFirstQueryFault, first_place}
 use Rattle.star_query.specs.declared.counts.Counts.{Counts}
 use Rattle.star_query.specs.Private.Machine.{Bad, begin, nothing_counted, run}
 use Rattle.star_query.specs.Views.{tree_view}
 use Rattle.star_query.specs.Private.Reads.{Spot, EndsBad}
 use Rattle.star_query.specs.Private.Clauses.{ReadsQuery}
 use Rattle.star_query.specs.Private.TokenFaults.{TokensStopAt, IsTokenFault, refusal_of, query_fault, IsTreeRead}
+use Rattle.star_query.proofs.Cuts.{tokens_make_text, stop_cuts}
 use Rattle.star_query.proofs.Verdicts.{verdict_of, derives, one_tree, first_fault, refuses}
 
 pub spot_symbols : (ts : List Token)
@@ -91,7 +93,8 @@ cut_is_cut a b c e f = let same : the_ok a ≡ the_ok b = sym e ∙ f in cc
 pub meant : (bytes : List ℕ) (tokens : List Placed) (t : tree.Tree) → cut_of bytes ≡ Ok tokens
     → Means bytes t → Derives (symbols tokens) t
 meant bytes tokens t cut m =
-    subst (λ ts. Derives (symbols ts) t) (cut_is_cut m.tokens tokens (cut_of bytes) m.cut cut)
+    subst (λ ts. Derives (symbols ts) t) (cut_is_cut m.tokens tokens (cut_of bytes)
+    ((tokens_make_text bytes m.tokens).1 m.cut) cut)
     m.derives
 
 fresh : (ts : List Token) (n : Counts) → n ≡ nothing_counted
@@ -140,7 +143,12 @@ tokens_no_tree ts left n f place u e bad d =
 pub means_tokens : (bytes : List ℕ) (tokens : List Placed) (t : tree.Tree) → length bytes ≤ 65536
     → cut_of bytes ≡ Ok tokens → Derives (symbols tokens) t → Means bytes t
 means_tokens bytes tokens t short cut d =
-    record { short = short; tokens = tokens; cut = cut; derives = d }
+    record {
+      short = short;
+      tokens = tokens;
+      cut = (tokens_make_text bytes tokens).0 cut;
+      derives = d;
+    }
 
 -- the parser's answer of an error
 pub error_fault : (ts left : List Token) (n m : Counts) (error : ParseError) (place end passed : ℕ)
@@ -162,13 +170,54 @@ error_no_tree ts left n m errors.OutOfMemory place u e bad d = tt
 error_no_tree ts left n m (errors.Fault f) place u e bad d =
     tokens_no_tree ts left n f place u e bad d
 
+-- the first fault of the tokens is the text's
+stopped : (bytes : List ℕ) (tokens left : List Placed) (fault : Fault) → length bytes ≤ 65536
+    → cut_of bytes ≡ Ok tokens → TokensStopAt tokens fault left → StopsAt bytes fault left
+stopped bytes tokens left fault short cut s = record {
+  short = short;
+  front = s.front;
+  cut = subst (AreTokens (length bytes) [] 0 bytes) s.cut ((tokens_make_text bytes tokens).0 cut);
+  first = subst (λ ts. FirstQueryFault (symbols ts) fault (symbols left)) s.cut s.first;
+}
+
+pub fault_of_tokens : (bytes : List ℕ) (tokens : List Placed) (fault : QueryFault)
+    → length bytes ≤ 65536 → cut_of bytes ≡ Ok tokens → IsTokenFault tokens (length bytes) fault
+    → IsFirstQueryFault bytes fault
+fault_of_tokens bytes tokens faults.OutOfMemory short cut is = tt
+fault_of_tokens bytes tokens (faults.Unexpected place) short cut is =
+    (is.0, stopped bytes tokens is.0 Unexpected short cut is.1, is.2)
+fault_of_tokens bytes tokens faults.TooDeep short cut is =
+    (is.0, stopped bytes tokens is.0 TooDeep short cut is.1)
+fault_of_tokens bytes tokens faults.TooMany short cut is =
+    (is.0, stopped bytes tokens is.0 TooMany short cut is.1)
+fault_of_tokens bytes tokens _ short cut is = absurd is
+
+-- a text that means a tree can be cut
+not_cut : (bytes : List ℕ) (tokens : List Placed) (fault : QueryFault) → cut_of bytes ≡ Ok tokens
+    → cut_of bytes ≡ Err fault → ⊥
+not_cut bytes tokens fault e f = cc
+
+pub cut_is_memory : (bytes : List ℕ) (t : tree.Tree) (fault : QueryFault) → Means bytes t
+    → IsCutFault bytes fault → IsLexical fault → fault ≡ faults.OutOfMemory
+cut_is_memory bytes t faults.OutOfMemory m e lexical = refl
+cut_is_memory bytes t (faults.BadCharacter n) m e lexical =
+    absurd (not_cut bytes m.tokens _ ((tokens_make_text bytes m.tokens).1 m.cut) e)
+cut_is_memory bytes t (faults.BadNumber n) m e lexical =
+    absurd (not_cut bytes m.tokens _ ((tokens_make_text bytes m.tokens).1 m.cut) e)
+cut_is_memory bytes t (faults.OpenText n) m e lexical =
+    absurd (not_cut bytes m.tokens _ ((tokens_make_text bytes m.tokens).1 m.cut) e)
+cut_is_memory bytes t _ m e lexical = absurd lexical
+
 -- the faults of the cut are faults of the text
 pub fault_of_text : (bytes : List ℕ) (fault : QueryFault) → length bytes ≤ 65536
     → IsCutFault bytes fault → IsLexical fault → IsFirstQueryFault bytes fault
 fault_of_text bytes faults.OutOfMemory short e lexical = tt
-fault_of_text bytes (faults.BadCharacter n) short e lexical = (short, e)
-fault_of_text bytes (faults.BadNumber n) short e lexical = (short, e)
-fault_of_text bytes (faults.OpenText n) short e lexical = (short, e)
+fault_of_text bytes (faults.BadCharacter n) short e lexical =
+    (short, (stop_cuts bytes (faults.BadCharacter n)).0 e)
+fault_of_text bytes (faults.BadNumber n) short e lexical =
+    (short, (stop_cuts bytes (faults.BadNumber n)).0 e)
+fault_of_text bytes (faults.OpenText n) short e lexical =
+    (short, (stop_cuts bytes (faults.OpenText n)).0 e)
 fault_of_text bytes _ short e lexical = absurd lexical
 
 -- what a tree isn't read for is want of memory

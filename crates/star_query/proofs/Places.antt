@@ -9,10 +9,3 @@ pub some_place : (ts : List Token) (n end : ℕ) (t : Token) → n < length ts �
 some_place [] n end t below e = absurd (omega arith)
 some_place (u ∷ us) zero end t below e = ap (λ x. x.place) e
 some_place (u ∷ us) (suc n) end t below e = some_place us n end t (omega arith) e
-
-pub no_place : (ts : List Token) (n end : ℕ) → length ts ≤ n
-    → end ≡ first_place (drop n (map placed ts)) end
-no_place [] zero end above = refl
-no_place [] (suc n) end above = refl
-no_place (u ∷ us) zero end above = absurd (omega arith)
-no_place (u ∷ us) (suc n) end above = no_place us n end (omega arith)

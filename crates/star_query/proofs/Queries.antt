@@ -33,17 +33,11 @@ use Rattle.star_query.specs.declared.tree.Tree.{Tree}
 use Rattle.star_query.specs.Symbols.{Symbol, keyword, sign, name}
 use Rattle.star_query.specs.Tree as tree
 use Rattle.star_query.specs.Private.Phrases as grammar
-use Rattle.star_query.specs.Private.Phrases.{Several, Agg, folded, counted, Cond, lone_conj, or_conj, Key, unmarked, ascending, descending, grouped, hiding, Query}
-use Rattle.star_query.specs.Private.Phrases.{at, first, ident, cond_tree, agg_tree, item_tree, names, groups_tree, Hiding, cube, rollup, hiding_word, shape_of}
-use Rattle.star_query.specs.Private.Machine.{extended, in_fold, in_where, first_factor, first_term, first_unit, first_conj, Filtered, Grouped, filtered_by, grouped_by, query_of}
-use Rattle.star_query.specs.Private.Machine.{ParserState, begin, item_wanted, fold_named, count_named, count_opened, count_starred, factor_wanted, expr_had, cond_had, agg_had}
-use Rattle.star_query.specs.Private.Machine.{alias_wanted, items_had, table_wanted, tables_had, unit_wanted, filtered_had, by_had, hiding_had, column_wanted, columns_had, grouped_had}
-use Rattle.star_query.specs.Private.Machine.{order_had, key_wanted, key_named, keys_had, done, ended, to, next_step, query_at_end, Whole, Bad, verdict_after, ends, run}
+use Rattle.star_query.specs.Private.Phrases.{Several, Agg, folded, counted, Cond, lone_conj, or_conj, Key, unmarked, ascending, descending, grouped, hiding, Query, at, first, ident, cond_tree, agg_tree, item_tree, names, groups_tree, Hiding, cube, rollup, hiding_word, shape_of}
+use Rattle.star_query.specs.Private.Machine.{extended, in_fold, in_where, first_factor, first_term, first_unit, first_conj, Filtered, Grouped, filtered_by, grouped_by, query_of, ParserState, begin, item_wanted, fold_named, count_named, count_opened, count_starred, factor_wanted, expr_had, cond_had, agg_had, alias_wanted, items_had, table_wanted, tables_had, unit_wanted, filtered_had, by_had, hiding_had, column_wanted, columns_had, grouped_had, order_had, key_wanted, key_named, keys_had, done, ended, to, next_step, query_at_end, Whole, Bad, verdict_after, ends, run}
 use Rattle.star_query.specs.Views.{name_view, condition_view, measure_view, aggregate_view, item_view, grouping_view}
 use Rattle.star_query.specs.Private.Reads.{Spot, spot_of, head_of, No, verdict, EndsBad, Takes, NoName, ReadsName, ReadsExpr, ReadsCond, NoLogic}
-use Rattle.star_query.specs.Private.Clauses.{function_symbol, function_named, function_parts, ReadsFolded, ReadsCounted, ReadsMeasure, ReadsAlias}
-use Rattle.star_query.specs.Private.Clauses.{ReadsAggregate, ReadsItem, NoComma, ReadsItems, ReadsTable, ReadsTables, ReadsFilter, ReadsColumn, ReadsColumns}
-use Rattle.star_query.specs.Private.Clauses.{ReadsHidden, ReadsGroups, ReadsGrouping, ReadsKey, ReadsKeyList, ReadsKeys, ReadsEnd, ReadsQuery}
+use Rattle.star_query.specs.Private.Clauses.{function_symbol, function_named, function_parts, ReadsFolded, ReadsCounted, ReadsMeasure, ReadsAlias, ReadsAggregate, ReadsItem, NoComma, ReadsItems, ReadsTable, ReadsTables, ReadsFilter, ReadsColumn, ReadsColumns, ReadsHidden, ReadsGroups, ReadsGrouping, ReadsKey, ReadsKeyList, ReadsKeys, ReadsEnd, ReadsQuery}
 use Rattle.star_query.specs.Private.Lists.{PassesComma, bad_along}
 use Rattle.star_query.proofs.Accepting.{fold_closes}
 use Rattle.star_query.proofs.Descent.{takes, stuck, bad_name, refused, same_from, head_no_name}
@@ -481,11 +475,6 @@ read_unmarked old mid here new n t no_desc same no_asc last = (
       (sym (last ∙ same)),
 )
 
-only_key : (g : Grouped) (b : Option (Several Key)) (x : Symbol) → NoName (x ∷ [])
-    → next_step (key_wanted g b) x ≡ None
-only_key g b (name t p) none = absurd none
-only_key g b _ none = refl
-
 keys_step : (g : Grouped) (ks : Several Key) (x : Symbol) → (x ≡ sign s.Comma → ⊥)
     → next_step (keys_had g ks) x ≡ next_step (done g (Some ks)) x
 keys_step g ks (sign s.Comma) other = absurd (other refl)
@@ -511,30 +500,6 @@ read_keys old a b new (Ok v) order by reads none = (
 )
 read_keys old a b new (Err e) order by bad none =
     λ g u. bad_along e new _ _ (order_by_passed old a b g order by) (bad g tt)
-
--- the end
-at_nothing : (here : Spot) (from : ParserState) (q : Query) → length here.left ≡ 0
-    → query_at_end from ≡ Some q → verdict here from ≡ Whole q
-at_nothing here from q none e = by_left here.left none
-  where
-    by_left : (left : List Symbol) → length left ≡ 0 → run left from here.counts ≡ Whole q
-    by_left [] none = ap ends e
-    by_left (x ∷ xs) none = absurd (omega arith)
-
-pub read_end : {A : Type 0} (old new : Spot) (b : Bool) (a : A)
-    → (OnTrue b (Takes old new (sign s.Semicolon) []))
-    → (OnFalse b (No (sign s.Semicolon) old × (new ≡ old))) → length new.left ≡ 0
-    → ReadsEnd old new (Ok a)
-read_end old new true a t f none = (
-  true,
-  λ g ks. takes old new _ [] 0 (done g ks) (ended g ks) t zero_deep refl
-      ∙ at_nothing new (ended g ks) (query_of g ks true) none refl,
-)
-read_end old new false a t f none = (
-  false,
-  λ g ks. ap (λ s. verdict s (done g ks)) (sym f.1)
-      ∙ at_nothing new (done g ks) (query_of g ks false) none refl,
-)
 
 past_nothing : (here : Spot) (from : ParserState) → 0 < length here.left
     → ((x : Symbol) → head_of here.left ≡ Some x → next_step from x ≡ None)

@@ -7,8 +7,8 @@ use Rattle.star_common.specs.Quotes.{doubled}
 use Rattle.star_common.specs.Printable.{is_printable}
 use Rattle.star_query.specs.declared.fault.QueryFault.{QueryFault}
 use Rattle.star_query.specs.declared.fault.QueryFault.TheVariants.{BadCharacter, OpenText}
-use Rattle.star_query.specs.Cut.{put_in_front, text_said}
-use Rattle.star_query.specs.Cut as cut
+use Rattle.star_query.specs.Private.Cut.{put_in_front, text_said}
+use Rattle.star_query.specs.Private.Cut as cut
 use Rattle.star_query.specs.Symbols.{text}
 use Rattle.star_query.specs.Tokens.{HasBadByte, IsOpen, is_whole}
 use Rattle.star_query.specs.Private.Quoted.{Ending, closed, stopped, open_ended, farther, ending_after, unquoted_after, text_by_bytes}
@@ -132,9 +132,6 @@ Reads opened at q bytes (Err (OpenText o)) = (o ≡ opened) × IsOpen (waiting q
 Reads opened at q bytes (Err (BadCharacter p)) =
     (n : ℕ) × (p + waits q ≡ at + n) × HasBadByte (waiting q bytes) n
 Reads opened at q bytes (Err _) = ⊥
-
-quote_printed : is_printable 39 ≡ true
-quote_printed = refl
 
 -- one byte more of a text, which is written so
 written_first : (opened from at b : ℕ) (q : Bool) (bs whole : List ℕ)
@@ -265,8 +262,3 @@ read_stopped opened at (b ∷ t) c rest printed bad =
     (λ other. rw (other, other, both.0, read_stopped opened (at + 1) t c rest both.1 bad)
     (let e : at + 1 + length (flat_map doubled t) ≡ at + suc (length (flat_map doubled t)) =
     omega arith in ap (λ p. Err (BadCharacter p)) e))
-
-pub said_printed : (opened at : ℕ) (bytes t : List ℕ) → text_said opened at false bytes ≡ Ok t
-    → list_all is_printable t ≡ true
-said_printed opened at bytes t h = let r =
-    subst (Reads opened at false bytes) h (reads opened at false bytes) in r.2

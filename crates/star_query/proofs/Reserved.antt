@@ -5,8 +5,8 @@ use Rattle.star_query.specs.declared.token.Word.{Word}
 use Rattle.star_query.specs.declared.token.Word.TheVariants.{Keyword, Fold, Count}
 use Rattle.star_query.specs.declared.token.Keyword.TheVariants.{Select}
 use Rattle.star_query.specs.declared.token.Fold.TheVariants.{Sum}
-use Rattle.star_query.specs.Symbols.{spelling, lowered, reserved_words}
-use Rattle.star_query.specs.Cut.{is_spelled, reserved}
+use Rattle.star_query.specs.Symbols.{spelling, lowered}
+use Rattle.star_query.specs.Private.Cut.{is_spelled, reserved, reserved_words}
 
 -- each word is found by its spelling
 by_spelling : (w : Word)

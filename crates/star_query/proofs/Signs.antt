@@ -5,7 +5,8 @@ use Rattle.std.specs.List.{slice_get}
 use Rattle.std.proofs.lemmas.Bool.{eq-eqb, eqb-true}
 use Rattle.std.specs.Char.{is_ascii_digit}
 use Rattle.star_common.specs.WhiteSpace.{is_blank}
-use Rattle.star_query.specs.Cut as cut
+use Rattle.star_query.specs.Private.Cut as cut
+use Rattle.star_query.specs.Tokens.{is_letter}
 use Rattle.star_query.specs.Private.Lexed.{front_piece}
 use Rattle.star_query.specs.Private.Quoted.{sign_by_bytes}
 use Rattle.star_query.proofs.Counting.{by_bool}
@@ -91,7 +92,7 @@ same_sign_piece place b bs =
 -- what begins with a byte that is none of the others begins with a sign
 pub sign_at : (place b : ℕ) (bs text : List ℕ) (found : cut.Piece)
     → found ≡ sign_by_bytes place b (slice_get bs 0) → text ≡ b ∷ bs
-    → is_blank b ≡ false → cut.is_letter b ≡ false → is_ascii_digit b ≡ false → (b == 39) ≡ false
+    → is_blank b ≡ false → is_letter b ≡ false → is_ascii_digit b ≡ false → (b == 39) ≡ false
     → found ≡ front_piece place text
 sign_at place b bs text found is cut no_blank no_letter no_digit no_quote =
     rw (cut, no_blank, no_letter, no_digit, no_quote) (is ∙ sym (same_sign_piece place b bs))

@@ -15,6 +15,7 @@ use Rattle.star_query.specs.Private.Phrases.{Query, query_marks, query_tree}
 use Rattle.star_query.specs.Maxima.{limit}
 use Rattle.star_query.specs.Derives.{count_begun, IsShortName, IsLongName, AreWithinLimits, symbols_at, Derives, BeginsQuery, NoQueryGoesOn, Breaks, IsTooDeep, IsTooMany, QueryFails, FirstQueryFault, Means}
 use Rattle.star_query.specs.Private.Machine.{ParserState, begin, Step, to, next_step, query_at_end, Verdict, Whole, Bad, count_of_part, plus, is_over, is_long, checked, verdict_after, ends, run, nothing_counted}
+use Rattle.star_query.proofs.Cuts.{tokens_make_text}
 use Rattle.star_query.proofs.Counting.{not_below, number-plus, not_over, over_some, fits_after, short_name, long_name, not_long}
 use Rattle.star_query.proofs.Accepting.{Accepts, query_goes}
 use Rattle.star_query.proofs.Passed.{passed, step_moves}
@@ -351,7 +352,7 @@ breaks IsOver Over front last left f way h =
       over = f h.at h.over;
     }
 
-count_of-append : (p : Part) (ms ns : List Mark)
+pub count_of-append : (p : Part) (ms ns : List Mark)
     → count_begun p (ms ++ ns) ≡ count_begun p ms + count_begun p ns
 count_of-append p [] ns = omega arith
 count_of-append p (m ∷ ms) ns = omega (arith, count_of-append p ms ns)
@@ -450,5 +451,6 @@ same_tokens a b e = cc
 -- no text means two trees
 pub one_meaning : (bytes : List ℕ) (a b : Tree) → Means bytes a → Means bytes b → a ≡ b
 one_meaning bytes a b m n =
-    let same = same_tokens n.tokens m.tokens (sym n.cut ∙ m.cut) in
+    let same = same_tokens n.tokens m.tokens
+    (sym ((tokens_make_text bytes n.tokens).1 n.cut) ∙ (tokens_make_text bytes m.tokens).1 m.cut) in
     one_tree (symbols m.tokens) a b m.derives (subst (λ ts. Derives (symbols ts) b) same n.derives)

@@ -1,6 +1,5 @@
 pub mod Symbols
 pub mod Maxima
-pub mod Cut
 pub mod Tokens
 pub mod Tree
 pub mod Leaves

@@ -1,3 +1,4 @@
+pub mod Cut
 pub mod Quoted
 pub mod Lexed
 pub mod Terminals

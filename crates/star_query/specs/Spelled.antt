@@ -2,7 +2,7 @@
 use Rattle.std.specs.Prelude.{◌≡◌, ℕ, ℤ, ◌^◌, unsigned_abs, Bool, true, ◌&&◌, nat_le, nat_lt, List, length, Option, Some, None}
 use Rattle.std.specs.List.{list_all}
 use Rattle.star_common.specs.Printable.{is_printable}
-use Rattle.star_query.specs.Cut.{begins_with_letter, is_word_byte}
+use Rattle.star_query.specs.Tokens.{begins_with_letter, is_word_byte}
 use Rattle.star_query.specs.Maxima.{most_digits, most_name_bytes}
 use Rattle.star_query.specs.Leaves.{of_operands, of_tests}
 use Rattle.star_query.specs.Tree.{Name, Literal, number, text, Expression, Comparison, compare, between, Test, pair, comparison, Condition, Measure, fold, count, Item, plain, aggregate, Tree}

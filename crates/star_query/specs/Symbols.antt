@@ -52,13 +52,6 @@ spelling (words.Fold folds.Min) = codes "min"
 spelling (words.Fold folds.Max) = codes "max"
 spelling words.Count = codes "count"
 
--- all of them
-unfoldable pub reserved_words : List Word
-reserved_words =
-    words.Keyword k.Select ∷ words.Keyword k.From ∷ words.Keyword k.Where ∷ words.Keyword k.Group ∷ words.Keyword k.By ∷ words.Keyword k.Order ∷ words.Keyword k.As
-    ∷ words.Keyword k.And ∷ words.Keyword k.Or ∷ words.Keyword k.Not ∷ words.Keyword k.Between ∷ words.Keyword k.Cube ∷ words.Keyword k.Rollup ∷ words.Keyword k.Asc
-    ∷ words.Keyword k.Desc ∷ words.Fold folds.Sum ∷ words.Fold folds.Min ∷ words.Fold folds.Max ∷ words.Count ∷ []
-
 abbrev pub word_symbol : Word → ℕ → Symbol
 word_symbol (words.Keyword w) place = keyword w
 word_symbol (words.Fold f) place = fold f place

@@ -1,24 +1,49 @@
--- How tokens are written, and what stops a text from being cut: what the laws of the cut say.
-use Rattle.std.specs.Prelude.{◌≡◌, ℕ, ◌+◌, ◌<◌, ◌≤◌, ◌⊎◌, Bool, true, false, ◌==◌, ◌||◌, not, List, [], ◌∷◌, ◌++◌, length, Contains, Some}
+-- How tokens are written, and what stops a text from being cut (this project's profile of SQL).
+use Rattle.std.specs.Prelude.{◌≡◌, ◌≢◌, ℕ, ◌+◌, ◌<◌, ◌≤◌, ◌⊎◌, Bool, true, false, ◌==◌, ◌||◌, ◌&&◌, not, List, [], ◌∷◌, ◌++◌, codes, length, Contains, Some}
 use Rattle.std.specs.List.{flat_map, list_all}
-use Rattle.std.specs.Char.{is_ascii_digit}
+use Rattle.std.specs.Char.{is_ascii_alphabetic, is_ascii_digit}
 use Rattle.star_common.specs.Numerals.{numeral_of}
 use Rattle.star_common.specs.Quotes.{doubled, quoted}
 use Rattle.star_common.specs.Printable.{is_printable}
+use Rattle.star_query.specs.declared.token.Word.{Word}
 use Rattle.star_query.specs.declared.token.Relation.TheVariants as r
+use Rattle.star_query.specs.declared.token.Sign.TheVariants as s
+use Rattle.star_query.specs.declared.token.Additive.TheVariants as q
 use Rattle.star_query.specs.declared.fault.QueryFault.{QueryFault}
 use Rattle.star_query.specs.declared.fault.QueryFault.TheVariants.{BadCharacter, BadNumber, OpenText}
 use Rattle.star_query.specs.Maxima.{most_digits}
-use Rattle.star_query.specs.Symbols.{Symbol, Placed, relation, sign, additive, number, text}
-use Rattle.star_query.specs.Cut.{is_word_byte, begins_with_letter, word_of, signs}
+use Rattle.star_query.specs.Symbols.{Symbol, Placed, relation, sign, additive, name, number, text, spelling, word_symbol, lowered}
 use Rattle.star_common.specs.WhiteSpace.{is_blank}
 
 -- ---- tokens
 
--- the bytes of a token that begins at a place, and its symbol: a word of letters, digits and _ that
--- begins with no digit; a number; a text in quotes; or a sign
+abbrev pub is_letter : ℕ → Bool
+is_letter b = is_ascii_alphabetic b || (b == 95)
+
+abbrev pub is_word_byte : ℕ → Bool
+is_word_byte b = is_letter b || is_ascii_digit b
+
+abbrev pub begins_with_letter : List ℕ → Bool
+begins_with_letter [] = false
+begins_with_letter (b ∷ bs) = is_letter b
+
+-- letters, digits and _, and no digit first
+abbrev pub is_word : List ℕ → Bool
+is_word bytes = begins_with_letter bytes && list_all is_word_byte bytes
+
+-- the signs as they are written, those of two bytes first
+abbrev pub signs : List (List ℕ × Symbol)
+signs =
+    (codes "<=", relation r.AtMost) ∷ (codes "<>", relation r.Unequal) ∷ (codes ">=", relation r.AtLeast)
+    ∷ (codes "<", relation r.Less) ∷ (codes ">", relation r.Greater) ∷ (codes "=", relation r.Equal)
+    ∷ (codes ",", sign s.Comma) ∷ (codes "(", sign s.Open) ∷ (codes ")", sign s.Close) ∷ (codes "*", sign s.Star)
+    ∷ (codes ";", sign s.Semicolon) ∷ (codes "+", additive q.Plus) ∷ (codes "-", additive q.Minus) ∷ []
+
+-- the bytes of a token that begins at a place, and its symbol: a reserved word in any case; a name, which is any other word, in
+-- lower case; a number; a text in quotes; or a sign
 pub data IsToken (place : ℕ) (bytes : List ℕ) (x : Symbol) : Type 0 where
-  a_word : begins_with_letter bytes ≡ true → list_all is_word_byte bytes ≡ true → x ≡ word_of place bytes → IsToken place bytes x
+  a_word : is_word bytes ≡ true → (w : Word) → lowered bytes ≡ spelling w → x ≡ word_symbol w place → IsToken place bytes x
+  a_name : is_word bytes ≡ true → ((w : Word) → lowered bytes ≢ spelling w) → x ≡ name (lowered bytes) place → IsToken place bytes x
   a_number : (n : ℕ) → numeral_of most_digits bytes ≡ Some n → x ≡ number n → IsToken place bytes x
   a_text : (said : List ℕ) → list_all is_printable said ≡ true → bytes ≡ quoted said → x ≡ text said → IsToken place bytes x
   a_sign : Contains signs (bytes, x) → IsToken place bytes x

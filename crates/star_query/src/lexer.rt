@@ -4,7 +4,8 @@ ghost use Rattle.std.specs.Prelude.{◌≡◌, ◌≤◌, ◌+◌, length, IfOk,
 ghost use Rattle.std.specs.List.{prefix_len, take_while};
 ghost use Rattle.std.specs.Char.{is_ascii_digit};
 ghost use Rattle.star_common.specs.WhiteSpace as white;
-ghost use Rattle.star_query.specs.Cut as spec;
+ghost use Rattle.star_query.specs.Private.Cut as spec;
+ghost use Rattle.star_query.specs.Tokens as words;
 ghost use Rattle.star_query.specs.Private.Lexed as lexed;
 ghost use Rattle.star_query.specs.Private.Quoted as quoting;
 
@@ -38,13 +39,13 @@ fn is_blank(byte: u8) -> bool
 }
 
 fn is_letter(byte: u8) -> bool
-    ensures { result ≡ spec.is_letter byte }
+    ensures { result ≡ words.is_letter byte }
 {
     byte.is_ascii_alphabetic() || byte == b'_'
 }
 
 fn is_word_byte(byte: u8) -> bool
-    ensures { result ≡ spec.is_word_byte byte }
+    ensures { result ≡ words.is_word_byte byte }
 {
     is_letter(byte) || byte.is_ascii_digit()
 }
@@ -58,7 +59,7 @@ fn is_spelled(reserved: Word, word: &[u8]) -> bool
 }
 
 // The reserved word that a word is, in any case.
-#[tactic(auto, unfolding(crate::specs::Cut::reserved, crate::specs::Symbols::reserved_words))]
+#[tactic(auto, unfolding(crate::specs::Private::Cut::reserved, crate::specs::Private::Cut::reserved_words))]
 fn reserved_word(word: &[u8]) -> Option<Word>
     ensures { result ≡ spec.reserved word.now }
 {
@@ -78,7 +79,7 @@ fn digits_width(text: &[u8]) -> usize
 
 #[tactic(auto, using(crate::proofs::Lexing::prefix_within))]
 fn word_width(text: &[u8]) -> usize
-    ensures width { result ≡ prefix_len spec.is_word_byte text.now }
+    ensures width { result ≡ prefix_len words.is_word_byte text.now }
     ensures within { result ≤ length text.now }
 {
     text.iter().take_while(|byte| is_word_byte(**byte)).count()
@@ -150,7 +151,7 @@ fn sign<'a>(byte: u8, next: Option<u8>, place: usize) -> Piece<'a>
 }
 
 fn begins_with_letter(text: &[u8]) -> bool
-    ensures { result ≡ spec.begins_with_letter text.now }
+    ensures { result ≡ words.begins_with_letter text.now }
 {
     match text {
         [] => false,
@@ -177,7 +178,7 @@ fn number<'a>(text: &'a [u8], place: usize) -> Piece<'a>
 // The longest run of letters, digits and `_`: a reserved word or a name.
 #[tactic(auto, using(crate::proofs::Lexing::word_some))]
 fn word<'a>(text: &'a [u8], place: usize) -> Piece<'a>
-    requires { spec.begins_with_letter text.now ≡ true }
+    requires { words.begins_with_letter text.now ≡ true }
     ensures { lexed.IsPiece place (spec.word_piece place text.now) (length text.now) result }
 {
     let width = word_width(text);

@@ -7,14 +7,12 @@
 mod clauses;
 mod conditions;
 mod counts;
-mod display;
 mod expressions;
 mod fault;
 pub mod law;
 mod lexer;
 mod lists;
 mod parser;
-mod printing;
 mod query;
 mod terminals;
 mod token;
@@ -22,7 +20,6 @@ mod tree;
 
 pub use counts::MAX_TEXT;
 pub use fault::QueryFault;
-pub use printing::{Operand, write_grouping, write_list, write_operand};
 pub use query::Query;
 pub use token::{Fold, Relation};
 pub use tree::{

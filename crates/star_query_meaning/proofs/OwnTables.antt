@@ -21,7 +21,8 @@ use Rattle.star_plan.specs.declared.tree.Join.{Join}
 use Rattle.star_plan.specs.Joins.{Pair, join_by, join_of, joins_of, pairs_of, where_pairs}
 use Rattle.star_plan.specs.Names.{column_at, has_name, table_at, table_called}
 use Rattle.star_plan.specs.Sound.{in_scope, joins_table}
-use Rattle.star_plan.specs.Uses.{condition_uses, where_uses}
+use Rattle.star_plan.specs.Uses.{where_uses}
+use Rattle.star_plan.specs.Private.Stages.{condition_uses}
 use Rattle.star_plan.specs.WellNamed.{IsThere, is_in_from, same_name}
 use Rattle.star_plan.proofs.Known.{Reaches, each_left, each_right}
 use Rattle.star_plan.proofs.Options.{first_or_second}

@@ -15,7 +15,8 @@ use Rattle.star_plan.specs.Meaning as plan
 use Rattle.star_plan.specs.Meaning.{Plan, Tables, all_hold, joined_rows}
 use Rattle.star_plan.specs.Names.{column_at}
 use Rattle.star_plan.specs.Resolved.{IsResolved}
-use Rattle.star_plan.specs.Uses.{groups_uses, items_uses, where_uses}
+use Rattle.star_plan.specs.Uses.{where_uses}
+use Rattle.star_plan.specs.Private.Stages.{groups_uses, items_uses}
 use Rattle.star_plan.specs.WellNamed.{IsWellNamed, is_in_from}
 use Rattle.star_plan.proofs.Conditions.{no_fault}
 use Rattle.star_plan.proofs.Known.{each_left, each_right}

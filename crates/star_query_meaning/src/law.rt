@@ -2,40 +2,18 @@
 
 ghost use Rattle.std.specs.Prelude.{◌≡◌, ◌∷◌, ◌↔◌, ℕ, List, map};
 ghost use Rattle.std.specs.List.Sorted.{IsPermutation};
-ghost use Rattle.star_schema.specs.declared.group.Aggregate.{Aggregate};
-ghost use Rattle.star_schema.specs.declared.group.Shape.{Shape};
 ghost use Rattle.star_schema.specs.declared.table.TableId.TheVariants.{Lineorder};
-ghost use Rattle.star_schema.specs.Database.{Database, rows_in};
-ghost use Rattle.star_schema.specs.Groups.{AreGroups, Entry, GroupRow, totals_of};
-ghost use Rattle.star_schema.specs.Order.{value_cmp};
+ghost use Rattle.star_schema.specs.Database.{Database};
 ghost use Rattle.star_schema.specs.Schema.{table_of};
-ghost use Rattle.star_schema.specs.Tables.{Value};
-ghost use Rattle.star_query.specs.Derives.{Means};
 ghost use Rattle.star_query.specs.Tree.{Tree};
 ghost use Rattle.star_plan.specs.Meaning.{Plan, Tables, plan_rows};
 ghost use Rattle.star_plan.specs.Resolved.{IsResolved};
 ghost use Rattle.star_plan.specs.WellNamed.{IsWellNamed};
 ghost use Rattle.star_program.specs.declared.outcome.Cell.{Cell};
-ghost use Rattle.star_report.specs.Report.{report_text};
 ghost use Rattle.star_query_meaning.specs.Answers.{IsAnswer, IsPlanAnswer};
 ghost use Rattle.star_query_meaning.specs.Fitting.{FitsTables, PlanFitsTables};
 ghost use Rattle.star_query_meaning.specs.Reports.{IsReport};
 ghost use Rattle.star_query_meaning.specs.Rows.{selected, tables_of};
-
-/// The aggregates of a group hang on its rows alone, and not on the order in which they come.
-pub fn aggregates_ignore_the_order_of_rows()
-    ensures { (aggregates : List Aggregate) (rows others : List (Entry Value))
-        → IsPermutation rows others → totals_of aggregates rows ≡ totals_of aggregates others }
-{}
-
-/// Nor do the groups.
-pub fn groups_ignore_the_order_of_rows()
-    ensures { (shape : Shape) (count : ℕ) (aggregates : List Aggregate)
-        (rows others : List (Entry Value)) (groups : List (GroupRow Value))
-        → IsPermutation rows others
-        → AreGroups value_cmp shape count aggregates rows groups
-        → AreGroups value_cmp shape count aggregates others groups }
-{}
 
 /// The rows of a well named query, which are those of the product of FROM's tables for which WHERE
 /// is true, are the joined rows of its plan for which all its conjuncts hold, up to their order;
@@ -77,14 +55,4 @@ pub fn one_query_has_one_answer()
 pub fn one_text_has_one_report()
     ensures { (database : Database) (query report other : List ℕ)
         → IsReport database query report → IsReport database query other → report ≡ other }
-{}
-
-/// The printed answer of a plan is the report of the text that the plan was made of: what is known
-/// of a parsed query and of its plan is all that is asked.
-pub fn plans_have_the_reports_of_their_texts()
-    ensures { (database : Database) (text report : List ℕ) (query : Tree) (p : Plan)
-        (names : List (List ℕ)) (rows : List (List Cell))
-        → Means text query → IsWellNamed query → IsResolved query p
-        → IsPlanAnswer (rows_in database) p names rows
-        → report ≡ report_text names rows → IsReport database text report }
 {}

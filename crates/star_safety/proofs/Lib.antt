@@ -1,14 +1,7 @@
 mod Words
 mod WorkedRefusals
-mod WorkedConditions
-mod WorkedFinds
-mod WorkedRanges
 mod WorkedMoments
-mod WorkedEnds
-mod WorkedTold
-mod WorkedTotals
-mod WorkedReasons
-mod WorkedAcceptance
+mod Worked
 mod Numbers
 mod Tally
 mod TallyOrder
@@ -36,7 +29,6 @@ mod NarrowCode
 mod FewGroups
 mod PutKeys
 mod RowsAtMost
-mod WorkedMostRows
 mod ToldBounds
 mod ToldColumns
 pub mod BeforePuts

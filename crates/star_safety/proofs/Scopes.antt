@@ -158,37 +158,6 @@ scoped_in w parts c round x at n h =
     by at round (Act op) h = h
     by at round BodyEnd h = h
 
--- in scans whose numbers are below the next one after the code
-pub scoped_below : (w : World) (parts : Parts) (c : Code) (round : List Enclosing) (x : Context)
-    (at : ℕ) → AreBelow at round
-    → EachOf (λ i. AreBelow (at + code_size c) (scope_of i)) (standing w parts round x at c)
-scoped_below w parts Stop round x at h = (below_more at (at + 0) round (omega arith) h, tt)
-scoped_below w parts (Then op rest) round x at h = (
-  below_more at (at + (1 + code_size rest)) round (omega arith) h,
-  each_so _ _ (standing w parts round (after_op w parts x op) (at + 1) rest)
-      (λ i b. below_more (at + 1 + code_size rest) (at + (1 + code_size rest)) (scope_of i)
-      (omega arith) b)
-      (scoped_below w parts rest round (after_op w parts x op) (at + 1)
-      (below_more at (at + 1) round (omega arith) h)),
-)
-scoped_below w parts (Each table r body rest) round x at h =
-    let inner = in_scan w x table r in
-    let later = after_scan x (at_end w parts inner body) in
-    let new : Enclosing = record { number = at; table = table } in
-    let end = at + (1 + code_size body + code_size rest) in (
-      (omega arith, below_more at end round (omega arith) h),
-      each_both _ (standing w parts (new ∷ round) inner (at + 1) body) _
-          (each_so _ _ (standing w parts (new ∷ round) inner (at + 1) body)
-          (λ i b. below_more (at + 1 + code_size body) end (scope_of i) (omega arith) b)
-          (scoped_below w parts body (new ∷ round) inner (at + 1)
-          (omega arith, below_more at (at + 1) round (omega arith) h)))
-          (each_so _ _ (standing w parts round later (at + 1 + code_size body) rest)
-          (λ i b. below_more (at + 1 + code_size body + code_size rest) end (scope_of i)
-          (omega arith) b)
-          (scoped_below w parts rest round later (at + 1 + code_size body)
-          (below_more at (at + 1 + code_size body) round (omega arith) h))),
-    )
-
 -- ---- the last that writes a register in scope
 
 pub last_or_both : (o : Option Standing) (xs ys : List Standing) → last_or o (xs ++ ys)

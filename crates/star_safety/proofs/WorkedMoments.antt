@@ -1,29 +1,30 @@
 -- What a moment asks of registers and of what comes next, and what it refuses, by computation.
-use Rattle.std.proofs.Common.{◌≡◌, ℕ, zero, suc, ◌^◌, ◌-◌, ◌<◌, true, false, [], ◌∷◌, Some, None, refl, ap, arith}
-use Rattle.std.specs.Prelude.{ℤ, pos}
-use Rattle.std.proofs.lemmas.Int.{ints}
+use Rattle.std.proofs.Common.{List, None, Some, [], ap, arith, false, pos, refl, suc, true, zero, ℕ, ℤ, ◌+◌, ◌-◌, ◌<◌, ◌^◌, ◌∷◌, ◌≡◌, ◌≤◌, w64, ◌↔◌}
+use Rattle.std.specs.Prelude.{FitsSigned, None, pos}
 use Rattle.star_schema.specs.declared.table.TableId.TheVariants.{Date, Lineorder}
-use Rattle.star_schema.specs.declared.column.ColumnId.TheVariants.{CRegion, CNation, LoQuantity}
-use Rattle.star_schema.specs.declared.group.Aggregate.TheVariants.{Sum, Count}
+use Rattle.star_schema.specs.declared.column.ColumnId.TheVariants.{CNation, CRegion, LoQuantity}
+use Rattle.star_schema.specs.declared.group.Aggregate.TheVariants.{Count, Sum}
 use Rattle.star_schema.specs.Schema.{column_of}
-use Rattle.star_interval.specs.Range.{only, is_i64}
-use Rattle.star_program.specs.Code.{Code, Stop, Then, Each}
-use Rattle.star_program.specs.declared.value.Value.TheVariants.{Number, Text, Place, Row, Flag}
+use Rattle.star_interval.specs.Range.{Holds, is_i64, only}
+use Rattle.star_program.specs.Code.{Code, Each, Stop, Then}
+use Rattle.star_program.specs.declared.value.Value.TheVariants.{Flag, Number, Place, Row, Text}
 use Rattle.star_program.specs.Values.{Registers, no_registers, with_entry}
 use Rattle.star_program.specs.declared.program.Parts.{Parts}
 use Rattle.star_program.specs.Effects.{Effect, EndsTurn, State, act, empty_state}
 use Rattle.star_program.specs.Run.{Ended}
-use Rattle.star_program.specs.World.{World}
-use Rattle.star_program.proofs.Sample.{sample, plain}
-use Rattle.star_safety.specs.Bounds.{NamesI64, AllNameI64, AreI64}
+use Rattle.star_program.specs.World.{IsLoaded, World}
+use Rattle.star_program.proofs.Sample.{plain, sample}
+use Rattle.star_safety.specs.Bounds.{AllNameI64, AreI64, NamesI64}
 use Rattle.star_safety.specs.Contexts.{after_scan, at_end, at_first, in_scan}
-use Rattle.star_safety.specs.Fitting.{FitsValue, FitsAt}
-use Rattle.star_safety.specs.Laws.{EndsWithin, SumsFit, TotalLies}
+use Rattle.star_safety.specs.Fitting.{FitsAt, FitsValue}
+use Rattle.star_safety.specs.Laws.{EndsWithin, IsAccepted, SumsFit, TotalLies}
 use Rattle.star_safety.specs.Moments.{IsMet, IsMoment, Moment, behind, behind_scan, first_moment, in_turn, itself, moment, picked, sum_of}
-use Rattle.star_safety.specs.Private.Throughout.{HoldsThroughout, Onward}
-use Rattle.star_safety.specs.Ranges.{AllKnown, Known, KnownText, KnownPlace, KnownRow, KnownFlag, known_number, loaded_known}
+use Rattle.star_safety.specs.Ranges.{AllKnown, Known, KnownFlag, KnownPlace, KnownRow, KnownText, known_number, loaded_known}
 use Rattle.star_safety.specs.Tallies.{no_shares}
-use Rattle.star_safety.proofs.Words.{const, add, keep, put, read, acts, over}
+use Rattle.star_safety.proofs.Words.{acts, add, const, keep, over, put, read}
+use Rattle.star_program.specs.Limits.{IsWithinLimits}
+use Rattle.star_safety.specs.Admissible.{IsAdmissible}
+use Rattle.star_safety.specs.Quote.{quote}
 
 -- ---- a register
 
@@ -31,99 +32,27 @@ use Rattle.star_safety.proofs.Words.{const, add, keep, put, read, acts, over}
 abbrev few : Known
 few = known_number (record { low = pos 1; high = pos 5 })
 
-least_fits : FitsValue sample few (Number (pos 1))
-least_fits = (record { from = omega (arith, ints); to = omega (arith, ints) }, tt)
-
-greatest_fits : FitsValue sample few (Number (pos 5))
-greatest_fits = (record { from = omega (arith, ints); to = omega (arith, ints) }, tt)
-
-none_below : FitsValue sample few (Number (pos 0)) → ⊥
-none_below h = let p = h.0.from in omega (arith, ints, p)
-
-none_above : FitsValue sample few (Number (pos 6)) → ⊥
-none_above h = let p = h.0.to in omega (arith, ints, p)
-
--- a loaded number stands in its column: 2 is between 1 and 50, and no quantity is 2
-quantity_fits : FitsValue sample (loaded_known sample LoQuantity false) (Number (pos 24))
+-- a loaded number is one of its column in some row
+loaded : (z : ℤ) → FitsValue sample (loaded_known sample LoQuantity false) (Number z)
+    ≡ (Holds (sample.bounds LoQuantity) z
+    × ((row : ℕ) × (row < 5) × (z ≡ sample.number LoQuantity row)))
 unfolding column_of
-quantity_fits = (
-  record { from = omega (arith, ints); to = omega (arith, ints) },
-  (2, omega arith, refl),
-)
+loaded z = refl
 
-no_such_quantity : FitsValue sample (loaded_known sample LoQuantity false) (Number (pos 2)) → ⊥
-unfolding column_of
-no_such_quantity h = in_no_row h.1.0 h.1.1 h.1.2
-  where
-    in_no_row : (row : ℕ) → row < 5 → pos 2 ≡ sample.number LoQuantity row → ⊥
-    in_no_row zero p e = absurd (cc)
-    in_no_row (suc zero) p e = absurd (cc)
-    in_no_row (suc (suc zero)) p e = absurd (cc)
-    in_no_row (suc (suc (suc zero))) p e = absurd (cc)
-    in_no_row (suc (suc (suc (suc zero)))) p e = absurd (cc)
-    in_no_row (suc (suc (suc (suc (suc row))))) p e = absurd (omega (arith, p))
-
--- the last row, and none past it; of the table itself
-last_row_fits : FitsValue sample (KnownRow Lineorder) (Row Lineorder 4)
-last_row_fits = (refl, omega arith)
-
-no_row_past : FitsValue sample (KnownRow Lineorder) (Row Lineorder 5) → ⊥
-no_row_past h = let p = h.1 in omega (arith, p)
-
-no_other_table : FitsValue sample (KnownRow Date) (Row Lineorder 0) → ⊥
-no_other_table h = let e = h.0 in absurd (cc)
-
--- each column has one text: 0 is its code, and 0 and 1 are places
-code_fits : FitsValue sample (KnownText CRegion) (Text CRegion 0)
-code_fits = (refl, omega arith)
-
-no_such_code : FitsValue sample (KnownText CRegion) (Text CRegion 1) → ⊥
-no_such_code h = let p = h.1 in omega (arith, p)
-
-no_other_column : FitsValue sample (KnownText CRegion) (Text CNation 0) → ⊥
-no_other_column h = let e = h.0 in absurd (cc)
-
-last_place_fits : FitsValue sample (KnownPlace CRegion) (Place CRegion 1)
-last_place_fits = (refl, omega arith)
-
-no_such_place : FitsValue sample (KnownPlace CRegion) (Place CRegion 2) → ⊥
-no_such_place h = let p = h.1 in omega (arith, p)
-
--- a place is no text, and a flag no number
-no_other_kind : FitsValue sample (KnownText CRegion) (Place CRegion 0) → ⊥
-no_other_kind h = h
-
-no_flag : FitsValue sample few (Flag true) → ⊥
-no_flag h = h
-
+-- a row of the table itself, a code of the column, and one place more than there are codes: the
+-- sample has five lines, and each of its columns one text; a place is no text, and a flag no number;
 -- something stands exactly where something is known
-nothing_unknown : FitsAt sample None (Some (Flag true)) → ⊥
-nothing_unknown h = h
-
-nothing_missing : FitsAt sample (Some KnownFlag) None → ⊥
-nothing_missing h = h
-
-flag_stands : FitsAt sample (Some KnownFlag) (Some (Flag true))
-flag_stands = tt
-
--- ---- what comes next
-
--- the end of a turn asks for nothing
-turn_over : Onward (EndsTurn empty_state) (λ regs s. ⊥)
-turn_over = tt
-
--- a trap comes at no moment
-sum_leaves : HoldsThroughout sample
-    (over [] (acts (const 0 (pos 9223372036854775807) ∷ add 1 0 0 ∷ []) Stop)) → ⊥
-unfolding is_i64
-sum_leaves h = h.1.1
-
-flag_missing : HoldsThroughout sample (over [] (acts (keep 0 ∷ []) Stop)) → ⊥
-flag_missing h = h.1
-
--- nor does a scan into a register that isn't declared
-row_undeclared : HoldsThroughout sample (over [] (Each Date 10 Stop Stop)) → ⊥
-row_undeclared h = let p = h.1 in omega (arith, p)
+others : (n : ℕ)
+    → (FitsValue sample (KnownRow Lineorder) (Row Date n) ≡ ((Lineorder ≡ Date) × (n < 5)))
+    × (FitsValue sample (KnownText CRegion) (Text CNation n) ≡ ((CRegion ≡ CNation) × (n < 1)))
+    × (FitsValue sample (KnownPlace CRegion) (Place CNation n) ≡ ((CRegion ≡ CNation) × (n ≤ 1)))
+    × (FitsValue sample (KnownText CRegion) (Place CRegion n) ≡ ⊥)
+    × ((z : ℤ) → FitsValue sample few (Number z)
+    ≡ (Holds (record { low = pos 1; high = pos 5 }) z × Unit {0}))
+    × (FitsValue sample few (Flag true) ≡ ⊥) × (FitsAt sample None (Some (Flag true)) ≡ ⊥)
+    × (FitsAt sample (Some KnownFlag) None ≡ ⊥)
+    × (FitsAt sample (Some KnownFlag) (Some (Flag true)) ≡ Unit {0})
+others n = (refl, refl, refl, refl, λ z. refl, refl, refl, refl, refl)
 
 -- ---- the moments of a run
 
@@ -188,22 +117,14 @@ nothing_behind_a_trap m (behind_scan x table r body rest at registers s t earlie
 
 -- ---- bounds
 
-constant_of_64_bits : NamesI64 (const 0 (pos (2 ^ 63 - 1)))
-constant_of_64_bits = record { sfits = omega arith }
-
-no_greater_constant : NamesI64 (const 0 (pos (2 ^ 63))) → ⊥
-no_greater_constant h = let p = h.sfits in omega (arith, p)
-
-no_greater_default : NamesI64 (read 0 0 0 (pos (2 ^ 63))) → ⊥
-no_greater_default h = let p = h.sfits in omega (arith, p)
-
--- in scans and after them
-all_of_64_bits : AllNameI64 (acts (const 0 (pos 1) ∷ [])
-    (Each Date 1 (acts (const 2 (pos 2) ∷ []) Stop) (acts (const 3 (pos 3) ∷ []) Stop)))
-all_of_64_bits = (
-  record { sfits = omega arith },
-  ((record { sfits = omega arith }, tt), (record { sfits = omega arith }, tt)),
-)
+-- of constants and defaults, in scans and after them
+all_of_64_bits : (x y z : ℤ) → (NamesI64 (const 0 x) ≡ FitsSigned w64 x)
+    × (NamesI64 (read 0 0 0 x) ≡ FitsSigned w64 x) × (NamesI64 (keep 0) ≡ Unit {0})
+    × (AllNameI64 (Each Date 1 (acts (const 2 x ∷ []) Stop)
+    (acts (read 3 0 0 y ∷ const 4 z ∷ []) Stop))
+    ≡ ((NamesI64 (const 0 x) × Unit {0})
+    × (NamesI64 (const 0 y) × (NamesI64 (const 0 z) × Unit {0}))))
+all_of_64_bits x y z = (refl, refl, refl, refl)
 
 no_wider_column : AreI64 (record sample { bounds = λ c. only (pos (2 ^ 63)) }) (over [] Stop) → ⊥
 unfolding column_of
@@ -212,26 +133,20 @@ no_wider_column h = let p = (h.bounds LoQuantity refl).1.sfits in omega (arith, 
 -- ---- what adds up
 
 -- of 4, 2 and 3 the first and the last
-some_sum : sum_of (picked (true ∷ false ∷ true ∷ []) (pos 4 ∷ pos 2 ∷ pos 3 ∷ [])) ≡ pos 7
-some_sum = refl
-
-null_lies : TotalLies (Some (only (pos 0))) None
-null_lies = tt
+some_sum : (sum_of (picked (true ∷ false ∷ true ∷ []) (pos 4 ∷ pos 2 ∷ pos 3 ∷ [])) ≡ pos 7)
+    × TotalLies (Some (only (pos 0))) None
+some_sum = (refl, tt)
 
 -- two puts of a number
 abbrev two_puts : ℤ → Parts
 two_puts z = over (plain (Sum ∷ []) ∷ [])
     (acts (const 0 z ∷ put 0 [] (0 ∷ []) ∷ put 0 [] (0 ∷ []) ∷ []) Stop)
 
--- twice the greatest number of 128 bits leaves them
+-- twice the greatest number of 128 bits leaves them, and a count of 2 ^ 63 rows leaves 64
 no_greater_sum : SumsFit sample (two_puts (pos 170141183460469231731687303715884105727)) → ⊥
 no_greater_sum h = let p = (h.sums 0 0 (omega arith) refl).1.sfits in omega (arith, p)
 
--- and a count of 2 ^ 63 rows leaves 64
-abbrev vast : World
-vast = record sample { size = λ t. 9223372036854775808 }
-
-no_greater_count : SumsFit vast
+no_greater_count : SumsFit (record sample { size = λ t. 9223372036854775808 })
     (over (plain (Count ∷ []) ∷ []) (Each Lineorder 0 (acts (put 0 [] [] ∷ []) Stop) Stop)) → ⊥
 no_greater_count h = let p = h.counts 0 0 in omega (arith, p)
 
@@ -244,3 +159,12 @@ no_more_turns known regs h = let p = h.visits in omega (arith, p)
 -- a run may visit as many rows as are asked for
 visits_within : EndsWithin 1 (Ended (record empty_state { visits = 1 }))
 visits_within = omega arith
+
+-- ---- acceptance: 10^15 visits may be quoted, and no more
+
+accepted : (w : World) (parts : Parts) → IsAccepted w parts ↔ (IsLoaded w × IsWithinLimits parts
+    × IsAdmissible w parts × (quote w.size parts ≤ 10 ^ 15))
+accepted w parts = (
+  λ a. (a.loaded, a.limits, a.admissible, a.cheap),
+  λ h. record { loaded = h.0; limits = h.1; admissible = h.2; cheap = h.3 },
+)

@@ -1,171 +1,211 @@
--- Refusals of small programs, by computation.
-use Rattle.std.proofs.Common.{◌≡◌, ℕ, [], ◌∷◌, Some, None, refl}
-use Rattle.std.specs.Prelude.{pos, neg_ℤ}
-use Rattle.star_schema.specs.declared.table.TableId.{TableId}
-use Rattle.star_schema.specs.declared.table.TableId.TheVariants.{Lineorder}
+-- What refuses small programs, by computation: each kind of refusal, which of two comes first, and
+-- ranges: what multiplies, adds up, is read and is reached.
+use Rattle.std.proofs.Common.{◌*◌, ◌^◌, ℕ, List, [], ◌∷◌, Option, Some, None, pos, refl}
+use Rattle.std.specs.Prelude.{ℤ, neg_ℤ}
+use Rattle.star_common.proofs.Tables.{Gives2, Gives3}
+use Rattle.star_schema.specs.declared.table.TableId.TheVariants.{Date, Supplier, Lineorder}
 use Rattle.star_schema.specs.declared.column.ColumnId.{ColumnId}
-use Rattle.star_schema.specs.declared.column.ColumnId.TheVariants.{LoLinenumber, LoExtendedprice}
-use Rattle.star_schema.specs.declared.group.Aggregate.TheVariants as aggregate
+use Rattle.star_schema.specs.declared.column.ColumnId.TheVariants.{CRegion, LoExtendedprice, LoQuantity, LoRevenue, LoTax}
+use Rattle.star_schema.specs.declared.group.Aggregate.{Aggregate}
+use Rattle.star_schema.specs.declared.group.Aggregate.TheVariants.{Sum, Count, Min, Max}
+use Rattle.star_schema.specs.declared.group.Direction.TheVariants.{Ascending}
+use Rattle.star_schema.specs.declared.group.GroupColumn.TheVariants as column
+use Rattle.star_schema.specs.declared.group.Shape.TheVariants.{Plain}
 use Rattle.star_schema.specs.Schema.{column_of}
 use Rattle.star_common.specs.First.{first_answer}
 use Rattle.star_interval.specs.Range.{Range, only, is_i64}
-use Rattle.star_program.specs.declared.op.Op.TheVariants as op
-use Rattle.star_program.specs.declared.op.Operation.TheVariants as operation
-use Rattle.star_program.specs.declared.op.Operator.TheVariants as operator
+use Rattle.star_program.specs.declared.group.GroupDecl.{GroupDecl}
+use Rattle.star_program.specs.declared.group.GroupKey.TheVariants as key
+use Rattle.star_program.specs.declared.op.Op.{Op}
 use Rattle.star_program.specs.declared.program.Parts.{Parts}
-use Rattle.star_program.specs.Code.{Code, Stop, Then, Each}
-use Rattle.star_program.specs.declared.fault.Fault.TheVariants.{WrittenTwice, Misplaced}
+use Rattle.star_program.specs.Code.{Code, Stop, Each}
 use Rattle.star_program.specs.World.{World}
-use Rattle.star_program.proofs.Sample.{sample, great_prices, plain, program, assign, above_average, find_by_quantity, read_while_putting, written_twice, keep_outside, shows_no_key, scan_in_scan, doubled_difference}
-use Rattle.star_safety.specs.Quote.{quote}
-use Rattle.star_safety.specs.declared.reason.Reason.TheVariants.{Faulty, NotAForeignKey, OpenGroup, Overflow}
+use Rattle.star_program.specs.declared.fault.Fault.{Fault}
+use Rattle.star_program.specs.declared.fault.Fault.TheVariants.{WrittenTwice}
+use Rattle.star_program.proofs.Sample.{sample, great_prices, plain}
+use Rattle.star_safety.specs.declared.reason.Reached.{Reached}
+use Rattle.star_safety.specs.declared.reason.Reason.{Reason}
+use Rattle.star_safety.specs.declared.reason.Reason.TheVariants.{Faulty, OpenGroup, Overflow}
 use Rattle.star_safety.specs.Refusals.{reached}
-use Rattle.star_safety.specs.Admissible.{TooCostly, Refused, BadShow, first_refusal}
+use Rattle.star_safety.specs.Admissible.{Refusal, TooCostly, Refused, BadShow, first_refusal}
+use Rattle.star_safety.proofs.Words.{const, low, load, add, mul, put, read, acts, over}
 
--- ---- samples that only refusals want
+-- instruction `n` is refused: for this reason, for what is wrong with it, and for a range that
+-- leaves 64 bits and what it is computed from
+abbrev no : ℕ → Reason → Option Refusal
+no n reason = Some (Refused (n, reason))
 
-abbrev eleven_sizes : TableId → ℕ
-eleven_sizes Lineorder = 11
-eleven_sizes t = 0
+abbrev wrong : ℕ → Fault → Option Refusal
+wrong n fault = no n (Faulty fault)
 
--- eleven lines of one great price
-abbrev one_line_more : World
-one_line_more = record great_prices { size = λ t. eleven_sizes t }
+abbrev wide : ℕ → (low high : ℤ) → List Reached → Option Refusal
+wide n low high columns = no n (Overflow low high columns)
 
-abbrev widest_bounds : ColumnId → Range
-widest_bounds LoExtendedprice = record { low = pos 500; high = pos 999999999999999999 }
-widest_bounds _ = only (pos 0)
+abbrev between : ColumnId → ℤ → ℤ → Reached
+between c low high = record { column = c; low = low; high = high }
 
--- a line with the widest price
-abbrev widest_price : World
-widest_price = record sample { bounds = widest_bounds }
+-- so many times 10^18, and 2^63
+abbrev e18 : ℕ → ℤ
+e18 n = pos (n * 10 ^ 18)
 
--- the sum of the prices of the first lines, and then some more
-abbrev first_lines : Code → Parts
-first_lines behind = program 10 (plain (aggregate.Sum ∷ []) ∷ []) 0
-    (Each Lineorder 0
-    (assign 1 (operation.Load LoLinenumber 0)
-    (assign 2 (operation.Const (pos 1))
-    (assign 3 (operation.Binary operator.Equal 1 2) (Then (op.Keep 3)
-    (assign 4 (operation.Load LoExtendedprice 0) (Then (op.Put 0 [] (4 ∷ [])) Stop)))))) behind)
+abbrev minus18 : ℕ → ℤ
+minus18 n = neg_ℤ (e18 n)
 
--- and of all lines
-abbrev all_lines : Code → Parts
-all_lines behind = program 10 (plain (aggregate.Sum ∷ []) ∷ []) 0
-    (Each Lineorder 0 (assign 1 (operation.Load LoExtendedprice 0)
-    (Then (op.Put 0 [] (1 ∷ [])) Stop)) behind)
+abbrev too_great : ℤ
+too_great = pos (2 ^ 63)
 
--- the sum is read
-abbrev reads_it : Code
-reads_it = assign 5 (operation.Read 0 0 (pos 0)) Stop
+abbrev just : List Op → Code
+just ops = acts ops Stop
 
-abbrev squared_price : Parts
-squared_price = program 10 (plain (aggregate.Sum ∷ []) ∷ []) 0
-    (Each Lineorder 0 (assign 1 (operation.Load LoExtendedprice 0)
-    (assign 2 (operation.Binary operator.Mul 1 1) (Then (op.Put 0 [] (2 ∷ [])) Stop))) Stop)
+-- ---- over the sample, where 15 visits are allowed, with groups that count and add, and that count
+-- by regions
 
--- ---- refusals
+abbrev groups : List GroupDecl
+groups = plain (Count ∷ Sum ∷ [])
+    ∷ record { shape = Plain; keys = key.Text CRegion ∷ []; aggregates = Count ∷ [] } ∷ []
 
-above_average_accepted : first_refusal sample 10 above_average ≡ None
-unfolding column_of is_i64 reached first_answer
-above_average_accepted = refl
+abbrev counting_twice : Parts
+counting_twice = over groups
+    (acts (const 0 (pos 1) ∷ const 0 (pos 1) ∷ []) (Each Lineorder 1 Stop Stop))
 
-above_average_too_costly : first_refusal sample 9 above_average ≡ Some (TooCostly 10)
+-- the cost comes before any instruction, and the report last; sort lines follow the show lines
+report_and_cost : Gives2 (first_refusal sample) (
+    (4, counting_twice, Some (TooCostly 5))
+    ∷ (5, counting_twice, wrong 2 WrittenTwice)
+    ∷ (5, record counting_twice { shows = [] }, wrong 2 WrittenTwice)
+    ∷ (0, record (over groups Stop) { report = 2 }, Some (BadShow 0))
+    ∷ (0, record (over groups Stop) { shows = [] }, Some (BadShow 0))
+    ∷ (
+      0,
+      record (over groups Stop)
+          { sorts = record { column = column.Key 0; direction = Ascending } ∷ [] },
+      Some (BadShow 2),
+    )
+    ∷ [])
 unfolding first_answer is_i64
-above_average_too_costly = refl
+report_and_cost = refl
 
-find_by_quantity_refused : first_refusal sample 5 find_by_quantity
-    ≡ Some (Refused (3, NotAForeignKey))
-unfolding column_of is_i64 reached first_answer
-find_by_quantity_refused = refl
+-- ---- ranges, with one group of some aggregates
 
-read_while_putting_refused : first_refusal sample 5 read_while_putting
-    ≡ Some (Refused (3, OpenGroup))
-unfolding column_of is_i64 reached first_answer
-read_while_putting_refused = refl
+abbrev great_bounds : ColumnId → Range
+great_bounds LoQuantity = record { low = pos 1; high = pos 50 }
+great_bounds LoExtendedprice = only (pos 4000000000)
+great_bounds LoRevenue = only (pos 5000000000)
+great_bounds LoTax = record { low = minus18 3; high = e18 4 }
+great_bounds _ = only (pos 0)
 
-written_twice_refused : first_refusal sample 0 written_twice
-    ≡ Some (Refused (2, Faulty WrittenTwice))
-unfolding first_answer is_i64
-written_twice_refused = refl
+-- prices and revenues whose product leaves 64 bits, and taxes whose sums do
+abbrev great : World
+great = record sample { bounds = great_bounds }
 
-keep_outside_refused : first_refusal sample 0 keep_outside ≡ Some (Refused (3, Faulty Misplaced))
-unfolding first_answer is_i64
-keep_outside_refused = refl
+-- two sums that leave 64 bits at one put
+abbrev two_sums : Code → Code
+two_sums behind = Each Supplier 0
+    (just (const 1 (e18 5) ∷ const 2 (e18 6) ∷ put 0 [] (1 ∷ 2 ∷ []) ∷ [])) behind
 
-shows_no_key_refused : first_refusal sample 0 shows_no_key ≡ Some (BadShow 1)
-unfolding first_answer is_i64
-shows_no_key_refused = refl
+-- a great number that a scan of no rows puts, read with 0 as its default and squared
+abbrev squared_of_none : Code
+squared_of_none = Each Date 0 (just (const 1 (e18 9) ∷ put 0 [] (1 ∷ []) ∷ []))
+    (just (read 2 0 0 (pos 0) ∷ mul 3 2 2 ∷ []))
 
-scan_in_scan_quoted : quote sample.size scan_in_scan ≡ 9
-scan_in_scan_quoted = refl
+-- 5, read with 7 as its default, times a great number
+abbrev five_or_seven : Code
+five_or_seven = just (const 0 (pos 5) ∷ put 0 [] (0 ∷ []) ∷ read 1 0 0 (pos 7) ∷ const 2 (e18 4)
+    ∷ mul 3 1 2 ∷ [])
 
--- eleven lines are refused at the read, and of ten it is twice the difference that is refused:
--- nothing is reached through a read, so no columns are named
-doubled_difference_of_eleven : first_refusal one_line_more 11 doubled_difference
-    ≡ Some (Refused (
-      8,
-      Overflow (pos 0) (pos 9900000000000000000) (record {
-        column = LoExtendedprice;
-        low = pos 900000000000000000;
-        high = pos 900000000000000000;
-      } ∷ []),
-    ))
-unfolding column_of is_i64 reached first_answer
-doubled_difference_of_eleven = refl
+abbrev put_two : Code → Code
+put_two behind = Each Lineorder 0
+    (just (load 1 LoQuantity 0 ∷ load 2 LoRevenue 0 ∷ put 0 [] (1 ∷ 2 ∷ []) ∷ [])) behind
 
-doubled_difference_refused : first_refusal great_prices 10 doubled_difference
-    ≡ Some (Refused
-    (12, Overflow (neg_ℤ (pos 18000000000000000000)) (pos 0) []))
-unfolding column_of is_i64 reached first_answer
-doubled_difference_refused = refl
+-- a row: over a world, and with these aggregates, what refuses a body
+abbrev seen : World → List Aggregate → Code → Option Refusal
+    → World × List Aggregate × Code × Option Refusal
+seen w gs body refusal = (w, gs, body, refusal)
 
--- eleven prices add up to more than a number of 64 bits, which no put refuses
-first_lines_put : first_refusal one_line_more 11 (first_lines Stop) ≡ None
-unfolding column_of is_i64 reached first_answer
-first_lines_put = refl
+ranges : Gives3 (λ w gs body. first_refusal w 100 (over (plain gs ∷ []) body)) (
+    -- columns in the order of the schema, and not of their loads
+    seen great (Sum ∷ []) (Each Lineorder 0 (just (load 1 LoRevenue 0 ∷ load 2 LoExtendedprice 0 ∷
+    mul 3 1 2 ∷ [])) Stop) (wide 4 (e18 20) (e18 20) (between LoExtendedprice (pos 4000000000)
+    (pos 4000000000) ∷ between LoRevenue (pos 5000000000) (pos 5000000000) ∷ []))
+    -- a SUM that is read reaches the columns of all that was put for it, and of nothing else
+    ∷ seen great (Sum ∷ Count ∷ Sum ∷ []) (Each Lineorder 0 (just (load 1 LoQuantity 0 ∷ load 2
+    LoRevenue 0 ∷ const 3 (e18 3) ∷ put 0 [] (1 ∷ 2 ∷ []) ∷ put 0 [] (1 ∷ 3 ∷ []) ∷ [])) (just
+    (read 4 0 2 (pos 0) ∷ []))) (wide 7 (pos 0) (pos 15000000025000000000) (between LoRevenue
+    (pos 5000000000) (pos 5000000000) ∷ []))
+    -- the turns of a scan in a scan are those of both together
+    ∷ seen sample (Sum ∷ []) (Each Date 0 (Each Supplier 1 (just (const 2 (e18 2) ∷ put 0 [] (2 ∷
+    []) ∷ [])) Stop) (just (read 3 0 0 (pos 0) ∷ []))) (wide 5 (pos 0) (e18 12) [])
+    -- negative numbers up to 0, since fewer may be put
+    ∷ seen sample (Sum ∷ []) (Each Supplier 0 (just (const 1 (minus18 5) ∷ put 0 [] (1 ∷ []) ∷ []))
+    (just (read 2 0 0 (pos 0) ∷ []))) (wide 4 (minus18 10) (pos 0) [])
+    -- numbers of both signs down from 0 and up from it
+    ∷ seen great (Sum ∷ []) (Each Lineorder 0 (just (load 1 LoTax 0 ∷ put 0 [] (1 ∷ []) ∷ [])) (just
+    (read 2 0 0 (pos 0) ∷ []))) (wide 4 (minus18 15) (e18 20) (between LoTax (minus18 3) (e18 4)
+    ∷ []))
+    ∷ seen sample (Sum ∷ Sum ∷ []) (two_sums (just (read 3 0 0 (pos 0) ∷ []))) (wide 5 (pos 0) (e18
+    10) [])
+    ∷ seen sample (Sum ∷ Sum ∷ []) (two_sums (just (read 3 0 1 (pos 0) ∷ []))) (wide 5 (pos 0) (e18
+    12) [])
+    -- what no read gives may add up to any number
+    ∷ seen sample (Sum ∷ Sum ∷ []) (two_sums Stop) None
+    -- one update after another, outside scans too
+    ∷ seen sample (Sum ∷ []) (just (const 0 (e18 5) ∷ put 0 [] (0 ∷ []) ∷ put 0 [] (0 ∷ []) ∷ read 1
+    0 0 (pos 0) ∷ [])) (wide 4 (pos 0) (e18 10) [])
+    -- adds up to nothing
+    ∷ seen great_prices (Sum ∷ []) squared_of_none None
+    -- and is among the numbers all the same
+    ∷ seen great_prices (Min ∷ []) squared_of_none (wide 5 (pos 0) (e18 81000000000000000000) [])
+    -- least and greatest numbers don't go down to 0
+    ∷ seen sample (Min ∷ []) five_or_seven (wide 5 (e18 20) (e18 28) [])
+    ∷ seen sample (Max ∷ []) five_or_seven (wide 5 (e18 20) (e18 28) [])
+    -- and sums do
+    ∷ seen sample (Sum ∷ []) five_or_seven (wide 5 (pos 0) (e18 28) [])
+    -- of the aggregates the one that is asked for
+    ∷ seen sample (Sum ∷ Sum ∷ []) (just (const 0 (pos 1) ∷ const 1 (e18 5) ∷ put 0 [] (0 ∷ 1 ∷ [])
+    ∷ read 2 0 1 (pos 0) ∷ add 3 2 2 ∷ [])) (wide 5 (pos 0) (e18 10) [])
+    -- a count goes from 0 to the turns, each time 1
+    ∷ seen sample (Count ∷ []) (Each Date 0 (just (put 0 [] [] ∷ [])) (just (read 1 0 0 (pos 2) ∷
+    const 2 (e18 4) ∷ mul 3 1 2 ∷ []))) (wide 5 (pos 0) (e18 12) [])
+    -- the default counts where an update comes before, and though a count is never NULL
+    ∷ seen sample (Count ∷ []) (just (put 0 [] [] ∷ read 0 0 0 (minus18 9) ∷ add 1 0 0 ∷ [])) (wide
+    3 (minus18 18) (pos 2) [])
+    -- least numbers of none have the default alone
+    ∷ seen sample (Min ∷ []) (just (read 0 0 0 (e18 9) ∷ add 1 0 0 ∷ [])) (wide 2 (e18 18) (e18 18)
+    [])
+    -- though nothing uses what is read: a default alone, too
+    ∷ seen sample (Min ∷ []) (just (read 0 0 0 too_great ∷ [])) (wide 1 too_great too_great [])
+    ∷ seen great (Min ∷ Count ∷ Sum ∷ []) (put_two (just (read 3 0 2 too_great ∷ []))) (wide 5 (pos
+    0) too_great (between LoRevenue (pos 5000000000) (pos 5000000000) ∷ []))
+    -- none for a COUNT
+    ∷ seen great (Min ∷ Count ∷ Sum ∷ []) (put_two (just (read 3 0 1 too_great ∷ []))) (wide 5 (pos
+    0) too_great [])
+    -- what a read gives is computed from no column
+    ∷ seen great (Max ∷ []) (Each Lineorder 0 (just (load 1 LoTax 0 ∷ put 0 [] (1 ∷ []) ∷ [])) (just
+    (read 2 0 0 (pos 0) ∷ add 3 2 2 ∷ add 4 3 2 ∷ []))) (wide 6 (minus18 9) (e18 12) [])
+    ∷ seen sample (Min ∷ []) (just (read 0 0 0 (pos 9223372036854775807) ∷ [])) None
+    -- a group that is open comes before the range
+    ∷ seen sample (Count ∷ []) (just (read 0 0 0 too_great ∷ put 0 [] [] ∷ [])) (no 1 OpenGroup)
+    -- constants are numbers of 64 bits
+    ∷ seen sample [] (just (const 0 (neg_ℤ too_great) ∷ const 1 too_great ∷ [])) (wide 2 too_great
+    too_great [])
+    -- and so is what a column holds
+    ∷ seen (record sample { bounds = λ c. only (neg_ℤ (pos 9223372036854775809)) }) [] (Each
+    Lineorder 0 (just (load 1 LoTax 0 ∷ [])) Stop) (wide 2 (neg_ℤ (pos 9223372036854775809))
+    (neg_ℤ (pos 9223372036854775809)) (between LoTax (neg_ℤ (pos 9223372036854775809)) (neg_ℤ
+    (pos 9223372036854775809)) ∷ []))
+    ∷ [])
+unfolding column_of first_answer is_i64 reached
+ranges = refl
 
-all_lines_put : first_refusal one_line_more 11 (all_lines Stop) ≡ None
-unfolding column_of is_i64 reached first_answer
-all_lines_put = refl
+-- each table has a milliard rows: three scans one in the other count, and the count is read
+abbrev counting_thrice : Parts
+counting_thrice = over (plain (Count ∷ []) ∷ []) (Each Date 0
+    (Each Supplier 1 (Each Lineorder 2 (just (put 0 [] [] ∷ [])) Stop) Stop)
+    (just (read 3 0 0 (pos 0) ∷ [])))
 
-all_lines_read : first_refusal one_line_more 11 (all_lines reads_it)
-    ≡ Some (Refused (
-      4,
-      Overflow (pos 0) (pos 9900000000000000000) (record {
-        column = LoExtendedprice;
-        low = pos 900000000000000000;
-        high = pos 900000000000000000;
-      } ∷ []),
-    ))
-unfolding column_of is_i64 reached first_answer
-all_lines_read = refl
-
--- a read of them is refused, and the filter narrows no range: all eleven prices count
-first_lines_refused : first_refusal one_line_more 11 (first_lines reads_it)
-    ≡ Some (Refused (
-      8,
-      Overflow (pos 0) (pos 9900000000000000000) (record {
-        column = LoExtendedprice;
-        low = pos 900000000000000000;
-        high = pos 900000000000000000;
-      } ∷ []),
-    ))
-unfolding column_of is_i64 reached first_answer
-first_lines_refused = refl
-
-first_lines_accepted : first_refusal great_prices 10 (first_lines reads_it) ≡ None
-unfolding column_of is_i64 reached first_answer
-first_lines_accepted = refl
-
-squared_price_refused : first_refusal widest_price 5 squared_price
-    ≡ Some (Refused (
-      3,
-      Overflow (pos 250000) (pos 999999999999999998000000000000000001) (record {
-        column = LoExtendedprice;
-        low = pos 500;
-        high = pos 999999999999999999;
-      } ∷ []),
-    ))
-unfolding column_of is_i64 reached first_answer
-squared_price_refused = refl
+great_counts : Gives2 (first_refusal (record sample { size = λ t. 1000000000 })) (
+    (10 ^ 28, counting_thrice, wide 5 (pos 0) (pos (10 ^ 27)) [])
+    ∷ (10 ^ 15, counting_thrice, Some (TooCostly 1000000001000000001000000000))
+    ∷ [])
+unfolding first_answer is_i64 reached
+great_counts = refl

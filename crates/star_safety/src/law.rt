@@ -156,8 +156,7 @@ pub fn moments_stand_in_their_contexts()
 {}
 
 /// What is known of a register of a number's kind is a range. So what `range_at` answers of anything
-/// else is read of no instruction with which nothing is wrong: where it takes ranges it reads numbers
-/// (`instructions_read_what_is_there` of `star_program`).
+/// else is read of no instruction with which nothing is wrong: where it takes ranges it reads numbers.
 pub fn numbers_have_ranges()
     ensures { (known : Option Known) → IsTaken is_number_kind (option_map known_kind known)
         → (range : Range) × (reach : Reach) × (origin : Option ColumnId)

@@ -4,7 +4,7 @@ use Rattle.std.proofs.Common.{◌≡◌, ◌+◌, ◌&&◌, ◌∷◌, [], ℕ, 
 use Rattle.std.proofs.lemmas.Bool.{and_parts, leb-true}
 use Rattle.star_program.specs.Text.Lines.{is_blank_line, lines_of}
 use Rattle.star_program.specs.Private.Within.{IsWithinLargest}
-use Rattle.star_program.specs.Private.Places.{advance, end_in, is_within, lines_fault, program_text_fault, start}
+use Rattle.star_program.specs.Text.FirstFaults.{advance, end_in, is_within, lines_fault, program_text_fault, start}
 use Rattle.star_program.specs.declared.spelling.fault.TextFault.{TextFault}
 use Rattle.star_program.specs.declared.spelling.place.Place.{Place}
 use Rattle.star_program.specs.declared.spelling.place.Stage.{Stage}

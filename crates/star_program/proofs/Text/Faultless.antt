@@ -4,7 +4,7 @@ use Rattle.std.proofs.lemmas.Bool.{cases_Bool}
 use Rattle.star_program.specs.Private.Drafts.{IsAt, finished, nothing_read, told}
 use Rattle.star_program.specs.Limits.{IsWithinLimits}
 use Rattle.star_program.specs.Text.Lines.{is_blank_line, lines_of}
-use Rattle.star_program.specs.Private.Places.{advance, end_in, lines_fault, program_text_fault, reached_by, start}
+use Rattle.star_program.specs.Text.FirstFaults.{FirstTextFault, advance, end_in, lines_fault, program_text_fault, reached_by, start}
 use Rattle.star_program.specs.Text.Said.{said, said_in}
 use Rattle.star_program.specs.Text.Spelling.{Spells}
 use Rattle.star_program.specs.declared.program.Parts.{Parts}
@@ -23,7 +23,7 @@ reached_says p line None q h = let bad : ⊥ = cc in absurd bad
 reached_says p line (Some s) q h = (s, refl)
 
 -- a line after which the text goes on says a statement
-pub advance_says : (p : Place) (line : ℕ) (text : List ℕ) (q : Place) → advance p line text ≡ Ok q
+advance_says : (p : Place) (line : ℕ) (text : List ℕ) (q : Place) → advance p line text ≡ Ok q
     → (s : Statement) × (said text ≡ Some s)
 unfolding advance
 advance_says p line text q h = elim (cases_Bool (opens_report p text)) [
@@ -85,3 +85,7 @@ spells_one text h =
 pub faultless : (text : List ℕ)
     → (program_text_fault text ≡ None) ↔ ((p : Parts) × Spells text p × IsWithinLimits p)
 faultless text = (spells_one text, λ (p, spells, small). no_fault text p spells small)
+
+pub never_both : (text : List ℕ) (f : TextFault) (p : Parts) → FirstTextFault text f
+    → Spells text p → IsWithinLimits p → ⊥
+never_both text f p first spells small = let none = no_fault text p spells small in cc

@@ -13,7 +13,7 @@ use Rattle.star_program.specs.Text.Keywords.{keyword_name, keyword_of, same}
 use Rattle.star_program.specs.Limits.{IsSmall, IsWithinLimits}
 use Rattle.star_program.specs.Text.Lines.{is_blank_line, lines_of, words_of}
 use Rattle.star_program.specs.Text.Numerals.{count_of}
-use Rattle.star_program.specs.Private.Places.{advance, after_in, begins_report, end_in, is_small, is_within, lines_fault, place_after, place_after_step, program_text_fault, start}
+use Rattle.star_program.specs.Text.FirstFaults.{advance, after_in, begins_report, end_in, is_small, is_within, lines_fault, place_after, place_after_step, program_text_fault, start}
 use Rattle.star_program.specs.Text.Said.{by_keyword, by_words, from_one_word, said}
 use Rattle.star_program.specs.Text.Spelling.{Spells, program_statements}
 use Rattle.star_program.specs.declared.group.GroupDecl.{GroupDecl}

@@ -9,7 +9,7 @@ use Rattle.star_program.specs.Private.Followed.{followed}
 use Rattle.star_program.specs.Limits.{IsSmall, IsWithinLimits}
 use Rattle.star_program.specs.Text.Lines.{is_blank_line, lines_of, words_of}
 use Rattle.star_program.specs.Private.Within.{IsWithinLargest}
-use Rattle.star_program.specs.Private.Places.{advance, after_in, begins_report, end_in, is_small, is_within, place_after, place_after_step, place_reached, start}
+use Rattle.star_program.specs.Text.FirstFaults.{advance, after_in, begins_report, end_in, is_small, is_within, place_after, place_after_step, place_reached, start}
 use Rattle.star_program.specs.Text.Said.{said, said_in}
 use Rattle.star_program.specs.Text.Spelling.{Spells}
 use Rattle.star_program.specs.declared.group.GroupDecl.{GroupDecl}

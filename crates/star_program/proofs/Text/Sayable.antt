@@ -17,9 +17,7 @@ use Rattle.star_program.specs.Text.Keywords.{aggregate_of_word, column_of_word, 
 use Rattle.star_program.specs.Text.Lines.{begins_with, is_blank_line, lines_of, pieces_of, words_of}
 use Rattle.star_common.specs.Numerals.{numeral_of}
 use Rattle.star_program.specs.Text.Numerals.{constant_of, count_of, is_show_name, register_of, up_to}
-use Rattle.star_program.specs.Text.Said.{assigned, both, by_first, by_keyword, by_words, each, end_of, from_one_word, from_three_words, from_two_words}
-use Rattle.star_program.specs.Text.Said.{group_column_of, group_head, group_key_of, group_of, header_of, lists, name_of, only_word, operation_of}
-use Rattle.star_program.specs.Text.Said.{put_head, put_of, quoted_text_of, said, show_of, sort_of, text_key, unquoted, until_colon}
+use Rattle.star_program.specs.Text.Said.{assigned, both, by_first, by_keyword, by_words, each, end_of, from_one_word, from_three_words, from_two_words, group_column_of, group_head, group_key_of, group_of, header_of, lists, name_of, only_word, operation_of, put_head, put_of, quoted_text_of, said, show_of, sort_of, text_key, unquoted, until_colon}
 use Rattle.star_program.specs.Text.Spellable.{IsKey, IsPrinted, IsSayable, HasFourDigits, IsShortColumn, IsSpellableOp, IsSpellableOperation, OnlySpellable}
 use Rattle.star_program.specs.Text.Spelling.{Spells, program_statements}
 use Rattle.star_program.specs.World.{is_text}

@@ -37,10 +37,7 @@ use Rattle.star_program.specs.declared.spelling.keyword.Mnemonic.TheVariants as 
 use Rattle.star_program.specs.declared.spelling.statement.Statement.{Statement}
 use Rattle.star_program.specs.declared.spelling.statement.Statement.TheVariants as says
 use Rattle.star_program.proofs.Text.LineLemmas.{goes_on, no_lines}
-use Rattle.star_program.proofs.Text.SpelledWords.{aggregate_read, aggregate_word, behind, column_apart, column_read, column_word, constant_decimal, constant_word}
-use Rattle.star_program.proofs.Text.SpelledWords.{count_decimal, count_word, direction_read, direction_word, is_word, is_word_byte, name_word, mnemonic_read, mnemonic_word}
-use Rattle.star_program.proofs.Text.SpelledWords.{quote_printable, quoted_printable, quoted_read, register_is_word, register_no_keyword, register_read, register_word}
-use Rattle.star_program.proofs.Text.SpelledWords.{shape_read, shape_word, table_read, table_word, words_before_quote, words_behind, words_printable}
+use Rattle.star_program.proofs.Text.SpelledWords.{aggregate_read, aggregate_word, behind, column_apart, column_read, column_word, constant_decimal, constant_word, count_decimal, count_word, direction_read, direction_word, is_word, is_word_byte, name_word, mnemonic_read, mnemonic_word, quote_printable, quoted_printable, quoted_read, register_is_word, register_no_keyword, register_read, register_word, shape_read, shape_word, table_read, table_word, words_before_quote, words_behind, words_printable}
 use Rattle.star_program.proofs.Text.WordLemmas.{space_first}
 use Rattle.star_program.proofs.Text.WrittenLemmas.{flat_map_map}
 

@@ -1,7 +1,6 @@
 -- The first word of a line.
-use Rattle.std.proofs.Common.{◌≡◌, ◌==◌, ◌<◌, ◌||◌, ◌∙◌, ◌∷◌, [], ℕ, Bool, true, false, not, zero, suc, List, drop, take, get_or, length, arith, ap, sym, refl}
+use Rattle.std.proofs.Common.{◌≡◌, ◌==◌, ◌<◌, ◌||◌, ◌∙◌, ◌∷◌, [], ℕ, Bool, true, false, not, zero, suc, List, drop, take, get_or, length, arith, ap, sym, refl, ◌≢◌, Some, None, add-zero, length-drop}
 use Rattle.std.specs.Prelude.{filter}
-use Rattle.std.proofs.Common.{◌≢◌, Some, None, add-zero, length-drop}
 use Rattle.std.specs.List.{position}
 use Rattle.std.proofs.lemmas.Bool.{eq-eqb, eqb-false, eqb-true, ne_eqb, not-false, not-true, or_parts}
 use Rattle.std.proofs.lemmas.List.{get_or-drop}

@@ -5,7 +5,7 @@ use Rattle.star_program.specs.Code.{Code, Stop, Then, Each, code_size, scan_dept
 use Rattle.star_program.specs.Private.Followed.{followed}
 use Rattle.star_program.specs.Limits.{IsSmall}
 use Rattle.star_program.specs.Private.Within.{IsWithinLargest}
-use Rattle.star_program.specs.Private.Places.{lines_fault}
+use Rattle.star_program.specs.Text.FirstFaults.{lines_fault}
 use Rattle.star_program.specs.Text.Said.{said_in}
 use Rattle.star_program.specs.declared.group.GroupDecl.{GroupDecl}
 use Rattle.star_program.specs.declared.program.Parts.{Parts}

@@ -1,75 +1,102 @@
--- The first fault of a text: where its lines stop to begin a program.
-use Rattle.std.specs.Prelude.{◌≡◌, ◌≢◌, ◌⊎◌, ◌+◌, ℕ, List, [], ◌∷◌, ◌++◌, Some, codes, length, map, slice_get}
+-- The first fault of a text: its lines in order, how many of each kind there may be, and how deep scans lie in one another.
+use Rattle.std.specs.Prelude.{◌≡◌, ◌==◌, ◌+◌, ◌-◌, ◌&&◌, if◌then◌else◌, Bool, true, false, ℕ, List, [], ◌∷◌, Option, Some, None, Result, Ok, Err, codes, length, nat_le, nat_lt}
 use Rattle.star_common.specs.Memory.{UnlessMemory}
-use Rattle.star_program.specs.Limits.{IsWithinLimits}
-use Rattle.star_program.specs.Text.Lines.{lines_of, words_of}
-use Rattle.star_program.specs.Text.Said.{said_in}
-use Rattle.star_program.specs.Text.Spelling.{Spells, program_statements}
-use Rattle.star_program.specs.declared.program.Parts.{Parts}
+use Rattle.star_program.specs.Text.Keywords.{same}
+use Rattle.star_program.specs.Text.Lines.{is_blank_line, lines_of, words_of}
+use Rattle.star_program.specs.Text.Said.{said}
+use Rattle.star_program.specs.declared.spelling.place.Place.{Place}
+use Rattle.star_program.specs.declared.spelling.place.Stage.{Stage}
+use Rattle.star_program.specs.declared.spelling.place.Stage.TheVariants as stage
 use Rattle.star_program.specs.declared.spelling.fault.TextFault.{TextFault}
 use Rattle.star_program.specs.declared.spelling.fault.TextFault.TheVariants as fault
 use Rattle.star_program.specs.declared.spelling.statement.Statement.{Statement}
+use Rattle.star_program.specs.declared.spelling.statement.Statement.TheVariants as says
 
--- these lines say the first statements of some program for which this holds
-pub record BeginsProgram (Holds : Parts → Type 0) (lines : List (List ℕ)) : Type 0 where
-  pub program : Parts
-  pub holds : Holds program
-  pub more : List Statement
-  pub says : said_in lines ++ map Some more ≡ map Some (program_statements program)
+-- before the first line
+unfoldable pub start : Place
+start = record { stage = stage.Header; groups = 0; instructions = 0; depth = 0; shows = 0; sorts = 0 }
 
--- within the limits or not
-abbrev pub IsOfAnySize : Parts → Type 0
-IsOfAnySize p = Unit {0}
+-- after an instruction, the line or the end of a scan, or the report after the last scan
+abbrev pub place_after_step : Place → Statement → Option Place
+place_after_step p (says.Act op) = Some (record p { stage = stage.Body; instructions = p.instructions + 1 })
+place_after_step p (says.Scan table t) = Some (record p { stage = stage.Body; instructions = p.instructions + 1; depth = p.depth + 1 })
+place_after_step p says.End = if p.depth == 0 then None else Some (record p { depth = p.depth - 1 })
+place_after_step p (says.Report g) = if p.depth == 0 then Some (record p { stage = stage.Shows }) else None
+place_after_step p s = None
 
--- a scan is open: an end may come next
-abbrev pub IsInScan : List (List ℕ) → Type 0
-IsInScan front = BeginsProgram IsOfAnySize (front ++ codes "end" ∷ [])
+-- after a statement in a part of the program, if it may stand there: groups are numbered in order
+abbrev pub after_in : Stage → Place → Statement → Option Place
+after_in stage.Header p says.Header = Some (record p { stage = stage.Registers })
+after_in stage.Registers p (says.Registers n) = Some (record p { stage = stage.Groups })
+after_in stage.Groups p (says.Group place group) = if place == p.groups then Some (record p { groups = p.groups + 1 }) else None
+after_in stage.Groups p s = place_after_step p s
+after_in stage.Body p s = place_after_step p s
+after_in stage.Shows p (says.Show show) = Some (record p { shows = p.shows + 1 })
+after_in stage.Shows p (says.Sort key) = Some (record p { stage = stage.Sorts; sorts = 1 })
+after_in stage.Sorts p (says.Sort key) = Some (record p { sorts = p.sorts + 1 })
+after_in s p t = None
 
--- the next line begins with the word `report`, or the text ends
-abbrev pub EndsBody : List (List ℕ) → Type 0
-EndsBody [] = Unit {0}
-EndsBody (line ∷ left) = slice_get (words_of line) 0 ≡ Some (codes "report")
+unfoldable pub place_after : Place → Statement → Option Place
+place_after p s = after_in p.stage p s
 
--- no program goes on with the next line, or none ends with the text
-abbrev pub NoProgramGoesOn : (front left : List (List ℕ)) → Type 0
-NoProgramGoesOn front [] = (p : Parts) → said_in front ≡ map Some (program_statements p) → ⊥
-NoProgramGoesOn front (line ∷ left) = BeginsProgram IsOfAnySize (front ++ line ∷ []) → ⊥
+-- the limits of a program, as far as a place tells them
+unfoldable pub is_within : Place → Bool
+is_within p = nat_le p.groups 8 && (nat_le p.instructions 4096 && (nat_le p.depth 3 && (nat_le p.shows 16 && nat_le p.sorts 16)))
 
--- some program goes on with the next line, and none within the limits
-abbrev pub IsTooLarge : (front left : List (List ℕ)) → Type 0
-IsTooLarge front [] = ⊥
-IsTooLarge front (line ∷ left) =
-    BeginsProgram IsOfAnySize (front ++ line ∷ []) × (BeginsProgram IsWithinLimits (front ++ line ∷ []) → ⊥)
+-- and as a statement tells them by itself
+unfoldable pub is_small : Statement → Bool
+is_small (says.Registers n) = nat_le n 4096
+is_small (says.Group place group) = nat_le (length group.keys) 6 && nat_le (length group.aggregates) 8
+is_small s = true
 
--- what is at fault behind some lines, with what is left: lines count from 1
-abbrev pub TextFails : TextFault → (front left : List (List ℕ)) → Type 0
-TextFails fault.OutOfMemory front left = ⊥
-TextFails fault.BadHeader front left = NoProgramGoesOn front left × (said_in front ≡ [])
-TextFails (fault.BadLine line) front left =
-    NoProgramGoesOn front left × (said_in front ≢ []) × ¬ (IsInScan front × EndsBody left) × (line ≡ length front + 1)
-TextFails fault.OpenScan front left = IsInScan front × EndsBody left
-TextFails (fault.TooLarge line) front left = IsTooLarge front left × (line ≡ length front + 1)
+-- a line that may not stand there
+abbrev pub bad_in : Stage → ℕ → TextFault
+bad_in stage.Header line = fault.BadHeader
+bad_in s line = fault.BadLine line
 
--- the first lines of a text begin a program within the limits, and what comes next is at fault
-pub record FirstTextFault (text : List ℕ) (fault : TextFault) : Type 0 where
-  pub front : List (List ℕ)
-  pub left : List (List ℕ)
-  pub cut : lines_of text ≡ front ++ left
-  pub begins : BeginsProgram IsWithinLimits front
-  pub fails : TextFails fault front left
+abbrev pub begins_report : List (List ℕ) → Bool
+begins_report [] = false
+begins_report (w ∷ ws) = same w (codes "report")
+
+abbrev pub place_reached : Place → ℕ → Statement → Option Place → Result Place TextFault
+place_reached p line s None = Err (bad_in p.stage line)
+place_reached p line s (Some q) = if is_within q && is_small s then Ok q else Err (fault.TooLarge line)
+
+abbrev pub reached_by : Place → ℕ → Option Statement → Result Place TextFault
+reached_by p line None = Err (bad_in p.stage line)
+reached_by p line (Some s) = place_reached p line s (place_after p s)
+
+-- the place after a line of this number, or its fault: a report in a scan, then a line that may not stand there, then a limit
+unfoldable pub advance : Place → ℕ → List ℕ → Result Place TextFault
+advance p line text = if nat_lt 0 p.depth && begins_report (words_of text) then Err fault.OpenScan else reached_by p line (said text)
+
+-- the fault of a text that ends there, where the next line would have this number
+abbrev pub end_in : Stage → ℕ → ℕ → Option TextFault
+end_in stage.Header depth line = Some fault.BadHeader
+end_in stage.Registers depth line = Some (fault.BadLine line)
+end_in stage.Shows depth line = None
+end_in stage.Sorts depth line = None
+end_in s depth line = if depth == 0 then Some (fault.BadLine line) else Some fault.OpenScan
+
+abbrev pub then_from : Result Place TextFault → (Place → Option TextFault) → Option TextFault
+then_from (Err f) go = Some f
+then_from (Ok p) go = go p
+
+-- the first fault of lines that count from a number; blank ones count and are skipped
+unfoldable pub lines_fault : Place → ℕ → List (List ℕ) → Option TextFault
+lines_fault p line [] = end_in p.stage p.depth line
+lines_fault p line (text ∷ texts) =
+    if is_blank_line text then lines_fault p (line + 1) texts
+    else then_from (advance p line text) (λ q. lines_fault q (line + 1) texts)
+
+-- the first fault of a text that spells no program within the limits
+unfoldable pub program_text_fault : List ℕ → Option TextFault
+program_text_fault text = lines_fault start 1 (lines_of text)
+
+-- this is the first fault of the text
+abbrev pub FirstTextFault : List ℕ → TextFault → Type 0
+FirstTextFault text f = program_text_fault text ≡ Some f
 
 -- there was no memory, or this is the first fault of the text
 abbrev pub IsFirstTextFault : List ℕ → TextFault → Type 0
 IsFirstTextFault text f = UnlessMemory fault.OutOfMemory f (FirstTextFault text f)
-
--- a text has a first fault, or it spells a program within the limits
-abbrev pub FaultOrProgram : Type 0
-FaultOrProgram = (text : List ℕ) → ((f : TextFault) × FirstTextFault text f) ⊎ ((p : Parts) × Spells text p × IsWithinLimits p)
-
--- never both
-abbrev pub NeverBoth : Type 0
-NeverBoth = (text : List ℕ) (f : TextFault) (p : Parts) → FirstTextFault text f → Spells text p → IsWithinLimits p → ⊥
-
--- nor two faults
-abbrev pub OneFault : Type 0
-OneFault = (text : List ℕ) (f g : TextFault) → FirstTextFault text f → FirstTextFault text g → f ≡ g

@@ -4,7 +4,7 @@ ghost use Rattle.std.specs.Prelude.{◌≡◌, None, MatchResult, false};
 ghost use Rattle.star_program.specs.Private.Drafts as spec;
 ghost use Rattle.star_program.specs.Limits.{IsWithinLimits};
 ghost use Rattle.star_program.specs.Text.Lines.{is_blank_line as blank};
-ghost use Rattle.star_program.specs.Private.Places.{IsRefusedText};
+ghost use Rattle.star_program.specs.Text.FirstFaults.{IsFirstTextFault};
 ghost use Rattle.star_program.specs.Text.Spelling.{Spells};
 
 use crate::program::Parts;
@@ -58,7 +58,7 @@ fn take_line(
 /// What a text spells, or its first fault.
 pub(crate) fn read_parts(alloc: Global, text: &[u8]) -> Result<Parts, TextFault>
     ensures { MatchResult result (λ parts. Spells text.now parts × IsWithinLimits parts)
-        (λ fault. IsRefusedText text.now fault) }
+        (λ fault. IsFirstTextFault text.now fault) }
 {
     let mut place = Place::start();
     let mut draft = Draft::new(alloc);

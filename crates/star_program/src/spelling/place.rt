@@ -5,7 +5,7 @@ ghost use Rattle.star_common.specs.Memory.{UnlessMemory};
 ghost use Rattle.star_program.specs.Private.Within.{IsWithinLargest};
 ghost use Rattle.star_program.specs.Text.Lines.{words_of};
 ghost use Rattle.star_program.specs.Text.Said.{said};
-ghost use Rattle.star_program.specs.Private.Places as spec;
+ghost use Rattle.star_program.specs.Text.FirstFaults as spec;
 ghost use Rattle.star_program.specs.declared.spelling.fault.TextFault.TheVariants as faults;
 
 use crate::program::{
@@ -44,7 +44,7 @@ pub struct Place {
 
 impl Place {
     /// Before the first line.
-    #[tactic(auto, unfolding(crate::specs::Private::Places::start))]
+    #[tactic(auto, unfolding(crate::specs::Text::FirstFaults::start))]
     pub(crate) fn start() -> Place
         ensures { result ≡ spec.start }
     {
@@ -88,7 +88,7 @@ impl Place {
     }
 
     // The place after a line, if it may stand here: groups are numbered in order.
-    #[tactic(auto, unfolding(crate::specs::Private::Places::place_after))]
+    #[tactic(auto, unfolding(crate::specs::Text::FirstFaults::place_after))]
     fn after(self, statement: &Statement) -> Option<Place>
         requires { IsWithinLargest self }
         ensures { result ≡ spec.place_after self statement.now }
@@ -126,7 +126,7 @@ impl Place {
         }
     }
 
-    #[tactic(auto, unfolding(crate::specs::Private::Places::is_within))]
+    #[tactic(auto, unfolding(crate::specs::Text::FirstFaults::is_within))]
     fn is_within(self) -> bool
         ensures { result ≡ spec.is_within self }
     {
@@ -167,7 +167,7 @@ impl Place {
 }
 
 // Whether a statement by itself is within the limits.
-#[tactic(auto, unfolding(crate::specs::Private::Places::is_small))]
+#[tactic(auto, unfolding(crate::specs::Text::FirstFaults::is_small))]
 fn is_small(statement: &Statement) -> bool
     ensures { result ≡ spec.is_small statement.now }
 {
@@ -209,7 +209,7 @@ fn reach(place: Place, line: usize, statement: &Statement) -> Result<Place, Text
 }
 
 /// The place after a line that isn't blank, and what it says; or its fault.
-#[tactic(auto, unfolding(crate::specs::Private::Places::advance))]
+#[tactic(auto, unfolding(crate::specs::Text::FirstFaults::advance))]
 pub(crate) fn advance(
     alloc: Global,
     place: Place,

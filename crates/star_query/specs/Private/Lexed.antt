@@ -10,7 +10,7 @@ use Rattle.star_query.specs.declared.lexer.Piece.{Piece}
 use Rattle.star_query.specs.declared.lexer.Piece.TheVariants as pieces
 use Rattle.star_query.specs.declared.fault.QueryFault.{QueryFault}
 use Rattle.star_query.specs.declared.fault.QueryFault.TheVariants.{OutOfMemory, BadCharacter, BadNumber, OpenText}
-use Rattle.star_query.specs.Cut as spec
+use Rattle.star_query.specs.Private.Cut as spec
 use Rattle.star_query.specs.Symbols.{Symbol, Placed, keyword, fold, count, relation, sign, additive, name, number, text, lowered}
 use Rattle.star_query.specs.Private.Quoted as quoted
 use Rattle.star_query.specs.Private.Quoted.{undoubled}

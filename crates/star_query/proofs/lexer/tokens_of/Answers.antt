@@ -2,7 +2,7 @@ use Rattle.std.proofs.Common.{◌≡◌, ◌∙◌, ◌+◌, [], ◌∷◌, ◌+
 use Rattle.std.proofs.lemmas.List.{map-append}
 use Rattle.star_query.specs.Symbols.{Placed}
 use Rattle.star_query.specs.Private.Lexed.{front_piece, placed, symbol_of, with_tokens}
-use Rattle.star_query.specs.Cut.{cut_of, cut_from, token}
+use Rattle.star_query.specs.Private.Cut.{cut_of, cut_from, token}
 use Rattle.star_query.proofs.Lexing.{one_more_token, one_more_blank, first_bad, all_cut, fault_of_cut}
 use Rattle.star_query.proofs.lexer.tokens_of.Goals as goal
 

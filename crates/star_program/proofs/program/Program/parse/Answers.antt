@@ -1,6 +1,5 @@
 use Rattle.std.proofs.Common.{inl, inr}
 use Rattle.std.proofs.lemmas.Result.{err_from_is_err_and}
-use Rattle.star_program.proofs.Text.FirstFaultLaw.{refused_first}
 use Rattle.star_program.proofs.Text.NoFault.{no_fault}
 use Rattle.star_program.proofs.Text.OneProgram.{one_program}
 use Rattle.star_program.proofs.program.Program.parse.Goals as goal
@@ -17,10 +16,7 @@ returns-in_err-parts-clause-only c = λ parts spells small.
 pub returns-in_err-parts-clause-fault : goal.returns-in_err-parts-clause-fault
 returns-in_err-parts-clause-fault c =
     let p = err_from_is_err_and c.from_residual.result c.from_residual.ensures.1 in
-    rw (p.1, p.2) (elim c.in_err-parts.ensures [
-      | inl memory ↦ inl memory
-      | inr refusal ↦ inr (refused_first c.args.text.now _ refusal)
-    ])
+    rw (p.1, p.2) c.in_err-parts.ensures
 
 pub returns-clause-only : goal.returns-clause-only
 returns-clause-only c = λ parts spells small.

@@ -3,7 +3,7 @@ use Rattle.std.proofs.lemmas.Result.{err_from_is_err_and}
 use Rattle.star_program.specs.Text.Said.{said_in}
 use Rattle.star_program.specs.Private.Drafts.{told}
 use Rattle.star_program.specs.Text.Lines.{lines_of}
-use Rattle.star_program.specs.Private.Places.{lines_fault}
+use Rattle.star_program.specs.Text.FirstFaults.{lines_fault}
 use Rattle.star_program.proofs.Text.PassedLines.{end_spelled, end_within, nothing_at_start, nothing_told}
 use Rattle.star_program.proofs.Text.FaultLemmas.{ended, text_fault_is}
 use Rattle.star_program.proofs.spelling.parsing.read_parts.Goals as goal

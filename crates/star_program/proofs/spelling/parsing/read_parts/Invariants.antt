@@ -3,7 +3,7 @@ use Rattle.std.proofs.Common.{◌≡◌, ◌≤◌, ◌+◌, ◌++◌, Some, len
 use Rattle.star_program.specs.Text.Said.{said_in}
 use Rattle.star_program.specs.Private.Drafts.{IsAt, told}
 use Rattle.star_program.specs.Text.Lines.{lines_of}
-use Rattle.star_program.specs.Private.Places.{lines_fault, start}
+use Rattle.star_program.specs.Text.FirstFaults.{lines_fault, start}
 use Rattle.star_program.proofs.spelling.parsing.read_parts.Given as goal
 
 abbrev pub invariant-loop-first : goal.invariant-loop-first

@@ -1,5 +1,5 @@
 use Rattle.std.proofs.Common.{rules}
-use Rattle.star_program.specs.Private.Places.{advance}
+use Rattle.star_program.specs.Text.FirstFaults.{advance}
 use Rattle.star_program.proofs.spelling.place.advance.Goals as goal
 
 pub returns-in-Ok-reach : goal.returns-in-Ok-reach

@@ -1,7 +1,6 @@
-use Rattle.std.proofs.Common.{◌∙◌, ap, subst, Err, Ok}
+use Rattle.std.proofs.Common.{◌∙◌, ap, subst, Err, Ok, Option}
 use Rattle.std.proofs.lemmas.Result.{err_from_is_err_and}
 use Rattle.star_query.specs.Private.Reads.{spot_of}
-use Rattle.std.proofs.Common.{Option}
 use Rattle.star_query.specs.declared.clauses.Function.{Function}
 use Rattle.star_query.specs.Private.Clauses.{ReadsFunction}
 use Rattle.star_query.proofs.Queries.{read_item_name, bad_item_aggregate}

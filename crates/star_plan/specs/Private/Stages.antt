@@ -1,0 +1,72 @@
+-- The parts of a query's uses and of its first fault, as the planner goes through them.
+use Rattle.std.specs.Prelude.{ℕ, ◌+◌, ◌||◌, ◌&&◌, ◌++◌, true, List, length, map, Option, Some, None, if◌then◌else◌}
+use Rattle.std.specs.List.{flat_map}
+use Rattle.std.specs.Option.{option_or}
+use Rattle.star_common.specs.First.{first_answer}
+use Rattle.star_schema.specs.declared.column.Kind.{Kind}
+use Rattle.star_query.specs.Leaves.{of_tests}
+use Rattle.star_query.specs.Tree.{Aggregate, Condition, Item, Literal, Name, SortKey, Test}
+use Rattle.star_plan.specs.declared.fault.PlanFault.{PlanFault}
+use Rattle.star_plan.specs.declared.fault.PlanFault.TheVariants.{DuplicateAlias}
+use Rattle.star_plan.specs.First.{first_beside}
+use Rattle.star_plan.specs.Faults.{aggregates_fault, fact_fault, from_table_fault, group_fault, item_fault, key_fault, missing_fault, pair_fault, scope_fault, use_kind_fault}
+use Rattle.star_plan.specs.Joins.{Pair}
+use Rattle.star_plan.specs.Names.{has_name, is_of}
+use Rattle.star_plan.specs.Naming.{aggregate_names, has_text, name_of_aggregate, name_place}
+use Rattle.star_plan.specs.Uses.{Use, item_uses, kind_of_literal, test_uses, use_when}
+
+-- ---- the columns that a query names
+
+-- a column of any kind
+abbrev pub any_use : Name → Use
+any_use n = use_when (λ c. true) n
+
+abbrev pub use_as : Kind → Name → Use
+use_as k n = use_when (is_of k) n
+
+abbrev pub use_between : Literal → Literal → Name → Use
+use_between a b n = use_when (λ c. is_of (kind_of_literal a) c && is_of (kind_of_literal b) c) n
+
+abbrev pub condition_uses : Condition Test → List Use
+condition_uses c = of_tests test_uses (λ us. us) ◌++◌ c
+
+abbrev pub items_uses : List Item → List Use
+items_uses items = flat_map item_uses items
+
+abbrev pub groups_uses : List Name → List Use
+groups_uses names = map any_use names
+
+-- ---- the fault of an aggregate
+
+-- an aggregate's name is that of one before it, or a group column's
+abbrev pub alias_fault : List Name → List (List ℕ) → Aggregate → Option PlanFault
+alias_fault groups names a =
+    if has_text names (name_of_aggregate (length names + 1) a) || has_name groups (name_of_aggregate (length names + 1) a)
+    then Some (DuplicateAlias (name_place a)) else None
+
+-- ---- the first fault of a part
+
+abbrev pub from_fault : List Name → Option PlanFault
+from_fault tables = option_or (first_beside from_table_fault tables) (fact_fault tables)
+
+abbrev pub join_fault : List Name → List Pair → Option PlanFault
+join_fault tables pairs = option_or (first_beside pair_fault pairs) (first_answer (missing_fault pairs) tables)
+
+abbrev pub select_fault : List Name → List Item → Option PlanFault
+select_fault groups items = option_or (first_beside (item_fault groups) items) (aggregates_fault (aggregate_names items))
+
+-- of the names of tables and columns
+abbrev pub naming_fault : List Name → List Use → List Pair → Option PlanFault
+naming_fault tables uses pairs =
+    option_or (from_fault tables)
+    (option_or (first_answer (scope_fault tables) uses)
+    (option_or (join_fault tables pairs) (first_answer use_kind_fault uses)))
+
+abbrev pub order_fault : List Name → List Item → List SortKey → Option PlanFault
+order_fault groups items keys = first_answer (key_fault groups (aggregate_names items)) keys
+
+-- of the groups, the items and the order
+abbrev pub grouping_fault : List Name → List Item → List SortKey → Option PlanFault
+grouping_fault groups items keys =
+    option_or (first_beside group_fault groups)
+    (option_or (select_fault groups items) (order_fault groups items keys))
