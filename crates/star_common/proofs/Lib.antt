@@ -3,3 +3,4 @@ pub mod NumeralLemmas
 pub mod Firsts
 pub mod Members
 pub mod Sends
+pub mod Tables

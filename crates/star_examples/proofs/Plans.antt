@@ -1,32 +1,51 @@
--- What every plan keeps: it is sound and within limits.
-use Rattle.std.proofs.Common.{◌≡◌, ℕ, zero, suc, ◌≤◌, true, false, List, [], ◌∷◌, refl, arith}
-use Rattle.std.specs.Prelude.{pos, codes, map, replicate}
-use Rattle.star_schema.specs.declared.table.TableId.TheVariants.{Date, Part, Lineorder}
-use Rattle.star_schema.specs.declared.column.ColumnId.TheVariants.{DDatekey, DYear, CCustkey, PSize, PBrand1, LoOrderdate, LoTax, LoShipmode}
-use Rattle.star_schema.specs.declared.group.Shape.TheVariants.{Plain}
-use Rattle.star_schema.specs.declared.group.Direction.TheVariants.{Ascending}
-use Rattle.star_schema.specs.declared.group.GroupColumn.TheVariants.{Key, Aggregate}
-use Rattle.star_schema.specs.Schema.{column_of}
+-- What every plan keeps, and when it fits the sample; and the plans of some texts.
+use Rattle.std.proofs.Common.{◌≡◌, ◌≤◌, ◌↔◌, ◌^◌, ℕ, ℤ, true, false, List, [], ◌∷◌, Some, None, length, pos, refl, lit≤}
+use Rattle.std.specs.Prelude.{IsTrue, codes, neg_ℤ, replicate, sum_by}
+use Rattle.std.specs.Fmt.{digits}
+use Rattle.std.specs.List.{list_all}
+use Rattle.star_common.specs.First.{first_answer}
+use Rattle.star_common.proofs.Tables.{Gives, Gives2}
+use Rattle.star_schema.specs.declared.table.Key.TheVariants.{Two}
+use Rattle.star_schema.specs.declared.table.TableId.TheVariants.{Customer, Date, Part, Lineorder}
 use Rattle.star_schema.specs.declared.column.ColumnId.{ColumnId}
-use Rattle.star_query.specs.declared.token.Relation.TheVariants.{Equal}
+use Rattle.star_schema.specs.declared.column.ColumnId.TheVariants.{CCustkey, DDatekey, DYear, LoDiscount, LoExtendedprice, LoLinenumber, LoOrderdate, LoOrderkey, LoQuantity, LoRevenue, LoShipmode, LoSupplycost, LoTax, PBrand1, PSize}
+use Rattle.star_schema.specs.declared.column.Kind.TheVariants as kind
+use Rattle.star_schema.specs.declared.group.Shape.TheVariants.{Cube, Plain}
+use Rattle.star_schema.specs.declared.group.Direction.TheVariants.{Ascending, Descending}
+use Rattle.star_schema.specs.declared.group.GroupColumn.TheVariants.{Key, Aggregate}
+use Rattle.star_schema.specs.Bounds.{greatest as greatest_number, least as least_number, numbers_at}
+use Rattle.star_schema.specs.Columns.{bounds_in}
+use Rattle.star_schema.specs.Records.{pieces}
+use Rattle.star_schema.specs.Schema.{column_of, columns_of, place_of, table_name, table_of}
+use Rattle.star_schema.specs.Tables.{Number, Text}
+use Rattle.star_interval.specs.Range.{Range, is_i64, only}
+use Rattle.star_query.specs.declared.token.Relation.TheVariants.{Equal, Unequal, Less, Greater}
+use Rattle.star_query.specs.Private.Cut.{cut_from, reserved, reserved_words}
+use Rattle.star_query.specs.Limits.{comparisons_of, measure_operands, operands_of}
+use Rattle.star_query.specs.Spelled.{has_few_digits, is_name, is_printable_text}
+use Rattle.star_query.specs.Symbols.{spelling}
+use Rattle.star_query.specs.Tree.{Expression, Name, Tree, add, and, column, constant, count, mul, not, or, sub}
 use Rattle.star_plan.specs.declared.tree.Join.{Join}
-use Rattle.star_plan.specs.Joins.{is_foreign}
-use Rattle.star_query.specs.Limits.{operands_of, comparisons_of, measure_operands}
+use Rattle.star_plan.specs.Fits.{Fits, expression_range, measure_fits, nodes_fit}
+use Rattle.star_plan.specs.Joins.{is_foreign, is_joined, is_lone_key, joins, joins_of, where_pairs}
 use Rattle.star_plan.specs.Limits.{IsPlanWithinLimits}
-use Rattle.star_query.specs.Tree.{Expression, column, constant, add, sub, mul, or, and, not, count}
-use Rattle.star_plan.specs.Meaning.{Plan, RowCondition}
+use Rattle.star_plan.specs.Meaning.{Plan, RowCondition, value_in, value_number}
+use Rattle.star_plan.specs.Names.{column_at, column_called, has_name, is_of, table_called}
+use Rattle.star_plan.specs.Naming.{aggregate_names, function_word, has_text, resolved_key}
+use Rattle.star_plan.specs.Planned.{IsPlanned}
+use Rattle.star_plan.specs.Resolved.{IsResolved, items_from, option_all, resolved_measures, where_conjuncts}
+use Rattle.star_plan.specs.Sound.{IsSoundPlan, are_distinct, condition_is_sound, expression_is_sound, in_scope, is_group_column, measure_is_sound}
+use Rattle.star_plan.specs.Spelled.{IsSpelledPlan, condition_is_spelled, expression_is_spelled, measure_is_spelled}
+use Rattle.star_query_meaning.specs.Fitting.{FitsTables, PlanFitsTables, range_named}
+use Rattle.star_query_meaning.specs.Rows.{measures_of}
 use Rattle.star_compile_laws.proofs.PlanWords.{compare, between, summed, least, greatest}
-use Rattle.star_plan.specs.Sound.{IsSoundPlan, in_scope, condition_is_sound, expression_is_sound, measure_is_sound, are_distinct, is_group_column}
-use Rattle.star_examples.proofs.Sample.{number, text, by_order, by_commit, of_part, tax}
+use Rattle.star_engine.proofs.Meanings.{IsWorked, are_named, meaning, means}
+use Rattle.star_examples.proofs.Sample.{number, text, sample, by_order, by_commit, cost, discount, of_part, revenue, tax}
 
--- ---- sound: date is joined, and part isn't
+-- ---- sound: date is joined, and part isn't; texts are no numbers
 
 abbrev dated : List Join
 dated = by_order ∷ []
-
-scopes : map (in_scope dated) (Lineorder ∷ Date ∷ Part ∷ []) ≡ true ∷ true ∷ false ∷ []
-unfolding column_of
-scopes = refl
 
 abbrev good : RowCondition
 good = compare DYear Equal (number 1993)
@@ -34,190 +53,326 @@ good = compare DYear Equal (number 1993)
 abbrev unjoined : RowCondition
 unjoined = compare PBrand1 Equal (text (codes "MFGR#12"))
 
-comparisons_sound : map (condition_is_sound dated)
-    (good ∷ unjoined ∷ compare DYear Equal (text (codes "1993"))
-    ∷ compare LoShipmode Equal (number 1) ∷ compare LoShipmode Equal (text (codes "AIR")) ∷ [])
-    ≡ true ∷ false ∷ false ∷ false ∷ true ∷ []
-unfolding column_of
-comparisons_sound = refl
-
-betweens_sound : map (condition_is_sound dated)
-    (between DYear (number 1) (number 2) ∷ between DYear (text []) (number 2)
-    ∷ between DYear (number 1) (text []) ∷ between PSize (number 1) (number 2) ∷ [])
-    ≡ true ∷ false ∷ false ∷ false ∷ []
-unfolding column_of
-betweens_sound = refl
-
-conditions_sound : map (condition_is_sound dated)
-    (or good good ∷ or unjoined good ∷ or good unjoined ∷ and good good ∷ and unjoined good
-    ∷ and good unjoined ∷ not good ∷ not unjoined ∷ [])
-    ≡ true ∷ false ∷ false ∷ true ∷ false ∷ false ∷ true ∷ false ∷ []
-unfolding column_of
-conditions_sound = refl
-
--- texts are no numbers, and part isn't joined
 abbrev mode : Expression ColumnId
 mode = column LoShipmode
 
-expressions_sound : map (expression_is_sound dated)
-    (tax ∷ column DYear ∷ mode ∷ column PSize ∷ constant (pos 1) ∷ add tax tax ∷ add mode tax
-    ∷ add tax mode ∷ sub mode tax ∷ sub tax mode ∷ mul mode tax ∷ mul tax mode ∷ [])
-    ≡ true ∷ true ∷ false ∷ false ∷ true ∷ true ∷ false ∷ false ∷ false ∷ false ∷ false ∷ false ∷ []
+conditions_sound : Gives (condition_is_sound dated) (
+    (good, true) ∷ (unjoined, false) ∷ (compare DYear Equal (text (codes "1993")), false)
+    ∷ (compare LoShipmode Equal (number 1), false)
+    ∷ (compare LoShipmode Equal (text (codes "AIR")), true)
+    ∷ (between DYear (number 1) (number 2), true) ∷ (between DYear (text []) (number 2), false)
+    ∷ (between DYear (number 1) (text []), false) ∷ (between PSize (number 1) (number 2), false)
+    ∷ (or good good, true) ∷ (or unjoined good, false) ∷ (or good unjoined, false)
+    ∷ (and good good, true) ∷ (and unjoined good, false) ∷ (and good unjoined, false)
+    ∷ (not good, true) ∷ (not unjoined, false) ∷ [])
+    × Gives (in_scope dated) ((Lineorder, true) ∷ (Date, true) ∷ (Part, false) ∷ [])
 unfolding column_of
-expressions_sound = refl
+conditions_sound = (refl, refl)
 
-measures_sound : map (measure_is_sound dated)
-    (count ∷ summed tax ∷ summed mode ∷ least mode ∷ greatest mode ∷ [])
-    ≡ true ∷ true ∷ false ∷ false ∷ false ∷ []
+measures_sound : Gives (expression_is_sound dated) (
+    (tax, true) ∷ (column DYear, true) ∷ (mode, false) ∷ (column PSize, false)
+    ∷ (constant (pos 1), true) ∷ (add tax tax, true) ∷ (add mode tax, false)
+    ∷ (add tax mode, false) ∷ (sub mode tax, false) ∷ (sub tax mode, false) ∷ (mul mode tax, false)
+    ∷ (mul tax mode, false) ∷ [])
+    × Gives (measure_is_sound dated) (
+    (count, true) ∷ (summed tax, true) ∷ (summed mode, false) ∷ (least mode, false)
+    ∷ (greatest mode, false) ∷ [])
 unfolding column_of
-measures_sound = refl
+measures_sound = (refl, refl)
 
-joins_distinct : map are_distinct
-    (dated ∷ (by_order ∷ of_part ∷ []) ∷ (by_order ∷ by_commit ∷ [])
-    ∷ (by_order ∷ of_part ∷ by_commit ∷ []) ∷ []) ≡ true ∷ true ∷ false ∷ false ∷ []
+joins_sound : Gives are_distinct (
+    (dated, true) ∷ (by_order ∷ of_part ∷ [], true) ∷ (by_order ∷ by_commit ∷ [], false)
+    ∷ (by_order ∷ of_part ∷ by_commit ∷ [], false) ∷ [])
+    × Gives2 is_foreign (
+    (LoOrderdate, DDatekey, true) ∷ (LoOrderdate, CCustkey, false) ∷ (LoOrderdate, DYear, false)
+    ∷ (LoTax, DDatekey, false) ∷ (DDatekey, LoOrderdate, false) ∷ [])
+    × Gives (is_group_column 2 3)
+    ((Key 1, true) ∷ (Key 2, false) ∷ (Aggregate 2, true) ∷ (Aggregate 3, false) ∷ [])
 unfolding column_of
-joins_distinct = refl
+joins_sound = (refl, refl, refl)
 
-foreign_keys : is_foreign LoOrderdate DDatekey ∷ is_foreign LoOrderdate CCustkey
-    ∷ is_foreign LoOrderdate DYear ∷ is_foreign LoTax DDatekey ∷ is_foreign DDatekey LoOrderdate
-    ∷ []
-    ≡ true ∷ false ∷ false ∷ false ∷ false ∷ []
+-- ---- joins: neither of two columns that are a key together is one by itself; two columns that make
+-- no join join no table
+
+pairs : (at : _) → (is_lone_key LoOrderkey (Two LoOrderkey LoLinenumber) ≡ false)
+    × (joins Date None ≡ false)
+    × Gives (is_joined (record { join = None; at = at }
+    ∷ record { join = Some (record { foreign = LoOrderdate; key = DDatekey }); at = at } ∷ []))
+    ((Date, true) ∷ (Customer, false) ∷ [])
 unfolding column_of
-foreign_keys = refl
+pairs at = (refl, refl, refl)
 
-columns_of_a_group : map (is_group_column 2 3) (Key 1 ∷ Key 2 ∷ Aggregate 2 ∷ Aggregate 3 ∷ [])
-    ≡ true ∷ false ∷ true ∷ false ∷ []
-columns_of_a_group = refl
+-- a name that is no column's has no wrong kind; a value that a row hasn't, and the number of a text,
+-- are 0
+defaults : Gives (λ k. is_of k None) ((kind.Number, true) ∷ (kind.Text, true) ∷ [])
+    × (value_in DYear [] ≡ Number (pos 0)) × (value_number (Text (codes "7")) ≡ pos 0)
+unfolding column_of place_of
+defaults = (refl, refl, refl)
 
--- select d_year, sum(lo_tax) from lineorder, date
---     where lo_orderdate = d_datekey and d_year = 1993 group by d_year order by d_year
+-- ---- limits, and how words are spelled: 18 digits and not 19, from the space to the tilde
+
+counted : Gives comparisons_of (
+    (good, 1) ∷ (between DYear (number 1) (number 2), 1) ∷ (not good, 2) ∷ (or good (not good), 3)
+    ∷ (and (not good) (and good good), 4) ∷ [])
+    × Gives operands_of (
+    (tax, 1) ∷ (constant (pos 1), 1) ∷ (add tax tax, 2) ∷ (sub tax (add tax tax), 3)
+    ∷ (mul (sub tax tax) (mul tax tax), 4) ∷ [])
+    × Gives measure_operands
+    ((count, 0) ∷ (summed (add tax tax), 2) ∷ (least tax, 1) ∷ (greatest tax, 1) ∷ [])
+counted = (refl, refl, refl)
+
+words_spelled : Gives is_name (
+    (codes "a_1", true) ∷ (codes "_", true) ∷ (replicate 64 97, true) ∷ ([], false)
+    ∷ (codes "1a", false) ∷ (codes "a-b", false) ∷ (codes "a b", false) ∷ (replicate 65 97, false)
+    ∷ [])
+    × Gives has_few_digits (
+    (pos 0, true) ∷ (pos 999999999999999999, true) ∷ (neg_ℤ (pos 999999999999999999), true)
+    ∷ (pos 1000000000000000000, false) ∷ (neg_ℤ (pos 1000000000000000000), false) ∷ [])
+    × Gives is_printable_text (
+    ([], true) ∷ (32 ∷ 126 ∷ [], true) ∷ (97 ∷ 31 ∷ [], false) ∷ (127 ∷ [], false) ∷ (9 ∷ [], false)
+    ∷ [])
+unfolding is_name has_few_digits is_printable_text
+words_spelled = (refl, refl, refl)
+
+abbrev bad : RowCondition
+bad = compare LoShipmode Equal (text (10 ∷ []))
+
+abbrev one : Expression ColumnId
+one = constant (pos 1)
+
+abbrev long : Expression ColumnId
+long = constant (pos 1000000000000000000)
+
+plans_spelled : Gives condition_is_spelled (
+    (good, true) ∷ (compare LoTax Equal (number 1000000000000000000), false) ∷ (bad, false)
+    ∷ (or good bad, false) ∷ (or bad good, false) ∷ (or good good, true) ∷ (and good bad, false)
+    ∷ (and bad good, false) ∷ (and good good, true) ∷ (not bad, false) ∷ (not good, true)
+    ∷ (between LoTax (number 1) (number 2), true)
+    ∷ (between LoTax (number 1) (number 1000000000000000000), false)
+    ∷ (between LoTax (number 1000000000000000000) (number 1), false) ∷ [])
+    × Gives expression_is_spelled (
+    (column LoTax, true) ∷ (one, true) ∷ (long, false) ∷ (add one one, true) ∷ (add one long, false)
+    ∷ (add long one, false) ∷ (sub one long, false) ∷ (sub long one, false) ∷ (mul one long, false)
+    ∷ (mul long one, false) ∷ [])
+    × Gives measure_is_spelled (
+    (count, true) ∷ (summed one, true) ∷ (summed long, false) ∷ (least long, false)
+    ∷ (greatest long, false) ∷ [])
+unfolding has_few_digits is_printable_text
+plans_spelled = (refl, refl, refl)
+
+module _ (p : Plan) where
+  sound : IsSoundPlan p ↔ ((list_all (λ j. is_foreign j.foreign j.key) p.joins ≡ true)
+      × (are_distinct p.joins ≡ true) × (list_all (condition_is_sound p.joins) p.conjuncts ≡ true)
+      × (list_all (λ c. in_scope p.joins (table_of c)) p.keys ≡ true)
+      × (list_all (measure_is_sound p.joins) p.measures ≡ true)
+      × (length p.names ≡ length p.measures)
+      × (list_all (is_group_column (length p.keys) (length p.measures)) p.items ≡ true)
+      × (1 ≤ length p.items)
+      × (list_all (λ s. is_group_column (length p.keys) (length p.measures) s.column) p.sorts
+      ≡ true))
+  sound = (
+    λ s. (s.joins, s.distinct, s.conjuncts, s.keys, s.measures, s.names, s.items, s.shown, s.sorts),
+    λ h. record {
+      joins = h.0;
+      distinct = h.1;
+      conjuncts = h.2;
+      keys = h.3;
+      measures = h.4;
+      names = h.5;
+      items = h.6;
+      shown = h.7;
+      sorts = h.8;
+    },
+  )
+
+  within : IsPlanWithinLimits p ↔ ((length p.joins ≤ 4)
+      × (sum_by comparisons_of p.conjuncts ≤ 256) × (length p.keys ≤ 6) × (length p.measures ≤ 8)
+      × (sum_by measure_operands p.measures ≤ 512) × (length p.items ≤ 16) × (length p.sorts ≤ 16))
+  within = (
+    λ w. (w.joins, w.comparisons, w.keys, w.measures, w.operands, w.items, w.sorts),
+    λ h. record {
+      joins = h.0;
+      comparisons = h.1;
+      keys = h.2;
+      measures = h.3;
+      operands = h.4;
+      items = h.5;
+      sorts = h.6;
+    },
+  )
+
+  spelled : IsSpelledPlan p ↔ ((list_all is_name p.names ≡ true)
+      × (list_all condition_is_spelled p.conjuncts ≡ true)
+      × (list_all measure_is_spelled p.measures ≡ true))
+  spelled = (
+    λ s. (s.names, s.conjuncts, s.measures),
+    λ h. record { names = h.0; conjuncts = h.1; measures = h.2 },
+  )
+
+  fits : (rows most : ℕ) (bounds : ColumnId → Range) → Fits rows most bounds p
+      ↔ ((rows ≤ most) × IsTrue (list_all (measure_fits bounds) p.measures))
+  fits rows most bounds =
+      (λ f. (f.visits, f.nodes), λ h. record { visits = h.0; nodes = h.1 })
+
+  fits_tables : (most : ℕ) → PlanFitsTables most sample p ≡ Fits 5 most (bounds_in sample) p
+  fits_tables most = refl
+
+query_fits : (most : ℕ) (q : Tree) → FitsTables most sample q
+    ↔ ((5 ≤ most) × (list_all (measure_fits (range_named sample)) (measures_of q.items) ≡ true))
+query_fits most q = (λ f. (f.visits, f.nodes), λ h. record { visits = h.0; nodes = h.1 })
+
+-- ---- ranges: the ends of a product are of unlike ends, and a column that is read twice may have a
+-- square below 0
+
+abbrev bounds : ColumnId → Range
+bounds LoRevenue = record { low = pos 495; high = pos 3000 }
+bounds LoSupplycost = record { low = pos 100; high = pos 1200 }
+bounds LoTax = record { low = neg_ℤ (pos 3); high = pos 4 }
+bounds LoDiscount = record { low = neg_ℤ (pos 2); high = pos 5 }
+bounds LoQuantity = only (pos (2 ^ 31))
+bounds LoExtendedprice = only (pos (2 ^ 32))
+bounds _ = only (pos 0)
+
+abbrev minus : ℕ → Expression ColumnId
+minus n = constant (neg_ℤ (pos n))
+
+abbrev from_to : ℤ → ℤ → Range
+from_to low high = record { low = low; high = high }
+
+-- 2^63, a number too great
+abbrev product : Expression ColumnId
+product = mul (column LoQuantity) (column LoExtendedprice)
+
+ranges : Gives (expression_range bounds) (
+    (revenue, from_to (pos 495) (pos 3000)) ∷ (minus 7, from_to (neg_ℤ (pos 7)) (neg_ℤ (pos 7)))
+    ∷ (add revenue tax, from_to (pos 492) (pos 3004))
+    ∷ (sub revenue cost, from_to (neg_ℤ (pos 705)) (pos 2900))
+    ∷ (mul tax discount, from_to (neg_ℤ (pos 15)) (pos 20))
+    ∷ (mul tax tax, from_to (neg_ℤ (pos 12)) (pos 16))
+    ∷ (sub (mul tax discount) (add cost (minus 100)), from_to (neg_ℤ (pos 1115)) (pos 20))
+    ∷ (add product (minus 1), only (pos 9223372036854775807)) ∷ [])
+ranges = refl
+
+-- each operator at the greatest number, and one more; and at the least, and one less; and where the
+-- whole fits, and a product in it doesn't
+abbrev half : ℤ
+half = pos (2 ^ 62)
+
+nodes : Gives (nodes_fit bounds) (
+    (add (constant half) (constant (pos 4611686018427387903)), true)
+    ∷ (add (constant half) (constant half), false)
+    ∷ (sub (constant (neg_ℤ half)) (constant half), true)
+    ∷ (sub (constant (neg_ℤ half)) (constant (pos 4611686018427387905)), false)
+    ∷ (mul (column LoQuantity) (minus 4294967296), true) ∷ (product, false)
+    ∷ (constant (neg_ℤ (pos 9223372036854775808)), true)
+    ∷ (constant (neg_ℤ (pos 9223372036854775809)), false)
+    ∷ (add product (minus 1), false) ∷ (add (minus 1) product, false)
+    ∷ (sub product (constant (pos 1)), false) ∷ (sub (constant (pos 0)) product, false)
+    ∷ (mul product (constant (pos 0)), false) ∷ (mul (constant (pos 0)) product, false) ∷ [])
+    × Gives (λ z. nodes_fit (λ c. only z) tax)
+    ((pos 9223372036854775807, true) ∷ (pos 9223372036854775808, false) ∷ [])
+    × Gives (measure_fits bounds) (
+    (count, true) ∷ (summed product, false) ∷ (least product, false) ∷ (greatest product, false)
+    ∷ (summed revenue, true) ∷ (least revenue, true) ∷ (greatest revenue, true) ∷ [])
+unfolding is_i64
+nodes = (refl, refl, refl)
+
+abbrev called : List ℕ → Name
+called word = record { text = word; place = 0 }
+
+-- no line has this profit or that: each end is of two lines
+bounds_of_the_sample : Gives (bounds_in sample) (
+    (LoExtendedprice, from_to (pos 500) (pos 3000)) ∷ (LoDiscount, from_to (pos 0) (pos 10))
+    ∷ (DYear, from_to (pos 1993) (pos 1997)) ∷ (PSize, from_to (pos 1) (pos 21)) ∷ [])
+    × (expression_range (bounds_in sample) (sub revenue cost)
+    ≡ from_to (neg_ℤ (pos 705)) (pos 2900))
+    × Gives (λ word. range_named sample (called word)) (
+    (codes "lo_discount", from_to (pos 0) (pos 10)) ∷ (codes "d_year", from_to (pos 1993) (pos 1997))
+    ∷ (codes "discount", from_to (pos 0) (pos 0)) ∷ [])
+unfolding column_of columns_of place_of pieces greatest_number least_number numbers_at column_called
+bounds_of_the_sample = (refl, refl, refl)
+
+-- ---- plans of texts: a join is one by either order, two aggregates are named by their functions and
+-- numbers, a group column that is not selected has its place among the others; and with no WHERE
+-- there is no join and no conjunct
+
+abbrev profits_text : List ℕ
+profits_text =
+    codes
+    "select d_year, sum(lo_revenue - lo_supplycost) as profit, min(lo_tax*2+lo_tax), max(lo_tax), count(*) from lineorder, date, part where lo_orderdate = d_datekey and (d_year = 1993 or not lo_shipmode between 'A' and 'B') and p_partkey = lo_partkey and (lo_tax < 3 or lo_tax > 4 and lo_tax <> 5) group by d_year, p_brand1 order by profit desc, p_brand1, count4"
+
+abbrev profits : Plan
+profits = record {
+  joins = by_order ∷ of_part ∷ [];
+  conjuncts =
+      or (compare DYear Equal (number 1993))
+      (not (between LoShipmode (text (codes "A")) (text (codes "B"))))
+      ∷ or (compare LoTax Less (number 3))
+      (and (compare LoTax Greater (number 4)) (compare LoTax Unequal (number 5))) ∷ [];
+  shape = Plain;
+  keys = DYear ∷ PBrand1 ∷ [];
+  measures = summed (sub revenue cost) ∷ least (add (mul tax (constant (pos 2))) tax) ∷ greatest tax
+      ∷ count ∷ [];
+  names = codes "profit" ∷ codes "min2" ∷ codes "max3" ∷ codes "count4" ∷ [];
+  items = Key 0 ∷ Aggregate 0 ∷ Aggregate 1 ∷ Aggregate 2 ∷ Aggregate 3 ∷ [];
+  sorts =
+      record { column = Aggregate 0; direction = Descending }
+      ∷ record { column = Key 1; direction = Ascending }
+      ∷ record { column = Aggregate 3; direction = Ascending } ∷ [];
+}
+
+abbrev taxes_text : List ℕ
+taxes_text = codes "select count(*) from lineorder group by cube(lo_tax) order by lo_tax desc"
+
 abbrev taxes : Plan
 taxes = record {
-  joins = dated;
-  conjuncts = good ∷ [];
-  shape = Plain;
-  keys = DYear ∷ [];
-  measures = summed tax ∷ [];
-  names = codes "sum1" ∷ [];
-  items = Key 0 ∷ Aggregate 0 ∷ [];
-  sorts = record { column = Key 0; direction = Ascending } ∷ [];
+  joins = [];
+  conjuncts = [];
+  shape = Cube;
+  keys = LoTax ∷ [];
+  measures = count ∷ [];
+  names = codes "count1" ∷ [];
+  items = Aggregate 0 ∷ [];
+  sorts = record { column = Key 0; direction = Descending } ∷ [];
 }
 
-taxes_sound : IsSoundPlan taxes
-unfolding column_of
-taxes_sound = record {
-  joins = refl;
-  distinct = refl;
-  conjuncts = refl;
-  keys = refl;
-  measures =
-      refl;
-  names = refl;
-  items = refl;
-  shown = omega arith;
-  sorts = refl;
+module _ (t : Tree) (p : Plan) where
+  resolved : IsResolved t p ↔ ((p.joins ≡ joins_of (where_pairs t.condition))
+      × (where_conjuncts t.condition ≡ Some p.conjuncts) × (p.shape ≡ t.grouping.shape)
+      × (option_all column_at t.grouping.columns ≡ Some p.keys)
+      × (resolved_measures t.items ≡ Some p.measures) × (p.names ≡ aggregate_names t.items)
+      × (items_from t.grouping.columns 0 t.items ≡ Some p.items)
+      × (option_all (resolved_key t.grouping.columns (aggregate_names t.items)) t.keys
+      ≡ Some p.sorts))
+  resolved = (
+    λ r. (r.joins, r.conjuncts, r.shape, r.keys, r.measures, r.names, r.items, r.sorts),
+    λ h. record {
+      joins = h.0;
+      conjuncts = h.1;
+      shape = h.2;
+      keys = h.3;
+      measures = h.4;
+      names = h.5;
+      items = h.6;
+      sorts = h.7;
+    },
+  )
+
+profits_resolved : IsResolved (meaning profits_text) profits
+unfolding cut_from reserved reserved_words spelling column_of column_called function_word digits
+profits_resolved = (resolved _ _).1 (refl, refl, refl, refl, refl, refl, refl, refl)
+
+-- such a plan is one that there is
+taxes_worked : IsWorked taxes_text
+unfolding cut_from reserved reserved_words spelling column_of table_name column_called table_called
+    first_answer has_name has_text function_word digits
+taxes_worked = record { short = lit≤ tt; cut = refl; whole = refl; named = refl }
+
+taxes_is_planned : IsPlanned taxes
+unfolding cut_from reserved reserved_words spelling column_of column_called function_word digits
+taxes_is_planned = record {
+  tree = meaning taxes_text;
+  meant = ∣ (taxes_text, means taxes_text taxes_worked) ∣₁;
+  named = are_named taxes_text taxes_worked (meaning taxes_text) (means taxes_text taxes_worked);
+  resolved = (resolved _ _).1 (refl, refl, refl, refl, refl, refl, refl, refl);
 }
-
-no_foreign_key : IsSoundPlan
-    (record taxes { joins = record { foreign = LoTax; key = DDatekey } ∷ [] }) → ⊥
-unfolding column_of
-no_foreign_key sound = let broken : false ≡ true = sound.joins in cc
-
-joined_twice : IsSoundPlan (record taxes { joins = by_order ∷ by_commit ∷ [] }) → ⊥
-unfolding column_of
-joined_twice sound = let broken : false ≡ true = sound.distinct in cc
-
-conjunct_not_joined : IsSoundPlan (record taxes { conjuncts = good ∷ unjoined ∷ [] }) → ⊥
-unfolding column_of
-conjunct_not_joined sound = let broken : false ≡ true = sound.conjuncts in cc
-
-key_not_joined : IsSoundPlan (record taxes { keys = DYear ∷ PBrand1 ∷ [] }) → ⊥
-unfolding column_of
-key_not_joined sound = let broken : false ≡ true = sound.keys in cc
-
-sum_of_texts : IsSoundPlan (record taxes { measures = summed mode ∷ [] }) → ⊥
-unfolding column_of
-sum_of_texts sound = let broken : false ≡ true = sound.measures in cc
-
-name_missing : IsSoundPlan (record taxes { names = [] }) → ⊥
-name_missing sound = let few : 0 ≡ 1 = sound.names in omega (arith, few)
-
-item_past_the_group : IsSoundPlan (record taxes { items = Key 1 ∷ [] }) → ⊥
-item_past_the_group sound = let broken : false ≡ true = sound.items in cc
-
-nothing_shown : IsSoundPlan (record taxes { items = [] }) → ⊥
-nothing_shown sound = let none : 1 ≤ 0 = sound.shown in omega (arith, none)
-
-sort_past_the_group : IsSoundPlan
-    (record taxes { sorts = record { column = Aggregate 1; direction = Ascending } ∷ [] }) → ⊥
-sort_past_the_group sound = let broken : false ≡ true = sound.sorts in cc
-
--- ---- within limits, at each limit and one past it
-
-comparisons_counted : map comparisons_of
-    (good ∷ between DYear (number 1) (number 2) ∷ not good ∷ or good (not good)
-    ∷ and (not good) (and good good) ∷ []) ≡ 1 ∷ 1 ∷ 2 ∷ 3 ∷ 4 ∷ []
-comparisons_counted = refl
-
-operands_counted : map operands_of
-    (tax ∷ constant (pos 1) ∷ add tax tax ∷ sub tax (add tax tax) ∷ mul (sub tax tax) (mul tax tax)
-    ∷ []) ≡ 1 ∷ 1 ∷ 2 ∷ 3 ∷ 4 ∷ []
-operands_counted = refl
-
-measures_counted : map measure_operands
-    (count ∷ summed (add tax tax) ∷ least tax ∷ greatest tax ∷ []) ≡ 0 ∷ 2 ∷ 1 ∷ 1 ∷ []
-measures_counted = refl
-
-abbrev largest : Plan
-largest = record {
-  joins = replicate 4 by_order;
-  conjuncts = replicate 256 good;
-  shape = Plain;
-  keys = replicate 6 DYear;
-  measures = summed (add tax tax) ∷ replicate 6 (summed tax);
-  names = [];
-  items = replicate 16 (Key 0);
-  sorts = replicate 16 (record { column = Key 0; direction = Ascending });
-}
-
-largest_within : IsPlanWithinLimits largest
-largest_within = record {
-  joins = omega arith;
-  comparisons = omega arith;
-  keys =
-      omega arith;
-  measures = omega arith;
-  operands = omega arith;
-  items = omega arith;
-  sorts =
-      omega arith;
-}
-
-five_joins : IsPlanWithinLimits (record largest { joins = replicate 5 by_order }) → ⊥
-five_joins within = let many : 5 ≤ 4 = within.joins in omega (arith, many)
-
-comparison_too_many : IsPlanWithinLimits
-    (record largest { conjuncts = not good ∷ replicate 255 good }) → ⊥
-comparison_too_many within = let many : 257 ≤ 256 = within.comparisons in omega (arith, many)
-
-seven_keys : IsPlanWithinLimits (record largest { keys = replicate 7 DYear }) → ⊥
-seven_keys within = let many : 7 ≤ 6 = within.keys in omega (arith, many)
-
-nine_measures : IsPlanWithinLimits (record largest { measures = replicate 9 count }) → ⊥
-nine_measures within = let many : 9 ≤ 8 = within.measures in omega (arith, many)
-
--- a sum of `n` + 1 operands
-abbrev chain : ℕ → Expression ColumnId
-chain zero = tax
-chain (suc n) = add (chain n) tax
-
-operand_too_many : IsPlanWithinLimits
-    (record largest { measures = summed (chain 511) ∷ least tax ∷ [] }) → ⊥
-operand_too_many within = let many : 513 ≤ 512 = within.operands in omega (arith, many)
-
-item_too_many : IsPlanWithinLimits (record largest { items = replicate 17 (Key 0) }) → ⊥
-item_too_many within = let many : 17 ≤ 16 = within.items in omega (arith, many)
-
-sort_key_too_many : IsPlanWithinLimits
-    (record largest { sorts = replicate 17 (record { column = Key 0; direction = Ascending }) }) → ⊥
-sort_key_too_many within = let many : 17 ≤ 16 = within.sorts in omega (arith, many)

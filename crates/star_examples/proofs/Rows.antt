@@ -1,156 +1,192 @@
--- Which rows are joined and selected, and what they add to their groups.
-use Rattle.std.proofs.Common.{◌≡◌, List, [], ◌∷◌, refl}
+-- Which rows a condition holds of, and which rows a query selects, by its own words; what they add to
+-- their groups.
+use Rattle.std.proofs.Common.{◌≡◌, ℕ, Bool, true, false, List, [], ◌∷◌, Some, refl}
 use Rattle.std.specs.Prelude.{pos, neg_ℤ, codes, map}
-use Rattle.star_schema.specs.declared.table.TableId.TheVariants.{Date, Lineorder}
+use Rattle.star_common.proofs.Tables.{Gives, Gives2}
+use Rattle.star_schema.specs.declared.table.TableId.TheVariants.{Date, Lineorder, Supplier}
 use Rattle.star_schema.specs.declared.column.ColumnId.{ColumnId}
-use Rattle.star_schema.specs.declared.column.ColumnId.TheVariants.{DYear, CNation, SRegion, SNation, PBrand1, PCategory, LoOrderkey, LoLinenumber, LoQuantity, LoDiscount, LoExtendedprice}
+use Rattle.star_schema.specs.declared.column.ColumnId.TheVariants.{DYear, LoQuantity, LoShipmode, SSuppkey}
 use Rattle.star_schema.specs.declared.group.Shape.TheVariants.{Plain}
-use Rattle.star_schema.specs.declared.group.GroupColumn.TheVariants.{Aggregate}
+use Rattle.star_schema.specs.declared.group.Aggregate.TheVariants.{Count, Sum, Min, Max}
 use Rattle.star_schema.specs.Records.{pieces}
-use Rattle.star_schema.specs.Schema.{column_of, place_of, columns_of}
+use Rattle.star_schema.specs.Schema.{column_of, columns_of, place_of, table_name}
+use Rattle.star_schema.specs.Tables as of_table
 use Rattle.star_schema.specs.Tables.{Value, row_of}
-use Rattle.star_query.specs.declared.token.Relation.TheVariants.{Equal, Less}
-use Rattle.star_plan.specs.declared.tree.Join.{Join}
-use Rattle.star_query.specs.Tree.{column, sub, mul, count, Measure}
-use Rattle.star_plan.specs.Meaning.{Tables, Plan, joined_value, joined_rows, plan_rows, entry_of, RowCondition}
-use Rattle.star_compile_laws.proofs.PlanWords.{compare, between, summed}
-use Rattle.star_examples.proofs.Sample.{number, text, lines, sample, by_order, by_commit, of_customer, of_part, of_supplier, revenue, cost}
+use Rattle.star_query.specs.declared.token.Relation.TheVariants.{Equal, Unequal, Less, AtMost, Greater, AtLeast}
+use Rattle.star_query.specs.Tree as tree
+use Rattle.star_query.specs.Tree.{Condition, Name, Test, Tree, add, and, constant, count, mul, not, or, sub}
+use Rattle.star_plan.specs.Meaning.{Joined, RowCondition, aggregate_of, holds, joined_value, measured, number_with, only_row}
+use Rattle.star_plan.specs.Names.{column_called, table_called}
+use Rattle.star_query_meaning.specs.Rows.{is_true, product, selected, tables_of, value_named}
+use Rattle.star_compile_laws.proofs.PlanWords.{compare, between, summed, least, greatest}
+use Rattle.star_examples.proofs.QueryTests as words
+use Rattle.star_examples.proofs.Sample.{number, below_zero, text, sample, revenue, cost, discount}
 
--- the values of some columns of each joined row
-abbrev seen : Tables → List Join → List ColumnId → List (List Value)
-seen ts js columns = map (λ row. map (λ c. joined_value c row) columns) (joined_rows ts js)
+-- ---- which rows a condition holds of
 
--- ---- joined rows
+-- a line of lineorder with this quantity and this mode
+abbrev line : Value → Value → Joined
+line quantity mode =
+    only_row Lineorder
+    (number 1 ∷ number 1 ∷ number 1 ∷ number 1 ∷ number 2 ∷ number 19930210 ∷ text (codes "2-HIGH")
+    ∷ text (codes "0") ∷ quantity ∷ number 1000 ∷ number 3000
+    ∷ number 2 ∷ number 980 ∷ number 600 ∷ number 2 ∷ number 19940105 ∷ mode ∷ [])
 
-no_join : seen sample [] (LoOrderkey ∷ LoLinenumber ∷ [])
-    ≡ (number 1 ∷ number 1 ∷ []) ∷ (number 1 ∷ number 2 ∷ []) ∷ (number 2 ∷ number 1 ∷ [])
-    ∷ (number 3 ∷ number 1 ∷ []) ∷ (number 3 ∷ number 2 ∷ []) ∷ []
+-- for which of these quantities, or modes, a condition holds
+abbrev of_quantities : List Value → RowCondition → List Bool
+of_quantities values c = map (λ v. holds c (line v (text (codes "MAIL")))) values
+
+abbrev of_modes : List (List ℕ) → RowCondition → List Bool
+of_modes modes c = map (λ m. holds c (line (number 10) (text m))) modes
+
+-- at less, equal and greater; and of texts by their bytes: one that goes on is greater, as is a small
+-- letter
+relations : Gives (λ s. of_quantities (number 9 ∷ number 10 ∷ number 11 ∷ [])
+    (compare LoQuantity s (number 10))) (
+    (Equal, false ∷ true ∷ false ∷ []) ∷ (Unequal, true ∷ false ∷ true ∷ [])
+    ∷ (Less, true ∷ false ∷ false ∷ []) ∷ (AtMost, true ∷ true ∷ false ∷ [])
+    ∷ (Greater, false ∷ false ∷ true ∷ []) ∷ (AtLeast, false ∷ true ∷ true ∷ []) ∷ [])
+    × Gives (λ s. of_modes (codes "RAI" ∷ codes "RAIL" ∷ codes "RAIL2" ∷ codes "R" ∷ codes "SHIP"
+    ∷ codes "Rail" ∷ []) (compare LoShipmode s (text (codes "RAIL")))) (
+    (Equal, false ∷ true ∷ false ∷ false ∷ false ∷ false ∷ [])
+    ∷ (Unequal, true ∷ false ∷ true ∷ true ∷ true ∷ true ∷ [])
+    ∷ (Less, true ∷ false ∷ false ∷ true ∷ false ∷ false ∷ [])
+    ∷ (AtMost, true ∷ true ∷ false ∷ true ∷ false ∷ false ∷ [])
+    ∷ (Greater, false ∷ false ∷ true ∷ false ∷ true ∷ true ∷ [])
+    ∷ (AtLeast, false ∷ true ∷ true ∷ false ∷ true ∷ true ∷ []) ∷ [])
+unfolding column_of place_of
+relations = (refl, refl)
+
+-- below 0 by value, digits as bytes; between two with both, and nothing from the greater to the lesser
+ends : Gives2 of_quantities ((
+  below_zero 11 ∷ below_zero 10 ∷ below_zero 9 ∷ number 0 ∷ number 11 ∷ [],
+  compare LoQuantity Less (below_zero 10),
+  true ∷ false ∷ false ∷ false ∷ false ∷ [],
+)
+    ∷ (
+      number 0 ∷ number 1 ∷ number 2 ∷ number 3 ∷ number 4 ∷ [],
+      between LoQuantity (number 1) (number 3),
+      false ∷ true ∷ true ∷ true ∷ false ∷ [],
+    )
+    ∷ (
+      number 0 ∷ number 1 ∷ number 2 ∷ number 3 ∷ number 4 ∷ [],
+      between LoQuantity (number 3) (number 1),
+      false ∷ false ∷ false ∷ false ∷ false ∷ [],
+    ) ∷ [])
+    × Gives2 of_modes (
+    (codes "10" ∷ codes "9" ∷ [], compare LoShipmode Less (text (codes "9")), true ∷ false ∷ [])
+    ∷ (
+      codes "MFGR#222" ∷ codes "MFGR#2221" ∷ codes "MFGR#2224" ∷ codes "MFGR#2228"
+          ∷ codes "MFGR#22280" ∷ [],
+      between LoShipmode (text (codes "MFGR#2221")) (text (codes "MFGR#2228")),
+      false ∷ true ∷ true ∷ true ∷ false ∷ [],
+    ) ∷ [])
+unfolding column_of place_of
+ends = (refl, refl)
+
+abbrev yes : RowCondition
+yes = compare LoQuantity Equal (number 10)
+
+abbrev never : RowCondition
+never = compare LoQuantity Equal (number 11)
+
+conditions : Gives (λ c. holds c (line (number 10) (text (codes "MAIL")))) (
+    (or yes yes, true) ∷ (or yes never, true) ∷ (or never yes, true) ∷ (or never never, false)
+    ∷ (and yes yes, true) ∷ (and yes never, false) ∷ (and never yes, false)
+    ∷ (and never never, false) ∷ (not yes, false) ∷ (not never, true) ∷ (not (not yes), true) ∷ [])
+unfolding column_of place_of
+conditions = refl
+
+-- ---- expressions and aggregates, of a line with the revenue 980, the cost 600 and the discount 2
+
+abbrev mail : Joined
+mail = only_row Lineorder
+    (row_of Lineorder (codes "1|1|1|1|2|19930210|2-HIGH|0|10|1000|3000|2|980|600|2|19940105|MAIL|"))
+
+expressions : Gives (number_with (λ c. joined_value c mail)) (
+    (revenue, pos 980) ∷ (constant (neg_ℤ (pos 3)), neg_ℤ (pos 3)) ∷ (add revenue cost, pos 1580)
+    ∷ (sub revenue cost, pos 380) ∷ (sub cost revenue, neg_ℤ (pos 380))
+    ∷ (mul revenue cost, pos 588000) ∷ (mul (constant (neg_ℤ (pos 3))) discount, neg_ℤ (pos 6))
+    ∷ (sub (sub revenue cost) discount, pos 378) ∷ (sub revenue (sub cost discount), pos 382)
+    ∷ (mul (add revenue cost) discount, pos 3160) ∷ [])
+    × Gives (measured (λ c. joined_value c mail)) (
+    (count, pos 1) ∷ (summed revenue, pos 980) ∷ (least cost, pos 600)
+    ∷ (greatest (sub revenue cost), pos 380) ∷ [])
+    × Gives (aggregate_of {C = ColumnId})
+    ((count, Count) ∷ (summed cost, Sum) ∷ (least cost, Min) ∷ (greatest cost, Max) ∷ [])
 unfolding column_of columns_of place_of pieces
-no_join = refl
+expressions = (refl, refl, refl)
 
-by_the_order : seen sample (by_order ∷ []) (LoQuantity ∷ DYear ∷ [])
-    ≡ (number 10 ∷ number 1993 ∷ []) ∷ (number 30 ∷ number 1993 ∷ [])
-    ∷ (number 24 ∷ number 1994 ∷ []) ∷ (number 50 ∷ number 1997 ∷ [])
-    ∷ (number 1 ∷ number 1997 ∷ []) ∷ []
-unfolding column_of columns_of place_of pieces
-by_the_order = refl
+-- ---- by a query's own words: the product of FROM's tables, every row of the first with every row of
+-- the second, filtered by WHERE; the rows of a plan are the same by a law
 
-by_the_commit : seen sample (by_commit ∷ []) (LoQuantity ∷ DYear ∷ [])
-    ≡ (number 10 ∷ number 1994 ∷ []) ∷ (number 30 ∷ number 1994 ∷ [])
-    ∷ (number 24 ∷ number 1994 ∷ []) ∷ (number 50 ∷ number 1997 ∷ [])
-    ∷ (number 1 ∷ number 1997 ∷ []) ∷ []
-unfolding column_of columns_of place_of pieces
-by_the_commit = refl
+abbrev seen : List ColumnId → List Joined → List (List Value)
+seen columns rows = map (λ row. map (λ c. joined_value c row) columns) rows
 
--- the rows of both dimensions are kept, whichever is joined first
-date_and_part : seen sample (by_order ∷ of_part ∷ []) (LoQuantity ∷ DYear ∷ PBrand1 ∷ [])
-    ≡ (number 10 ∷ number 1993 ∷ text (codes "MFGR#121") ∷ [])
-    ∷ (number 30 ∷ number 1993 ∷ text (codes "MFGR#2221") ∷ [])
-    ∷ (number 24 ∷ number 1994 ∷ text (codes "MFGR#121") ∷ [])
-    ∷ (number 50 ∷ number 1997 ∷ text (codes "MFGR#1440") ∷ [])
-    ∷ (number 1 ∷ number 1997 ∷ text (codes "MFGR#2221") ∷ []) ∷ []
-unfolding column_of columns_of place_of pieces
-date_and_part = refl
+abbrev n : ℕ → ℕ → List Value
+n a b = number a ∷ number b ∷ []
 
-part_and_date : seen sample (of_part ∷ by_order ∷ []) (LoQuantity ∷ DYear ∷ PBrand1 ∷ [])
-    ≡ seen sample (by_order ∷ of_part ∷ []) (LoQuantity ∷ DYear ∷ PBrand1 ∷ [])
-unfolding column_of columns_of place_of pieces
-part_and_date = refl
+abbrev called : List ℕ → Name
+called word = record { text = word; place = 0 }
 
-all_dimensions : seen sample (by_order ∷ of_customer ∷ of_supplier ∷ of_part ∷ [])
-    (DYear ∷ CNation ∷ SNation ∷ PCategory ∷ [])
-    ≡ (number 1993 ∷ text (codes "UNITED KINGDOM") ∷ text (codes "UNITED STATES")
-    ∷ text (codes "MFGR#12") ∷ [])
-    ∷ (number 1993 ∷ text (codes "UNITED KINGDOM") ∷ text (codes "UNITED KINGDOM")
-    ∷ text (codes "MFGR#22") ∷ [])
-    ∷ (number 1994 ∷ text (codes "CHINA") ∷ text (codes "UNITED STATES") ∷ text (codes "MFGR#12")
-    ∷ [])
-    ∷ (number 1997 ∷ text (codes "UNITED STATES") ∷ text (codes "UNITED STATES")
-    ∷ text (codes "MFGR#14") ∷ [])
-    ∷ (number 1997 ∷ text (codes "UNITED KINGDOM") ∷ text (codes "UNITED KINGDOM")
-    ∷ text (codes "MFGR#22") ∷ []) ∷ []
-unfolding column_of columns_of place_of pieces
-all_dimensions = refl
+products : Gives (λ tables. seen (SSuppkey ∷ DYear ∷ []) (product sample tables)) ((
+  Supplier ∷ Date ∷ [],
+  n 1 1993 ∷ n 1 1994 ∷ n 1 1997 ∷ n 2 1993 ∷ n 2 1994 ∷ n 2 1997 ∷ [],
+)
+    ∷ (
+      Date ∷ Supplier ∷ [],
+      n 1 1993 ∷ n 2 1993 ∷ n 1 1994 ∷ n 2 1994 ∷ n 1 1997 ∷ n 2 1997 ∷ [],
+    ) ∷ [])
+    × (tables_of (called (codes "supplier") ∷ called (codes "date") ∷ []) ≡ Supplier ∷ Date ∷ [])
+unfolding column_of columns_of place_of pieces table_called table_name
+products = (refl, refl)
 
--- a line of a day that isn't there is no joined row, and one of a day that is there twice is two
-abbrev two_days : Tables
-two_days Lineorder = lines
-two_days Date =
-    row_of Date
-    (codes
-    "19930210|February 10, 1993|Wednesday|February|1993|199302|Feb1993|4|10|41|2|6|Winter|0|0|0|1|")
-    ∷ row_of Date
-    (codes
-    "19971215|December 15, 1997|Monday|December|1997|199712|Dec1997|2|15|349|12|50|Christmas|0|0|0|1|")
-    ∷ row_of Date
-    (codes
-    "19930210|February 10, 1993|Wednesday|February|1994|199302|Feb1993|4|10|41|2|6|Winter|0|0|0|1|") ∷ []
-two_days t = []
+abbrev asked : Condition Test → Tree
+asked condition = record {
+  items = [];
+  tables = called (codes "lineorder") ∷ called (codes "supplier") ∷ [];
+  condition = Some condition;
+  grouping = record { shape = Plain; columns = [] };
+  keys = [];
+}
 
-none_or_two : seen two_days (by_order ∷ []) (LoQuantity ∷ DYear ∷ [])
-    ≡ (number 10 ∷ number 1993 ∷ []) ∷ (number 10 ∷ number 1994 ∷ [])
-    ∷ (number 30 ∷ number 1993 ∷ []) ∷ (number 30 ∷ number 1994 ∷ [])
-    ∷ (number 50 ∷ number 1997 ∷ []) ∷ (number 1 ∷ number 1997 ∷ []) ∷ []
-unfolding column_of columns_of place_of pieces
-none_or_two = refl
+abbrev supplied : Condition Test
+supplied = words.pair (called (codes "lo_suppkey")) (called (codes "s_suppkey"))
 
-no_partner : seen two_days (of_part ∷ by_order ∷ []) (LoQuantity ∷ []) ≡ []
-unfolding column_of columns_of place_of pieces
-no_partner = refl
+-- more than 20 pieces: three of the five lines
+abbrev many : Condition Test
+many = words.compare (called (codes "lo_quantity")) Greater (tree.number (pos 20))
 
--- ---- selected rows, and what they add to their groups
+-- with no comparison of two columns each line is there with each supplier; such a comparison is one of
+-- WHERE's conditions like another
+filtered : Gives (λ c. seen (LoQuantity ∷ SSuppkey ∷ []) (selected sample (asked c))) (
+    (many, n 30 1 ∷ n 30 2 ∷ n 24 1 ∷ n 24 2 ∷ n 50 1 ∷ n 50 2 ∷ [])
+    ∷ (and supplied many, n 30 1 ∷ n 24 2 ∷ n 50 2 ∷ [])
+    ∷ (
+      and many (words.pair (called (codes "s_suppkey")) (called (codes "lo_suppkey"))),
+      n 30 1 ∷ n 24 2 ∷ n 50 2 ∷ [],
+    )
+    ∷ (and (not supplied) many, n 30 2 ∷ n 24 1 ∷ n 50 1 ∷ [])
+    ∷ (or supplied (not many), n 10 1 ∷ n 10 2 ∷ n 30 1 ∷ n 24 2 ∷ n 50 2 ∷ n 1 1 ∷ n 1 2 ∷ []) ∷ [])
+unfolding column_of columns_of place_of pieces column_called table_called table_name
+filtered = refl
 
-abbrev asking : List Join → List RowCondition → List ColumnId → List (Measure ColumnId) → Plan
-asking js cs keys measures =
-    record {
-      joins = js;
-      conjuncts = cs;
-      shape = Plain;
-      keys = keys;
-      measures = measures;
-      names =
-          codes "revenue" ∷ [];
-      items = Aggregate 0 ∷ [];
-      sorts = [];
-    }
+abbrev discounted : ℕ → ℕ → Bool
+discounted from upto = is_true (words.between (called (codes "lo_discount")) (tree.number (pos from))
+    (tree.number (pos upto))) mail
 
--- select sum(lo_extendedprice*lo_discount) as revenue from lineorder, date
---     where lo_orderdate = d_datekey and d_year = 1993 and lo_discount between 1 and 3
---     and lo_quantity < 25
-abbrev first_query : Plan
-first_query =
-    asking (by_order ∷ []) (compare DYear Equal (number 1993)
-    ∷ between LoDiscount (number 1) (number 3) ∷ compare LoQuantity Less (number 25) ∷ [])
-    [] (summed (mul (column LoExtendedprice) (column LoDiscount)) ∷ [])
+abbrev of_mode : List ℕ → List ℕ → Bool
+of_mode from upto = is_true (words.between (called (codes "lo_shipmode")) (tree.text from)
+    (tree.text upto)) mail
 
--- the second line is of 1993 and its discount is 3, but its quantity isn't below 25
-one_conjunct_fails : map (λ row. joined_value LoQuantity row) (plan_rows sample first_query)
-    ≡ number 10 ∷ []
-unfolding column_of columns_of place_of pieces
-one_conjunct_fails = refl
-
-first_entries : map (entry_of first_query) (plan_rows sample first_query)
-    ≡ record { keys = []; values = pos 2000 ∷ [] } ∷ []
-unfolding column_of columns_of place_of pieces
-first_entries = refl
-
--- select d_year, p_brand1, sum(lo_revenue - lo_supplycost), count(*)
---     from lineorder, date, part, supplier
---     where lo_orderdate = d_datekey and lo_partkey = p_partkey and lo_suppkey = s_suppkey
---     and p_category = 'MFGR#12' and s_region = 'AMERICA' group by d_year, p_brand1
-abbrev profits : Plan
-profits =
-    asking (by_order ∷ of_part ∷ of_supplier ∷ [])
-    (compare PCategory Equal (text (codes "MFGR#12"))
-    ∷ compare SRegion Equal (text (codes "AMERICA")) ∷ [])
-    (DYear ∷ PBrand1 ∷ []) (summed (sub revenue cost) ∷ count ∷ [])
-
-profit_entries : map (entry_of profits) (plan_rows sample profits)
-    ≡ record { keys = number 1993 ∷ text (codes "MFGR#121") ∷ []; values = pos 380 ∷ pos 1 ∷ [] }
-    ∷ record {
-      keys = number 1994 ∷ text (codes "MFGR#121") ∷ [];
-      values =
-          neg_ℤ (pos 205) ∷ pos 1 ∷ [];
-    } ∷ []
-unfolding column_of columns_of place_of pieces
-profit_entries = refl
+-- both ends, below and above them, and an end that is above the other
+betweens : Gives2 discounted (
+    (2, 2, true) ∷ (1, 2, true) ∷ (2, 3, true) ∷ (3, 4, false) ∷ (0, 1, false) ∷ (3, 1, false) ∷ [])
+    × Gives2 of_mode (
+    (codes "MAIL", codes "MAIL", true) ∷ (codes "A", codes "MAIL", true)
+    ∷ (codes "MAIL", codes "Z", true) ∷ (codes "MAILS", codes "Z", false)
+    ∷ (codes "A", codes "MAI", false) ∷ [])
+    × (value_named (called (codes "discount")) mail ≡ of_table.Number (pos 0))
+    × (measured (λ w. value_named w mail) count ≡ pos 1)
+unfolding column_of columns_of place_of pieces column_called
+betweens = (refl, refl, refl, refl)

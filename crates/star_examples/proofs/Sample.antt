@@ -4,6 +4,7 @@ use Rattle.std.proofs.Common.{ℕ, List, [], ◌∷◌}
 use Rattle.std.specs.Prelude.{pos, neg_ℤ, codes, map}
 use Rattle.star_schema.specs.declared.table.TableId.TheVariants.{Date, Customer, Supplier, Part, Lineorder}
 use Rattle.star_schema.specs.declared.column.ColumnId.TheVariants.{DDatekey, CCustkey, SSuppkey, PPartkey, LoCustkey, LoPartkey, LoSuppkey, LoOrderdate, LoCommitdate, LoRevenue, LoSupplycost, LoTax, LoDiscount}
+use Rattle.star_schema.specs.Database.{Database, TableTexts}
 use Rattle.star_schema.specs.Tables.{Value, Number, Text, row_of}
 use Rattle.star_plan.specs.declared.tree.Join.{Join}
 use Rattle.star_schema.specs.declared.column.ColumnId.{ColumnId}
@@ -95,3 +96,38 @@ tax = column LoTax
 
 abbrev pub discount : Expression ColumnId
 discount = column LoDiscount
+
+abbrev pub five : Database
+five = record {
+  date = sample Date;
+  customer = sample Customer;
+  supplier = sample Supplier;
+  part = sample Part;
+  lineorder = sample Lineorder;
+}
+
+-- the five files of the sample, lineorder's in two parts: ends of lines of either kind, an empty line,
+-- a record without its last bar, and one without its line's end
+abbrev pub sample_texts : TableTexts
+sample_texts Date =
+    codes
+    "19930210|February 10, 1993|Wednesday|February|1993|199302|Feb1993|4|10|41|2|6|Winter|0|0|0|1|\n19940105|January 5, 1994|Wednesday|January|1994|199401|Jan1994|4|5|5|1|1|Winter|0|0|0|1|\n19971215|December 15, 1997|Monday|December|1997|199712|Dec1997|2|15|349|12|50|Christmas|0|0|0|1\n"
+    ∷ []
+sample_texts Customer =
+    codes
+    "1|Customer#000000001|a1|UNITED KI1|UNITED KINGDOM|EUROPE|33-111-111-1111|BUILDING|\n2|Customer#000000002|a2|CHINA    3|CHINA|ASIA|28-222-222-2222|MACHINERY|\n\n3|Customer#000000003|a3|UNITED ST0|UNITED STATES|AMERICA|34-333-333-3333|AUTOMOBILE|\n"
+    ∷ []
+sample_texts Supplier =
+    codes
+    "1|Supplier#000000001|b1|UNITED KI5|UNITED KINGDOM|EUROPE|33-444-444-4444|\r\n2|Supplier#000000002|b2|UNITED ST4|UNITED STATES|AMERICA|34-555-555-5555|\r\n"
+    ∷ []
+sample_texts Part =
+    codes
+    "1|lace spring|MFGR#1|MFGR#12|MFGR#121|lace|SMALL PLATED TIN|7|JUMBO PKG|\n2|rose cream|MFGR#2|MFGR#22|MFGR#2221|rose|LARGE BRUSHED TIN|1|LG CASE|\n3|mint blue|MFGR#1|MFGR#14|MFGR#1440|mint|PROMO PLATED TIN|21|SM BOX|"
+    ∷ []
+sample_texts Lineorder =
+    codes
+    "1|1|1|1|2|19930210|2-HIGH|0|10|1000|3000|2|980|600|2|19940105|MAIL|\n1|2|1|2|1|19930210|2-HIGH|0|30|2000|3000|3|1940|1200|0|19940105|RAIL|"
+    ∷ codes
+    "2|1|2|1|2|19940105|5-LOW|0|24|500|500|1|495|700|4|19940105|SHIP|\n3|1|3|3|2|19971215|1-URGENT|0|50|3000|3700|0|3000|1000|8|19971215|TRUCK|\n3|2|1|2|1|19971215|1-URGENT|0|1|700|3700|10|630|100|1|19971215|AIR|\n"
+    ∷ []

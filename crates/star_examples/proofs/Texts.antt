@@ -1,64 +1,50 @@
--- What texts mean and where they stop, by computing.
-use Rattle.std.proofs.Common.{◌≡◌, ℕ, ◌≤◌, Bool, true, false, List, [], ◌++◌, Result, Ok, Err, drop, length, take, refl}
+-- Faults of texts, and of the names of the queries that they mean, by computing.
+use Rattle.std.proofs.Common.{◌≡◌, ℕ, List, Option, Some, None, refl}
 use Rattle.star_query.specs.declared.fault.QueryFault.{QueryFault}
-use Rattle.star_query.specs.Symbols.{Symbol, Placed, symbols}
-use Rattle.star_query.specs.Maxima.{most_bytes}
-use Rattle.star_query.specs.Cut.{cut_of}
-use Rattle.star_query.specs.Private.Phrases.{query_tree}
-use Rattle.star_query.specs.Derives.{Derives, Means, StopsAt}
+use Rattle.star_query.specs.Derives.{IsFirstQueryFault, Means}
 use Rattle.star_query.specs.Tree.{Tree}
-use Rattle.star_query.specs.Private.Machine.{Verdict, Whole, Bad}
-use Rattle.star_query.proofs.Verdicts.{derives, first_fault, verdict_of}
+use Rattle.star_query.proofs.Told.{Says, Told, fault, holds, means, nothing, told}
+use Rattle.star_plan.specs.declared.fault.PlanFault.{PlanFault}
+use Rattle.star_plan.specs.Faults.{plan_fault}
 
--- the tokens of a text, where it can be cut
-abbrev pub tokens_of : List ℕ → List Placed
-tokens_of bytes = tokens_in (cut_of bytes)
+-- a text that means some query has none
+abbrev pub HasFault : List ℕ → Option QueryFault → Type 0
+HasFault bytes None = (tree : Tree) × Means bytes tree
+HasFault bytes (Some f) = IsFirstQueryFault bytes f
+
+abbrev pub HasNames : List ℕ → Option PlanFault → Type 0
+HasNames bytes f = (tree : Tree) × Means bytes tree × (plan_fault tree ≡ f)
+
+abbrev pub fault_in : Told → Option (Option QueryFault)
+fault_in nothing = None
+fault_in (means tree) = Some None
+fault_in (fault f) = Some (Some f)
+
+abbrev pub names_in : Told → Option (Option PlanFault)
+names_in (means tree) = Some (plan_fault tree)
+names_in _ = None
+
+-- what was computed, where it says something
+abbrev pub IfTold : {F : Type 0} → (List ℕ → F → Type 0) → List ℕ → Option F → Type 0
+IfTold Has bytes None = Unit {0}
+IfTold Has bytes (Some f) = Has bytes f
+
+-- a row: a text, and what is told of it
+abbrev pub says : {F : Type 0} → List ℕ → F → List ℕ × F
+says bytes f = (bytes, f)
+
+pub faults_hold : (bytes : List ℕ) → IfTold HasFault bytes (fault_in (told bytes))
+faults_hold bytes = of_told (told bytes) (holds bytes)
   where
-    tokens_in : Result (List Placed) QueryFault → List Placed
-    tokens_in (Ok tokens) = tokens
-    tokens_in (Err fault) = []
+    of_told : (t : Told) → Says bytes t → IfTold HasFault bytes (fault_in t)
+    of_told nothing is = tt
+    of_told (means tree) is = (tree, is)
+    of_told (fault f) is = is
 
-abbrev pub IsCut : List ℕ → Type 0
-IsCut bytes = cut_of bytes ≡ Ok (tokens_of bytes)
-
--- ---- a text that means some query
-
-pub record IsQuery (bytes : List ℕ) : Type 0 where
-  pub tree : Tree
-  pub means : Means bytes tree
-
-abbrev pub is_whole : Verdict → Bool
-is_whole (Whole q) = true
-is_whole (Bad fault left) = false
-
-derived : (xs : List Symbol) (v : Verdict) → verdict_of xs ≡ v → is_whole v ≡ true
-    → (tree : Tree) × Derives xs tree
-derived xs (Whole q) is e = (query_tree q, derives xs q is)
-derived xs (Bad fault left) is e = absurd (cc)
-
-pub query : (bytes : List ℕ) → length bytes ≤ most_bytes → IsCut bytes
-    → is_whole (verdict_of (symbols (tokens_of bytes))) ≡ true → IsQuery bytes
-query bytes short cut whole =
-    let found = derived (symbols (tokens_of bytes)) (verdict_of (symbols (tokens_of bytes))) refl
-    whole in
-    record {
-      tree = found.0;
-      means =
-          record { short = short; tokens = tokens_of bytes; cut = cut; derives = found.1 };
-    }
-
--- ---- a text with a fault before these tokens
-
-pub stops : (bytes : List ℕ) (fault : _) (before : ℕ) → length bytes ≤ most_bytes
-    → cut_of bytes ≡ Ok (take before (tokens_of bytes) ++ drop before (tokens_of bytes))
-    → verdict_of (symbols (take before (tokens_of bytes) ++ drop before (tokens_of bytes)))
-    ≡ Bad fault (symbols (drop before (tokens_of bytes)))
-    → StopsAt bytes fault (drop before (tokens_of bytes))
-stops bytes fault before short cut e =
-    record {
-      short = short;
-      front = take before (tokens_of bytes);
-      cut = cut;
-      first =
-          first_fault _ fault _ e;
-    }
+pub names_hold : (bytes : List ℕ) → IfTold HasNames bytes (names_in (told bytes))
+names_hold bytes = of_told (told bytes) (holds bytes)
+  where
+    of_told : (t : Told) → Says bytes t → IfTold HasNames bytes (names_in t)
+    of_told nothing is = tt
+    of_told (means tree) is = (tree, is, refl)
+    of_told (fault f) is = tt

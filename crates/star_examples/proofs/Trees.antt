@@ -1,191 +1,215 @@
--- What the tree of every query keeps: it is within limits, and its words are spelled.
-use Rattle.std.proofs.Common.{◌≡◌, ℕ, zero, suc, ◌≤◌, true, false, List, [], ◌∷◌, ◌++◌, Some, None, refl, arith}
-use Rattle.std.specs.Prelude.{pos, codes, map, replicate}
-use Rattle.star_query.specs.declared.token.Fold.TheVariants.{Sum}
-use Rattle.star_query.specs.declared.token.Relation.TheVariants.{Equal}
-use Rattle.star_schema.specs.declared.group.Shape.TheVariants.{Plain}
-use Rattle.star_schema.specs.declared.group.Direction.TheVariants.{Ascending}
-use Rattle.star_query.specs.Tree.{Name, number, text, Expression, column, constant, add, sub, mul, Condition, or, and, not, Measure, fold, count, Item, plain, aggregate, Tree, Test}
-use Rattle.star_query.specs.Limits.{IsQueryWithinLimits, operands_of, comparisons_of, where_comparisons}
-use Rattle.star_query.specs.Spelled.{IsSpelledQuery, is_name, has_few_digits, is_printable_text, expression_is_spelled, condition_is_spelled, item_is_spelled}
+-- What texts mean, every form of the grammar as its tree, and what the tree of every query keeps: it
+-- is within limits, and its words are spelled.
+use Rattle.std.proofs.Common.{◌≡◌, ◌↔◌, ◌≤◌, ◌*◌, ℕ, true, false, List, [], ◌∷◌, Option, Some, None, Ok, length, refl}
+use Rattle.std.specs.Prelude.{codes, neg_ℤ, pos, sum_by}
+use Rattle.std.specs.List.{AllByRecursion, list_all}
+use Rattle.star_common.proofs.Tables.{Gives, each_row}
+use Rattle.star_schema.specs.declared.group.Shape.TheVariants.{Plain, Cube, Rollup}
+use Rattle.star_schema.specs.declared.group.Direction.TheVariants.{Ascending, Descending}
+use Rattle.star_query.specs.declared.token.Fold.TheVariants.{Sum, Min, Max}
+use Rattle.star_query.specs.declared.token.Relation.TheVariants.{Equal, Unequal, Less, AtMost, Greater, AtLeast}
+use Rattle.star_query.specs.Private.Cut.{cut_from, cut_of, reserved, reserved_words}
+use Rattle.star_query.specs.Limits.{IsQueryWithinLimits, aggregates_in, item_operands, where_comparisons}
+use Rattle.star_query.specs.Maxima.{most_bytes}
+use Rattle.star_query.specs.Meant.{IsMeant}
+use Rattle.star_query.specs.Private.Phrases.{ascending, cube, descending, grouped, groups_tree, hiding, key_tree, one, rollup, ungrouped, unmarked}
+use Rattle.star_query.specs.Spelled.{IsSpelledQuery, condition_is_spelled, expression_is_spelled, has_few_digits, is_name, is_printable_text, item_is_spelled, where_is_spelled}
+use Rattle.star_query.specs.Symbols.{Placed, Symbol, number as number_symbol, relation, spelling}
+use Rattle.star_query.specs.Tree.{Condition, Expression, Grouping, Item, Measure, Name, SortKey, Test, Tree, add, aggregate, and, column, constant, count, fold, mul, not, number, or, plain, sub, text}
+use Rattle.star_query.proofs.Told.{Says, Told, holds, means, told}
 use Rattle.star_examples.proofs.QueryTests.{pair, compare, between}
 
-abbrev called : List ℕ → Name
-called word = record { text = word; place = 0 }
+-- a name, and where it stands
+abbrev called : List ℕ → ℕ → Name
+called word at = record { text = word; place = at }
+
+abbrev of : Measure Name → ℕ → Item
+of m at = aggregate (record { measure = m; place = at; name = None })
+
+abbrev under : Measure Name → ℕ → Name → Item
+under m at name = aggregate (record { measure = m; place = at; name = Some name })
+
+abbrev all : Grouping
+all = record { shape = Plain; columns = [] }
+
+-- select count(*) from t ..
+abbrev counting : Option (Condition Test) → Grouping → List SortKey → Tree
+counting condition grouping keys = record {
+  items = of count 7 ∷ [];
+  tables = called (codes "t") 21 ∷ [];
+  condition = condition;
+  grouping = grouping;
+  keys = keys;
+}
+
+-- operators of one level group to the left, a product binds before a sum, and parentheses leave no
+-- trace
+abbrev sums : Tree
+sums = record {
+  items = plain (called (codes "a") 7)
+      ∷ of (fold Sum (add (sub (column (called (codes "b") 14)) (column (called (codes "c") 16)))
+      (mul (mul (column (called (codes "d") 18))
+      (sub (column (called (codes "e") 21)) (constant (pos 2)))) (constant (neg_ℤ (pos 3)))))) 10
+      ∷ of (fold Min (sub (mul (column (called (codes "f") 35)) (column (called (codes "g") 37)))
+      (column (called (codes "h") 39)))) 31
+      ∷ under (fold Max (constant (neg_ℤ (pos 1)))) 43 (called (codes "m") 54)
+      ∷ under count 57 (called (codes "n") 69) ∷ [];
+  tables = called (codes "t") 76 ∷ called (codes "u") 79 ∷ [];
+  condition = None;
+  grouping = all;
+  keys = [];
+}
+
+-- names are made lower case, and a key with no word of its direction ascends
+abbrev ordered : Tree
+ordered = record {
+  items = plain (called (codes "a") 7) ∷ of count 10 ∷ [];
+  tables = called (codes "t") 24 ∷ [];
+  condition = None;
+  grouping = record { shape = Plain; columns = called (codes "a") 35 ∷ called (codes "b") 38 ∷ [] };
+  keys = record { name = called (codes "a") 49; direction = Ascending }
+      ∷ record { name = called (codes "b") 52; direction = Ascending }
+      ∷ record { name = called (codes "c") 59; direction = Descending } ∷ [];
+}
+
+-- NOT binds before AND, AND before OR, and BETWEEN has an AND of its own
+abbrev conditions : Condition Test
+conditions = or
+    (or (and (not (compare (called (codes "a") 33) Unequal (text (codes "x"))))
+    (pair (called (codes "b") 46) (called (codes "c") 50)))
+    (and (between (called (codes "d") 55) (number (neg_ℤ (pos 1))) (number (pos 2)))
+    (not (or (compare (called (codes "e") 83) Less (number (pos 1)))
+    (compare (called (codes "f") 92) AtLeast (number (neg_ℤ (pos 2))))))))
+    (between (called (codes "g") 104) (text (codes "a'b")) (text (codes "c")))
+
+abbrev relations : Condition Test
+relations = and (and
+    (and (compare (called (codes "a") 29) Equal (number (pos 1)))
+    (compare (called (codes "b") 37) Unequal (number (pos 2))))
+    (compare (called (codes "c") 46) Less (number (pos 3))))
+    (and (and (compare (called (codes "d") 55) AtMost (number (pos 4)))
+    (compare (called (codes "e") 64) Greater (number (pos 5))))
+    (compare (called (codes "f") 72) AtLeast (number (pos 6))))
+
+abbrev cubed : Grouping
+cubed = record {
+  shape = Cube;
+  columns = called (codes "c") 49 ∷ called (codes "d") 52 ∷ called (codes "e") 55 ∷ [];
+}
+
+abbrev rows : List (List ℕ × Told)
+rows = (
+  codes "select a, sum(b-c+d*(e-2)*-3), min(f*g-h), max(-1) as m, count(*) as n from t, u",
+  means sums,
+)
+    ∷ (codes "SELECT A, Count(*) FROM T GROUP BY A, B ORDER BY A, B ASC, C DESC;", means ordered)
+    ∷ (
+      codes
+          "select count(*) from t where not a <> 'x' and b = c or d between -1 and 2 and not (e < 1 or f >= -2) or g between 'a''b' and 'c'",
+      means (counting (Some conditions) all []),
+    )
+    ∷ (
+      codes "select count(*) from t where a=1 and b<>2 and c<3 and (d<=4 and e>5 and f>=6)",
+      means (counting (Some relations) all []),
+    )
+    ∷ (
+      codes "select count(*) from t where a = b group by cube(c, d, e);",
+      means (counting (Some (pair (called (codes "a") 29) (called (codes "b") 33))) cubed []),
+    )
+    ∷ (
+      codes "select count(*) from t order by a desc",
+      means (counting None all (record { name = called (codes "a") 32; direction = Descending } ∷ [])),
+    )
+    ∷ []
+
+meant : AllByRecursion (λ row. Says row.0 row.1) rows
+unfolding cut_from reserved reserved_words spelling
+meant = each_row Says told holds rows refl
+
+some_text_means_it : IsMeant ordered
+some_text_means_it = (_, meant.1.0)
+
+-- ---- phrases, and a sign, which ends where it ends
+
+phrases : (n : Name) → Gives key_tree (
+    (unmarked n, record { name = n; direction = Ascending })
+    ∷ (ascending n, record { name = n; direction = Ascending })
+    ∷ (descending n, record { name = n; direction = Descending }) ∷ [])
+    × Gives groups_tree (
+    (ungrouped, all) ∷ (grouped (one n), record { shape = Plain; columns = n ∷ [] })
+    ∷ (hiding cube (one n), record { shape = Cube; columns = n ∷ [] })
+    ∷ (hiding rollup (one n), record { shape = Rollup; columns = n ∷ [] }) ∷ [])
+phrases n = (refl, refl)
+
+abbrev at : ℕ → Symbol → Placed
+at place x = record { symbol = x; place = place }
+
+signs : cut_of (codes "<7>=8")
+    ≡ Ok (at 0 (relation Less) ∷ at 1 (number_symbol 7) ∷ at 2 (relation AtLeast)
+    ∷ at 4 (number_symbol 8) ∷ [])
+unfolding cut_from
+signs = refl
+
+in_64_kibibytes : (most_bytes ≡ 64 * 1024) × (where_comparisons None ≡ 0)
+in_64_kibibytes = (refl, refl)
+
+-- ---- within limits, and spelled
+
+module _ (t : Tree) where
+  within : IsQueryWithinLimits t ↔ ((length t.items ≤ 16) × (sum_by aggregates_in t.items ≤ 8)
+      × (sum_by item_operands t.items ≤ 512) × (where_comparisons t.condition ≤ 256)
+      × (length t.grouping.columns ≤ 6) × (length t.keys ≤ 16))
+  within = (
+    λ w. (w.items, w.aggregates, w.operands, w.comparisons, w.columns, w.keys),
+    λ h. record {
+      items = h.0;
+      aggregates = h.1;
+      operands = h.2;
+      comparisons = h.3;
+      columns = h.4;
+      keys = h.5;
+    },
+  )
+
+  spelled : IsSpelledQuery t ↔ ((list_all item_is_spelled t.items ≡ true)
+      × (list_all (λ n. is_name n.text) t.tables ≡ true) × (where_is_spelled t.condition ≡ true)
+      × (list_all (λ n. is_name n.text) t.grouping.columns ≡ true)
+      × (list_all (λ k. is_name k.name.text) t.keys ≡ true))
+  spelled = (
+    λ s. (s.items, s.tables, s.condition, s.columns, s.keys),
+    λ h. record { items = h.0; tables = h.1; condition = h.2; columns = h.3; keys = h.4 },
+  )
 
 abbrev a : Name
-a = called (codes "a")
+a = called (codes "a") 0
 
 abbrev hyphened : Name
-hyphened = called (codes "a-b")
-
-abbrev item : Measure Name → Item
-item m = aggregate (record { measure = m; place = 0; name = None })
+hyphened = called (codes "a-b") 0
 
 abbrev good : Condition Test
 good = compare a Equal (number (pos 1))
 
--- ---- within limits, at each limit and one past it
-
-comparisons_counted : map comparisons_of
-    (good ∷ pair a a ∷ between a (number (pos 1)) (number (pos 2)) ∷ not good ∷ or good (not good)
-    ∷ and (not good) (and good good) ∷ [])
-    ≡ 1 ∷ 1 ∷ 1 ∷ 2 ∷ 3 ∷ 4 ∷ []
-comparisons_counted = refl
-
-no_comparisons : where_comparisons None ≡ 0
-no_comparisons = refl
-
-operands_counted : map operands_of
-    (column a ∷ constant (pos 1) ∷ add (column a) (column a)
-    ∷ sub (column a) (add (column a) (column a))
-    ∷ mul (sub (column a) (column a)) (mul (column a) (column a)) ∷ [])
-    ≡ 1 ∷ 1 ∷ 2 ∷ 3 ∷ 4 ∷ []
-operands_counted = refl
-
--- an expression of `n` + 1 operands, and a condition of `n` + 1 comparisons
-abbrev chain : ℕ → Expression Name
-chain zero = column a
-chain (suc n) = add (chain n) (column a)
-
-abbrev conjunction : ℕ → Condition Test
-conjunction zero = good
-conjunction (suc n) = and (conjunction n) good
-
-abbrev largest : Tree
-largest = record {
-  items = item (fold Sum (chain 504)) ∷ replicate 7 (item (fold Sum (column a)))
-      ++ replicate 8 (plain a);
-  tables = a ∷ [];
-  condition = Some (conjunction 255);
-  grouping = record { shape = Plain; columns = replicate 6 a };
-  keys = replicate 16 (record { name = a; direction = Ascending });
-}
-
-largest_within : IsQueryWithinLimits largest
-largest_within = record {
-  items = omega arith;
-  aggregates = omega arith;
-  operands =
-      omega arith;
-  comparisons = omega arith;
-  columns = omega arith;
-  keys = omega arith;
-}
-
-item_too_many : IsQueryWithinLimits (record largest { items = replicate 17 (plain a) }) → ⊥
-item_too_many within = let many : 17 ≤ 16 = within.items in omega (arith, many)
-
-nine_aggregates : IsQueryWithinLimits (record largest { items = replicate 9 (item count) }) → ⊥
-nine_aggregates within = let many : 9 ≤ 8 = within.aggregates in omega (arith, many)
-
-operand_too_many : IsQueryWithinLimits
-    (record largest {
-      items =
-          item (fold Sum (chain 511)) ∷ item count ∷ item (fold Sum (column a)) ∷ [];
-    }) → ⊥
-operand_too_many within = let many : 513 ≤ 512 = within.operands in omega (arith, many)
-
-comparison_too_many : IsQueryWithinLimits
-    (record largest { condition = Some (not (conjunction 255)) }) → ⊥
-comparison_too_many within = let many : 257 ≤ 256 = within.comparisons in omega (arith, many)
-
-seven_columns : IsQueryWithinLimits
-    (record largest { grouping = record { shape = Plain; columns = replicate 7 a } }) → ⊥
-seven_columns within = let many : 7 ≤ 6 = within.columns in omega (arith, many)
-
-key_too_many : IsQueryWithinLimits
-    (record largest { keys = replicate 17 (record { name = a; direction = Ascending }) }) → ⊥
-key_too_many within = let many : 17 ≤ 16 = within.keys in omega (arith, many)
-
--- ---- spelled
+abbrev bad : Condition Test
+bad = compare a Equal (text (10 ∷ []))
 
 abbrev long : Expression Name
 long = constant (pos 1000000000000000000)
 
-expressions_spelled : map expression_is_spelled
-    (column a ∷ column hyphened ∷ long ∷ add (column a) long ∷ add long (column a)
-    ∷ sub (column a) long ∷ sub long (column a) ∷ mul (column a) long ∷ mul long (column a) ∷ [])
-    ≡ true ∷ false ∷ false ∷ false ∷ false ∷ false ∷ false ∷ false ∷ false ∷ []
-unfolding is_name has_few_digits
-expressions_spelled = refl
-
-abbrev bad : Condition Test
-bad = compare a Equal (text (10 ∷ []))
-
-comparisons_spelled : map condition_is_spelled
-    (good ∷ bad ∷ compare hyphened Equal (number (pos 1)) ∷ pair a a ∷ pair hyphened a
-    ∷ pair a hyphened ∷ between a (number (pos 1)) (text (10 ∷ []))
-    ∷ between a (text (10 ∷ [])) (number (pos 1))
-    ∷ between hyphened (number (pos 1)) (number (pos 1)) ∷ [])
-    ≡ true ∷ false ∷ false ∷ true ∷ false ∷ false ∷ false ∷ false ∷ false ∷ []
+words_spelled : Gives expression_is_spelled (
+    (column a, true) ∷ (column hyphened, false) ∷ (long, false) ∷ (add (column a) long, false)
+    ∷ (add long (column a), false) ∷ (sub (column a) long, false) ∷ (sub long (column a), false)
+    ∷ (mul (column a) long, false) ∷ (mul long (column a), false) ∷ [])
+    × Gives condition_is_spelled (
+    (good, true) ∷ (bad, false) ∷ (compare hyphened Equal (number (pos 1)), false)
+    ∷ (pair a a, true) ∷ (pair hyphened a, false) ∷ (pair a hyphened, false)
+    ∷ (between a (number (pos 1)) (text (10 ∷ [])), false)
+    ∷ (between a (text (10 ∷ [])) (number (pos 1)), false)
+    ∷ (between hyphened (number (pos 1)) (number (pos 1)), false)
+    ∷ (or good good, true) ∷ (or bad good, false) ∷ (or good bad, false) ∷ (and bad good, false)
+    ∷ (and good bad, false) ∷ (not bad, false) ∷ [])
+    × Gives where_is_spelled ((Some good, true) ∷ (Some bad, false) ∷ (None, true) ∷ [])
+    × Gives item_is_spelled (
+    (plain a, true) ∷ (plain hyphened, false) ∷ (of count 0, true) ∷ (of (fold Sum long) 0, false)
+    ∷ (under count 0 hyphened, false) ∷ [])
 unfolding is_name has_few_digits is_printable_text
-comparisons_spelled = refl
-
-conditions_spelled : map condition_is_spelled
-    (or good good ∷ or bad good ∷ or good bad ∷ and bad good ∷ and good bad ∷ not bad ∷ [])
-    ≡ true ∷ false ∷ false ∷ false ∷ false ∷ false ∷ []
-unfolding is_name has_few_digits is_printable_text
-conditions_spelled = refl
-
-items_spelled : map item_is_spelled
-    (plain a ∷ plain hyphened ∷ item count ∷ item (fold Sum long)
-    ∷ aggregate (record { measure = count; place = 0; name = Some hyphened }) ∷ [])
-    ≡ true ∷ false ∷ true ∷ false ∷ false ∷ []
-unfolding is_name has_few_digits
-items_spelled = refl
-
-abbrev small : Tree
-small = record {
-  items = plain a ∷ [];
-  tables = a ∷ [];
-  condition = Some good;
-  grouping =
-      record { shape = Plain; columns = a ∷ [] };
-  keys =
-      record { name = a; direction = Ascending } ∷ [];
-}
-
-small_spelled : IsSpelledQuery small
-unfolding is_name has_few_digits
-small_spelled = record {
-  items = refl;
-  tables = refl;
-  condition = refl;
-  columns = refl;
-  keys =
-      refl;
-}
-
-with_no_condition : IsSpelledQuery (record small { condition = None })
-unfolding is_name has_few_digits
-with_no_condition = record {
-  items = refl;
-  tables = refl;
-  condition = refl;
-  columns = refl;
-  keys =
-      refl;
-}
-
-item_with_a_hyphen : IsSpelledQuery (record small { items = plain a ∷ plain hyphened ∷ [] }) → ⊥
-unfolding is_name
-item_with_a_hyphen spelled = let broken : false ≡ true = spelled.items in cc
-
-table_with_a_hyphen : IsSpelledQuery (record small { tables = a ∷ hyphened ∷ [] }) → ⊥
-unfolding is_name
-table_with_a_hyphen spelled = let broken : false ≡ true = spelled.tables in cc
-
-text_with_a_line_end : IsSpelledQuery (record small { condition = Some bad }) → ⊥
-unfolding is_name has_few_digits is_printable_text
-text_with_a_line_end spelled = let broken : false ≡ true = spelled.condition in cc
-
-column_with_a_hyphen : IsSpelledQuery
-    (record small { grouping = record { shape = Plain; columns = hyphened ∷ [] } }) → ⊥
-unfolding is_name
-column_with_a_hyphen spelled = let broken : false ≡ true = spelled.columns in cc
-
-key_with_a_hyphen : IsSpelledQuery
-    (record small { keys = record { name = hyphened; direction = Ascending } ∷ [] }) → ⊥
-unfolding is_name
-key_with_a_hyphen spelled = let broken : false ≡ true = spelled.keys in cc
+words_spelled = (refl, refl, refl, refl)

@@ -6,6 +6,5 @@ pub mod Quotes
 pub mod Cells
 pub mod Lines
 pub mod Worked
-mod WorkedColumns
 pub mod TableTexts
 pub mod OneOrder

@@ -4,4 +4,3 @@ mod ReportLemmas
 mod SessionLemmas
 mod Telling
 mod WorkedFaults
-mod WorkedReports

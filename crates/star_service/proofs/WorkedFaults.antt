@@ -1,5 +1,5 @@
--- The lines of faults as they are read, and names of files on one line.
-use Rattle.std.proofs.Common.{◌≡◌, ℕ, List, [], ◌∷◌, true, encode_utf8_all, flat_map, refl, ap}
+-- The lines of faults and of reports as they are read, and names of files on one line.
+use Rattle.std.proofs.Common.{◌≡◌, ◌++◌, ℕ, List, [], ◌∷◌, true, encode_utf8_all, flat_map, refl, ap}
 use Rattle.std.proofs.lemmas.Str.{chars-encodes}
 use Rattle.std.specs.Prelude.{codes, map}
 use lib.Utf8.{encode, scalars}
@@ -7,6 +7,7 @@ use Rattle.std.specs.Fmt.{digits}
 use Rattle.star_engine.specs.FaultTexts.{engine_fault_text}
 use Rattle.star_engine.specs.declared.fault.EngineFault.TheVariants.{OutOfMemory, Write}
 use Rattle.star_service.specs.Lines.{fault_line}
+use Rattle.star_service.specs.Reports.{named_line, told_line}
 use Rattle.star_service.specs.Names.{printed_letter, printed_name}
 
 lines : map fault_line (OutOfMemory ∷ Write 65536 ∷ [])
@@ -28,3 +29,13 @@ names : map (flat_map printed_letter) (codes "a\nload 1" ∷ codes "a\\n" ∷ (0
     ∷ (39 ∷ 34 ∷ 195 ∷ 169 ∷ []) ∷ []
 unfolding encode
 names = refl
+
+-- of a report that was kept both notes on one line, and of a file that was not run the forecast
+reports : (name : List ℕ) → (told_line name (record {
+  quoted = codes "quote 10\n";
+  report = codes "n\n2\n";
+  done = codes "visits 10 lookups 0 updates 7\n";
+})
+    ≡ printed_name name ++ codes " quote 10 visits 10 lookups 0 updates 7\n")
+    × (named_line name (codes "quote 5 rows 6\n") ≡ printed_name name ++ codes " quote 5 rows 6\n")
+reports name = (refl, refl)

@@ -2,5 +2,4 @@ mod BlankLemmas
 mod StatementLemmas
 mod QuestionLemmas
 pub mod DraftLemmas
-mod WorkedStatements
-mod WorkedSources
+mod Worked

@@ -1,4 +1,3 @@
 mod Asking
 mod Limits
-mod WorkedFaults
-mod WorkedRequests
+mod Worked

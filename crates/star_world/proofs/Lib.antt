@@ -3,4 +3,3 @@ pub mod Loaded
 pub mod TextBounds
 mod RowsSeen
 mod Worked
-mod WorkedCodes
