@@ -1,0 +1,1 @@
+select sum(lo_extendedprice*lo_extendedprice) from lineorder

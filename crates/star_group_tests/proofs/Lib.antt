@@ -1,3 +1,0 @@
-pub mod FewPuts
-pub mod BatchPuts
-pub mod SmallPuts

@@ -1,7 +1,0 @@
-use Rattle.std.proofs.Common.{arith}
-use Rattle.star_group.proofs.PlacedCells.{each_narrow}
-use Rattle.star_group_tests.proofs.batches.are_narrow.Goals as goal
-
-pub returns : goal.returns
-returns c = each_narrow c.args.words.now c.loop-at.at (omega (arith, c.loop-at-test.false))
-    c.loop-at.invariant

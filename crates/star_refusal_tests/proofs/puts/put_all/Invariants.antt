@@ -1,6 +1,0 @@
-use Rattle.star_group_tests.specs.Few.{HasFew, IsOfTests}
-use Rattle.star_refusal_tests.proofs.puts.put_all.Given as goal
-
-abbrev pub invariant-loop-made : goal.invariant-loop-made
-invariant-loop-made g l =
-    HasFew (g.S.GroupStore.has l.store) l.made × IsOfTests (g.S.GroupStore.group l.store)
