@@ -1,2 +1,0 @@
--- What the tests of stores cite.
-pub mod Few
