@@ -124,4 +124,4 @@ columns = (refl, refl, refl, refl)
 texts_of_tables : (texts : five_texts.Texts) → map (texts_view texts) TABLES
     ≡ (texts.date.now ∷ []) ∷ (texts.customer.now ∷ []) ∷ (texts.supplier.now ∷ [])
     ∷ (texts.part.now ∷ []) ∷ map (λ part. part.now) texts.lineorder.now ∷ []
-texts_of_tables texts = refl
+texts_of_tables _ = refl
