@@ -6,45 +6,35 @@ from pathlib import Path
 from typing import Iterator, NamedTuple
 
 from layout import lines_of
-
-CRATES = Path(__file__).resolve().parent.parent / "crates"
+from repository import CRATES
 
 NAME = re.compile(r"[A-Za-zℕℤ_][\w'\-]*(?:\.[A-Za-z_0-9][\w'\-]*)*")
-USE = re.compile(
-    r"(?:pub )?(?:ghost )?use (?:Rattle\.)?(?P<path>[\w.'\-]+?)(?:\.\{(?P<names>.*)\}| as (?P<alias>\w+))?;?\s*$"
-)
+USE = re.compile(r"(?:pub )?(?:ghost )?use (?:Rattle\.)?(?P<path>[\w.'\-]+?)(?:\.\{(?P<names>.*)\}| as (?P<alias>\w+))?;?\s*$")
 CASE = re.compile(r"([A-Za-z][\w' ]*) : ")
 FUNCTION = re.compile(r"\s*(?:pub(?:\(\w+\))?\s+)?fn (\w+)")
 CLAUSE = re.compile(r"\s*(?:requires|ensures)\*?\s*(\w+)?\s*\{")
 
 
 class Key(NamedTuple):
-    """What a name refers to: a crate, a module of its `specs/`, and a name in it."""
+    """A crate, a module of its `specs/`, and a name in it."""
 
     crate: str
     module: str
     name: str
 
     def is_declared(self) -> bool:
-        """Returns whether it is a declaration of the Rust code: a type, its variants or a constant."""
+        """Returns whether the name is a type, a variant or a constant of the Rust code."""
         return self.module.split(".")[0] in ("declared", "contracts")
 
     def declaration(self) -> "Key":
-        """Returns the declaration of a declared name: its file, and the type or the constant."""
-        parts = self.module.split(".")[1:]
-        if parts[-1] == "TheConstants":
-            return Key(self.crate, ".".join(parts[:-1]), self.name)
-        parts = parts[:-1] if parts[-1] == "TheVariants" else parts
-        return Key(self.crate, ".".join(parts[:-1]), parts[-1])
+        """Returns the file, and the type or the constant, of a declared name."""
+        *parts, last = self.module.split(".")[1:]
+        if last == "TheConstants":
+            return Key(self.crate, ".".join(parts), self.name)
+        return Key(self.crate, ".".join(parts[:-1]), parts[-1]) if last == "TheVariants" else Key(self.crate, ".".join(parts), last)
 
-
-def module_of(path: str) -> tuple[str, str] | None:
-    """Returns the crate and the module that a path names; None if it names a proof."""
-    crate, _, rest = path.partition(".")
-    area, _, module = rest.partition(".")
-    if area == "proofs":
-        return None
-    return (crate, module) if area == "specs" else (crate, rest)
+    def place(self) -> str:
+        return f"{self.crate}/specs/{self.module.replace('.', '/')}.antt"
 
 
 class Imports:
@@ -56,34 +46,35 @@ class Imports:
         self.modules: dict[str, tuple[str, str]] = {}
 
     def add(self, line: str) -> None:
-        """Adds what a line imports, if it is a `use` of definitions."""
+        """Adds the imports of a line, if it is a `use` of definitions."""
         found = USE.match(line.strip())
-        place = module_of(found["path"]) if found else None
-        if not place:
+        crate, _, rest = found["path"].partition(".") if found else ("", "", "")
+        area, _, module = rest.partition(".")
+        if not found or area == "proofs":
             return
+        place = (crate, module if area == "specs" else rest)
         if found["names"] is None:
             self.modules[found["alias"] or place[1].split(".")[-1]] = place
-            return
-        for name in filter(None, (it.strip() for it in found["names"].split(","))):
-            name, _, alias = name.partition(" as ")
-            self.names[alias or name] = Key(*place, name)
-
-    def key_of(self, name: str) -> Key | None:
-        """Returns what a name in the file refers to."""
-        first, _, rest = name.partition(".")
-        if first in self.modules and rest:
-            return Key(*self.modules[first], rest.split(".")[0])
-        return self.names.get(first) or (Key(*self.here, first) if self.here else None)
+        for name in filter(None, (it.strip() for it in (found["names"] or "").split(","))):
+            path, _, alias = name.partition(" as ")
+            below, _, name = path.rpartition(".")
+            self.names[alias or name] = Key(place[0], ".".join(filter(None, (place[1], below))), name)
 
     def keys_in(self, text: str) -> set[Key]:
-        """Returns what the names in a text refer to."""
-        return {key for key in map(self.key_of, NAME.findall(text)) if key}
+        """Returns the keys of the names in a text."""
+        found = set()
+        for first, _, rest in (it.partition(".") for it in NAME.findall(text)):
+            if first in self.modules and rest:
+                found.add(Key(*self.modules[first], rest.split(".")[0]))
+            elif first in self.names or self.here:
+                found.add(self.names.get(first) or Key(*self.here, first))
+        return found
 
 
 class Definitions:
-    """The definitions of all crates: how many lines each has, and what it cites."""
+    """The definitions of all crates: the lines of each, and what it cites."""
 
-    def __init__(self, crates: Path) -> None:
+    def __init__(self, crates: Path = CRATES) -> None:
         self.crates = crates
         self.lines: dict[Key, int] = {}
         self.cites: dict[Key, set[Key]] = defaultdict(set)
@@ -92,45 +83,36 @@ class Definitions:
             self.read(crate, ".".join(module), file.read_text(encoding="utf-8"))
 
     def read(self, crate: str, module: str, text: str) -> None:
-        """Reads one file."""
-        imports = Imports((crate, module))
-        here, is_data = None, False
+        """Reads a file."""
+        imports, here, is_data = Imports((crate, module)), None, False
         for line in lines_of(text):
-            code = line.text.lstrip()
+            code = line.code
             if code.startswith(("use ", "pub use ")):
                 imports.add(code)
                 continue
             if code.startswith("--"):
                 continue
-            head = line.head()
             if line.opens_block():
                 here = None
-            if head:
-                here = Key(crate, module, head["type_name"] or head["name"])
-                is_data = head["type"] == "data"
+            if head := line.head():
+                here, is_data = Key(crate, module, head["type_name"] or head["name"]), head["type"] == "data"
                 self.lines.setdefault(here, 0)
             if here:
                 self.lines[here] += 1
                 self.cites[here] |= imports.keys_in(code)
-                is_case = is_data and line.indent == line.margin + 2
-                self.add_case(here, CASE.match(code) if is_case else None)
-
-    def add_case(self, data: Key, case: re.Match | None) -> None:
-        """Adds the names of a case: whoever cites one cites its `data`."""
-        for name in case[1].split() if case else ():
-            key = Key(data.crate, data.module, name)
-            self.cites[key].add(data)
-            self.lines.setdefault(key, 0)
+                case = CASE.match(code) if is_data and line.indent == line.margin + 2 else None
+                # A definition that cites a case cites its `data`.
+                for key in (Key(crate, module, name) for name in (case[1].split() if case else ())):
+                    self.cites[key].add(here)
+                    self.lines.setdefault(key, 0)
 
     def reached(self, keys: set[Key]) -> set[Key]:
         """Returns the definitions among some keys, and all that these cite, directly or not."""
-        found = {key for key in keys if key in self.lines}
-        left = list(found)
-        while left:
-            for key in self.cites[left.pop()]:
-                if key in self.lines and key not in found:
-                    found.add(key)
-                    left.append(key)
+        found, todo = set(), list(keys)
+        while todo:
+            if (key := todo.pop()) in self.lines and key not in found:
+                found.add(key)
+                todo += self.cites[key]
         return found
 
     def by_crate(self, keys: set[Key]) -> Counter[str]:
@@ -140,89 +122,67 @@ class Definitions:
             found[key.crate] += self.lines[key]
         return found
 
-    def cited_outside(self, keys: set[Key]) -> set[Key]:
-        """Returns what some definitions cite directly that is not defined in `specs/` of these crates.
-
-        A type and its variants are one.
-        """
+    def outside(self, keys: set[Key]) -> tuple[dict[Key, int], set[Key]]:
+        """Returns the Rust declarations that some definitions cite, with their lines, and definitions of the toolchain."""
         cited = set().union(*(self.cites[key] for key in keys))
-        return {it.declaration() if it.is_declared() else it for it in cited if it.is_declared() or not self.has(it.crate)}
+        has = lambda it: (self.crates / it.crate).is_dir()
+        declared = {it.declaration() if it.is_declared() else it for it in cited if it.is_declared() or not has(it)}
+        return {it: self.declaration_lines(it) for it in declared if has(it)}, {it for it in declared if not has(it)}
 
-    def has(self, crate: str) -> bool:
-        """Returns whether a crate is one of these."""
-        return (self.crates / crate).is_dir()
-
-    def declared(self, keys: set[Key]) -> dict[Key, int]:
-        """Returns the declarations of these crates' code that some definitions cite, and how many lines each has."""
-        cited = filter(lambda it: self.has(it.crate), self.cited_outside(keys))
-        return {it: declaration_lines(self.crates, it) for it in cited}
-
-    def of_toolchain(self, keys: set[Key]) -> set[Key]:
-        """Returns what some definitions cite of the toolchain."""
-        return {it for it in self.cited_outside(keys) if not self.has(it.crate)}
-
-
-def declaration_lines(crates: Path, key: Key) -> int:
-    """Returns how many lines a declaration has, without blank lines and comments."""
-    file = (crates / key.crate / "src").joinpath(*key.module.split(".")).with_suffix(".rt")
-    head = re.compile(rf"(?:pub(?:\(\w+\))? )?(?:enum|struct|const|static) {key.name}\b")
-    lines = file.read_text(encoding="utf-8").splitlines()
-    start = next(at for at, line in enumerate(lines) if head.match(line))
-    end = next(at for at, line in enumerate(lines) if at >= start and re.match(r"\S.*[;}]$|[;}]$", line))
-    return sum(1 for it in lines[start : end + 1] if it.strip() and not it.lstrip().startswith("//"))
+    def declaration_lines(self, key: Key) -> int:
+        """Returns how many lines a declaration has, without blank lines and comments."""
+        file = (self.crates / key.crate / "src").joinpath(*key.module.split(".")).with_suffix(".rt")
+        lines = file.read_text(encoding="utf-8").splitlines()
+        start = next(at for at, it in enumerate(lines) if re.match(rf"(?:pub(?:\(\w+\))? )?(?:enum|struct|const|static) {key.name}\b", it))
+        end = next(at for at, it in enumerate(lines) if at >= start and re.match(r"\S.*[;}]$|[;}]$", it))
+        return sum(1 for it in lines[start : end + 1] if it.strip() and not it.lstrip().startswith("//"))
 
 
 class PublicClause(NamedTuple):
     """A clause of a public function, and what it cites."""
 
-    file: Path
     function: str
     name: str
-    keys: frozenset[Key]
+    keys: set[Key]
 
 
 def clauses_in(file: Path) -> Iterator[PublicClause]:
     """Yields the clauses of the public functions in a file, those of public traits among them."""
-    imports = Imports(None)
+    imports, function, is_trait = Imports(None), "", False
     lines = iter(file.read_text(encoding="utf-8").splitlines())
-    function, is_trait = "", False
     for line in lines:
         imports.add(line)
         is_trait = line.startswith("pub trait ") or (is_trait and not line.startswith("}"))
-        found = FUNCTION.match(line)
-        if found:
+        if found := FUNCTION.match(line):
             function = found[1] if is_trait or line.lstrip().startswith("pub fn") else ""
-        head = CLAUSE.match(line)
-        if not head:
-            continue
-        text = line
-        while text.count("{") > text.count("}"):
-            text += "\n" + next(lines)
-        if function:
-            yield PublicClause(file, function, head[1] or "", frozenset(imports.keys_in(text)))
+        if head := CLAUSE.match(line):
+            text = line
+            while text.count("{") > text.count("}"):
+                text += "\n" + next(lines)
+            if function:
+                yield PublicClause(function, head[1] or "", imports.keys_in(text))
 
 
-def clauses_of(crates: Path, promise: str) -> set[Key]:
-    """Returns what a promise cites: a public function's clauses, or those of one name."""
+def clauses_of(crates: Path, function: str) -> list[PublicClause]:
+    """Returns the clauses of a public function, as CRATE.FUNCTION."""
+    crate, name = function.split(".")
+    return [it for file in sorted((crates / crate / "src").rglob("*.rt")) for it in clauses_in(file) if it.function == name]
+
+
+def keys_of(crates: Path, promise: str) -> set[Key]:
+    """Returns what a public function's clauses cite, or those of one name: CRATE.FUNCTION[.CLAUSE]."""
     crate, function, clause = (promise.split(".") + [""])[:3]
-    keys: set[Key] = set()
-    for file in sorted((crates / crate / "src").rglob("*.rt")):
-        for it in clauses_in(file):
-            if it.function == function and clause in ("", it.name):
-                keys |= it.keys
-    return keys
+    return set().union(*(it.keys for it in clauses_of(crates, f"{crate}.{function}") if clause in ("", it.name)))
 
 
 def private_citations(definitions: Definitions) -> Iterator[str]:
     """Yields each file outside `specs/Private` that cites one in it, and each public clause that reaches one."""
     is_private = lambda it: it.module.split(".")[0] == "Private" and it in definitions.lines
-    place = lambda it: f"{it.crate}/specs/{it.module.replace('.', '/')}.antt"
     for key, cited in sorted(definitions.cites.items()):
-        for other in sorted(filter(is_private, cited)):
-            if not is_private(key):
-                yield f"{place(key)}: {key.name} cites {other.name} of {place(other)}"
+        for other in sorted(filter(is_private, cited)) if not is_private(key) else ():
+            yield f"{key.place()}: {key.name} cites {other.name} of {other.place()}"
     for file in sorted(definitions.crates.glob("*/src/**/*.rt")):
         for clause in clauses_in(file):
-            for other in sorted(filter(is_private, definitions.reached(set(clause.keys)))):
+            for other in sorted(filter(is_private, definitions.reached(clause.keys))):
                 where = f"{file.relative_to(definitions.crates)}: {clause.function} {clause.name}".rstrip()
-                yield f"{where} reaches {other.name} of {place(other)}"
+                yield f"{where} reaches {other.name} of {other.place()}"

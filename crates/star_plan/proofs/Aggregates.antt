@@ -4,14 +4,9 @@ use Rattle.std.proofs.Math.Seq.{take-append_seam}
 use Rattle.std.proofs.lemmas.List.{drop-map, get_or-map, length-append, length-map, length-take-le, take-map}
 use Rattle.star_query.specs.Limits.{aggregates_in}
 use Rattle.star_query.specs.Tree.{Aggregate, Item, Name, aggregate, plain}
-use Rattle.star_plan.specs.declared.fault.PlanFault.TheVariants.{DuplicateAlias}
-use Rattle.star_plan.specs.declared.tree.Aggregate.{Aggregate as Named}
-use Rattle.star_plan.specs.Faults.{item_fault, item_fault_after}
-use Rattle.star_plan.specs.Private.Stages.{alias_fault}
-use Rattle.star_plan.specs.Names.{has_name}
+use Rattle.star_plan.specs.declared.{fault.PlanFault.TheVariants.DuplicateAlias, tree.Aggregate.Aggregate as Named}
+use Rattle.star_plan.specs.{Faults.item_fault, Faults.item_fault_after, Private.Stages.alias_fault, Names.has_name, Views.names_view, Private.Answers.IsNamedAt}
 use Rattle.star_plan.specs.Naming.{name_of_aggregate, aggregate_names, has_text, name_place, names_from}
-use Rattle.star_plan.specs.Views.{names_view}
-use Rattle.star_plan.specs.Private.Answers.{IsNamedAt}
 use Rattle.star_plan.proofs.Viewed.{BesideSoFar, beside_passed}
 
 names_split : (n : ℕ) (items : List Item) (i : ℕ) (x : Item) → i < length items

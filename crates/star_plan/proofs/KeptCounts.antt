@@ -1,30 +1,32 @@
 -- The counts of a plan are those of its query.
 use Rattle.std.proofs.Common.{◌≡◌, ◌∙◌, sym, ap, subst, ℕ, ◌+◌, ◌<◌, ◌≤◌, true, inl, inr, List, [], ◌∷◌, ◌++◌, Option, Some, None, length, nat_eq, option_map, arith, refl}
-use Rattle.std.specs.Cmp.Lexicographic.{pointwise}
-use Rattle.std.specs.List.{list_all, position, sum_by}
-use Rattle.std.specs.Option.{option_or}
-use Rattle.std.proofs.lemmas.Bool.{and_from, lt-ltb}
-use Rattle.std.proofs.lemmas.List.Quantifiers.{position-Some}
-use Rattle.std.proofs.lemmas.List.Sums.{sum_by-append, sum_by-cons}
-use Rattle.star_schema.specs.declared.column.ColumnId.{ColumnId}
-use Rattle.star_schema.specs.declared.group.GroupColumn.{GroupColumn}
+use Rattle.std.specs.{Cmp.Lexicographic.pointwise, List.list_all, List.position, List.sum_by, Option.option_or}
+use Rattle.std.proofs.lemmas.{Bool.and_from, Bool.lt-ltb, List.Quantifiers.position-Some, List.Sums.sum_by-append, List.Sums.sum_by-cons}
+use Rattle.star_schema.specs.declared.{column.ColumnId.ColumnId, group.GroupColumn.GroupColumn}
 use Rattle.star_schema.specs.declared.group.GroupColumn.TheVariants as group
 use Rattle.star_schema.specs.declared.group.SortKey as sorted
 use Rattle.star_query.specs.Tree as tree
 use Rattle.star_query.specs.Tree.{Item, Name, SortKey, Expression, column, constant, add, sub, mul, or, and, not, test, compare, between, Measure, count, fold}
 use Rattle.star_query.specs.Limits as asked
-use Rattle.star_plan.specs.Meaning.{RowCondition}
-use Rattle.star_plan.specs.Names.{column_at}
-use Rattle.star_plan.specs.Naming.{names_from, aggregate_column, key_column, resolved_key}
-use Rattle.star_plan.specs.Resolved.{conjuncts_of, item_column, items_from, resolved_measures, option_all, resolved_condition, resolved_expression, resolved_measure, resolved_test, where_conjuncts}
+use Rattle.star_plan.specs.{Meaning.RowCondition, Names.column_at, Naming.names_from, Naming.aggregate_column, Naming.key_column, Naming.resolved_key, Sound.is_group_column}
+use Rattle.star_plan.specs.Resolved.{conjuncts_of, item_column, items_from, resolved_measures, option_all, option_both, resolved_condition, resolved_expression, resolved_measure, resolved_test, where_conjuncts}
 use Rattle.star_query.specs.Limits.{comparisons_of, measure_operands, operands_of}
-use Rattle.star_plan.specs.Sound.{is_group_column}
 use Rattle.star_plan.proofs.Options.{both_gave, first_or_second, mapped_gave}
 
 abbrev sorted_by : GroupColumn → SortKey → sorted.SortKey
 sorted_by c k = record { column = c; direction = k.direction }
 
 -- ---- expressions and conditions
+
+-- a whole of two parts has what both have
+parts_counted : {S T : Type 0} (many : T → ℕ) (asks : S → ℕ) (f : S → Option T) (make : T → T → T)
+    → ((y z : T) → many (make y z) ≡ many y + many z) → (a b : S) (x : T)
+    → option_both make (f a) (f b) ≡ Some x → ((y : T) → f a ≡ Some y → many y ≡ asks a)
+    → ((y : T) → f b ≡ Some y → many y ≡ asks b) → many x ≡ asks a + asks b
+parts_counted many asks f make both a b x e first second =
+    let g = both_gave make (f a) (f b) x e in
+    ap many (sym g.made)
+    ∙ omega (arith, both g.left g.right, first g.left g.first, second g.right g.second)
 
 expression_operands : (e : Expression Name) (x : Expression ColumnId)
     → resolved_expression e ≡ Some x → operands_of x ≡ asked.operands_of e
@@ -33,29 +35,14 @@ expression_operands (tree.column n) x e = let g = mapped_gave column (column_at 
 expression_operands (tree.constant z) x e = let same : constant z ≡ x = cc in
     ap operands_of (sym same)
 expression_operands (tree.add a b) x e =
-    let g = both_gave add (resolved_expression a) (resolved_expression b) x e in
-    ap operands_of (sym g.made)
-    ∙ omega (
-      arith,
-      expression_operands a g.left g.first,
-      expression_operands b g.right g.second,
-    )
+    parts_counted operands_of asked.operands_of resolved_expression add (λ y z. refl) a b x e
+    (expression_operands a) (expression_operands b)
 expression_operands (tree.sub a b) x e =
-    let g = both_gave sub (resolved_expression a) (resolved_expression b) x e in
-    ap operands_of (sym g.made)
-    ∙ omega (
-      arith,
-      expression_operands a g.left g.first,
-      expression_operands b g.right g.second,
-    )
+    parts_counted operands_of asked.operands_of resolved_expression sub (λ y z. refl) a b x e
+    (expression_operands a) (expression_operands b)
 expression_operands (tree.mul a b) x e =
-    let g = both_gave mul (resolved_expression a) (resolved_expression b) x e in
-    ap operands_of (sym g.made)
-    ∙ omega (
-      arith,
-      expression_operands a g.left g.first,
-      expression_operands b g.right g.second,
-    )
+    parts_counted operands_of asked.operands_of resolved_expression mul (λ y z. refl) a b x e
+    (expression_operands a) (expression_operands b)
 
 resolved_operands : (m : tree.Measure tree.Name) (x : Measure ColumnId)
     → resolved_measure m ≡ Some x → measure_operands x ≡ asked.measure_operands m
@@ -67,21 +54,11 @@ resolved_operands (tree.fold f y) x e =
 condition_comparisons : (q : tree.Condition tree.Test) (x : RowCondition)
     → resolved_condition q ≡ Some x → comparisons_of x ≡ asked.comparisons_of q
 condition_comparisons (tree.or a b) x e =
-    let g = both_gave or (resolved_condition a) (resolved_condition b) x e in
-    ap comparisons_of (sym g.made)
-    ∙ omega (
-      arith,
-      condition_comparisons a g.left g.first,
-      condition_comparisons b g.right g.second,
-    )
+    parts_counted comparisons_of asked.comparisons_of resolved_condition or (λ y z. refl) a b x e
+    (condition_comparisons a) (condition_comparisons b)
 condition_comparisons (tree.and a b) x e =
-    let g = both_gave and (resolved_condition a) (resolved_condition b) x e in
-    ap comparisons_of (sym g.made)
-    ∙ omega (
-      arith,
-      condition_comparisons a g.left g.first,
-      condition_comparisons b g.right g.second,
-    )
+    parts_counted comparisons_of asked.comparisons_of resolved_condition and (λ y z. refl) a b x e
+    (condition_comparisons a) (condition_comparisons b)
 condition_comparisons (tree.not a) x e =
     let g = mapped_gave not (resolved_condition a) x e in
     ap comparisons_of (sym g.2) ∙ omega (arith, condition_comparisons a g.0 g.1)

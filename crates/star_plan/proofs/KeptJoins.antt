@@ -1,21 +1,16 @@
 -- The joins of a well named query: each by a foreign key, and each of another dimension.
-use Rattle.std.proofs.Common.{◌≡◌, ◌∙◌, ap, subst, ℕ, ◌+◌, ◌≤◌, Bool, true, false, not as negated, if◌then◌else◌, inl, inr, List, [], ◌∷◌, ◌++◌, Option, Some, None, length, arith, refl}
-use Rattle.std.specs.List.{AllByRecursion, list_all}
-use Rattle.std.proofs.lemmas.Bool.{and_from, and_parts, or_left, or_right}
-use Rattle.std.proofs.lemmas.List.Folds.{list_any-append}
-use Rattle.star_common.proofs.Firsts.{or_none}
-use Rattle.star_schema.specs.declared.table.TableId.{TableId}
+use Rattle.std.proofs.Common.{◌≡◌, ◌∙◌, sym, ap, subst, ℕ, ◌+◌, ◌≤◌, Bool, true, false, not as negated, if◌then◌else◌, inl, inr, List, [], ◌∷◌, ◌++◌, Option, Some, None, length, arith, refl}
+use Rattle.std.specs.List.{AllByRecursion, IsDistinct, list_all, list_any}
+use Rattle.std.proofs.lemmas.Bool.{and_from, and_parts, not-true, not_from_false}
+use Rattle.star_schema.specs.declared.{table.TableId.TableId, column.ColumnId.ColumnId}
 use Rattle.star_schema.specs.declared.table.TableId.TheVariants.{Date, Customer, Supplier, Part, Lineorder}
-use Rattle.star_schema.specs.declared.column.ColumnId.{ColumnId}
 use Rattle.star_schema.specs.Schema.{is_table, key_of, references, table_of}
 use Rattle.star_schema.proofs.Same.{table_same}
 use Rattle.star_query.specs.Tree.{Condition, Test, and, comparison, or, not, pair, test}
 use Rattle.star_plan.specs.declared.tree.Join.{Join}
-use Rattle.star_plan.specs.First.{first_after}
-use Rattle.star_plan.specs.Names.{column_at}
+use Rattle.star_plan.specs.{Names.column_at, Faults.of_pair, Faults.pair_fault, Sound.are_distinct, WellNamed.IsThere}
 use Rattle.star_plan.specs.Joins.{Pair, is_foreign, is_joined, is_lone_key, join_by, join_of, joins, joins_of, pairs_of, refers, where_pairs}
-use Rattle.star_plan.specs.Faults.{of_pair, pair_fault}
-use Rattle.star_plan.specs.Sound.{are_distinct}
+use Rattle.star_plan.proofs.Apart.{IsFresh, some_from, some_to}
 use Rattle.star_plan.proofs.Options.{first_or_second}
 
 -- ---- each by a foreign key
@@ -77,62 +72,86 @@ where_foreign (Some c) = joins_foreign (pairs_of true c) (pairs_foreign true c)
 
 -- ---- each of another dimension
 
-joined_before : (before : List Pair) (p : Pair) (t : TableId) → is_joined before t ≡ true
-    → is_joined (before ++ p ∷ []) t ≡ true
-joined_before before p t e = list_any-append (λ q. joins t q.join) before (p ∷ []) ∙ or_left _ _ e
+-- two comparisons join one dimension
+abbrev of_one : Option Join → Option Join → Bool
+of_one o None = false
+of_one o (Some j) = joins (table_of j.key) o
 
-joined_last : (before : List Pair) (p : Pair) (j : Join) (t : TableId) → p.join ≡ Some j
-    → is_table t (table_of j.key) ≡ true → is_joined (before ++ p ∷ []) t ≡ true
-joined_last before p j t h e =
-    list_any-append (λ q. joins t q.join) before (p ∷ [])
-    ∙ or_right (is_joined before t) _ (or_left _ false (ap (joins t) h ∙ e))
+abbrev pub same_join : Pair → Pair → Bool
+same_join p q = of_one p.join q.join
 
--- what has no fault isn't joined before
-not_joined : (before : List Pair) (p : Pair) (j : Join) → p.join ≡ Some j
-    → pair_fault before p ≡ None → is_joined before (table_of j.key) ≡ false
-not_joined before p j h e = go (is_joined before (table_of j.key)) refl (rw h at e)
-  where
-    go : (b : Bool) → is_joined before (table_of j.key) ≡ b → of_pair before p.at (Some j) ≡ None
-        → is_joined before (table_of j.key) ≡ false
-    go true h e = absurd (let wrong = rw h at e in cc)
-    go false h e = h
+of_pair_known : (before : List Pair) (at : ℕ) (o : Option Join) → of_pair before at o ≡ None
+    → IsThere o × (list_any (λ p. of_one p.join o) before ≡ false)
+of_pair_known before at None e = absurd (cc)
+of_pair_known before at (Some j) e =
+    ((j, refl), some_to (is_joined before (table_of j.key)) _ e)
 
-not_same : (a b : Bool) → (a ≡ true → b ≡ true) → b ≡ false → negated a ≡ true
-not_same true b f e = absurd (let yes = f refl in cc)
-not_same false b f e = refl
+pub pair_known : (before : List Pair) (p : Pair) → pair_fault before p ≡ None
+    → IsThere p.join × IsFresh same_join before p
+pair_known before p e = of_pair_known before p.at p.join e
 
--- a table that is joined before is that of no later join
-later_apart : (t : TableId) (before ps : List Pair)
-    → ((u : TableId) → is_table u t ≡ true → is_joined before u ≡ true)
-    → first_after pair_fault before ps ≡ None
-    → list_all (λ q. negated (is_table (table_of q.key) t)) (joins_of ps) ≡ true
-later_apart t before [] known e = refl
-later_apart t before (p ∷ ps) known e =
-    let parts = or_none (pair_fault before p) (first_after pair_fault (before ++ p ∷ []) ps) e in
-    go p.join refl parts.0 (later_apart t (before ++ p ∷ []) ps
-    (λ u h. joined_before before p u (known u h)) parts.1)
-  where
-    go : (o : Option Join) → p.join ≡ o → pair_fault before p ≡ None
-        → list_all (λ q. negated (is_table (table_of q.key) t)) (joins_of ps) ≡ true
-        → list_all (λ q. negated (is_table (table_of q.key) t)) (joins_of (p ∷ ps)) ≡ true
-    go None h fault rest = rw h rest
-    go (Some j) h fault rest =
-        rw h (and_from _ _ (not_same _ _ (known (table_of j.key)) (not_joined before p j h fault))
-        rest)
+of_pair_none : (before : List Pair) (at : ℕ) (o : Option Join)
+    → list_any (λ p. of_one p.join o) before ≡ false → IsThere o → of_pair before at o ≡ None
+of_pair_none before at None fresh there = absurd (let wrong = there.1 in cc)
+of_pair_none before at (Some j) fresh there =
+    some_from (is_joined before (table_of j.key)) _ fresh
 
-pub distinct : (before ps : List Pair) → first_after pair_fault before ps ≡ None
+pub pair_none : (before : List Pair) (p : Pair) → IsFresh same_join before p → IsThere p.join
+    → pair_fault before p ≡ None
+pair_none before p fresh there = of_pair_none before p.at p.join fresh there
+
+-- each of them a join
+abbrev AreThere : List Pair → Type 0
+AreThere ps = AllByRecursion (λ p. IsThere p.join) ps
+
+-- a join of another dimension
+abbrev is_other : Join → Join → Bool
+is_other j q = negated (is_table (table_of q.key) (table_of j.key))
+
+cons_joined : (p : Pair) (ps : List Pair) (j : Join) → p.join ≡ Some j
+    → joins_of (p ∷ ps) ≡ j ∷ joins_of ps
+cons_joined p ps j h = rw h refl
+
+others_to : (j : Join) (ps : List Pair) → AreThere ps
+    → AllByRecursion (λ q. of_one (Some j) q.join ≡ false) ps
+    → list_all (is_other j) (joins_of ps) ≡ true
+others_to j [] all none = refl
+others_to j (q ∷ ps) all none =
+    ap (list_all (is_other j)) (cons_joined q ps all.0.0 all.0.1)
+    ∙ and_from (is_other j all.0.0) (list_all (is_other j) (joins_of ps))
+    (not_from_false _ (sym (ap (of_one (Some j)) all.0.1) ∙ none.0)) (others_to j ps all.1 none.1)
+
+others_from : (j : Join) (ps : List Pair) → AreThere ps
+    → list_all (is_other j) (joins_of ps) ≡ true
+    → AllByRecursion (λ q. of_one (Some j) q.join ≡ false) ps
+others_from j [] all e = tt
+others_from j (q ∷ ps) all e =
+    let both = and_parts (is_other j all.0.0) (list_all (is_other j) (joins_of ps))
+    (sym (ap (list_all (is_other j)) (cons_joined q ps all.0.0 all.0.1)) ∙ e) in
+    (ap (of_one (Some j)) all.0.1 ∙ not-true _ both.0, others_from j ps all.1 both.1)
+
+pub distinct : (ps : List Pair) → AreThere ps → IsDistinct same_join ps
     → are_distinct (joins_of ps) ≡ true
-distinct before [] e = refl
-distinct before (p ∷ ps) e =
-    let parts = or_none (pair_fault before p) (first_after pair_fault (before ++ p ∷ []) ps) e in
-    go p.join refl parts.1 (distinct (before ++ p ∷ []) ps parts.1)
-  where
-    go : (o : Option Join) → p.join ≡ o → first_after pair_fault (before ++ p ∷ []) ps ≡ None
-        → are_distinct (joins_of ps) ≡ true → are_distinct (joins_of (p ∷ ps)) ≡ true
-    go None h later rest = rw h rest
-    go (Some j) h later rest =
-        rw h (and_from _ _ (later_apart (table_of j.key) (before ++ p ∷ []) ps
-        (λ u same. joined_last before p j u h same) later) rest)
+unfolding IsDistinct
+distinct [] all apart = refl
+distinct (p ∷ ps) all apart =
+    ap are_distinct (cons_joined p ps all.0.0 all.0.1)
+    ∙ and_from (list_all (is_other all.0.0) (joins_of ps)) (are_distinct (joins_of ps))
+    (others_to all.0.0 ps all.1
+    (subst (λ o. AllByRecursion (λ q. of_one o q.join ≡ false) ps) all.0.1 apart.0))
+    (distinct ps all.1 apart.1)
+
+pub are_apart : (ps : List Pair) → AreThere ps → are_distinct (joins_of ps) ≡ true
+    → IsDistinct same_join ps
+unfolding IsDistinct
+are_apart [] all e = tt
+are_apart (p ∷ ps) all e =
+    let both = and_parts (list_all (is_other all.0.0) (joins_of ps)) (are_distinct (joins_of ps))
+    (sym (ap are_distinct (cons_joined p ps all.0.0 all.0.1)) ∙ e) in (
+      subst (λ o. AllByRecursion (λ q. of_one o q.join ≡ false) ps) (sym all.0.1)
+          (others_from all.0.0 ps all.1 both.0),
+      are_apart ps all.1 both.1,
+    )
 
 -- ---- at most four
 

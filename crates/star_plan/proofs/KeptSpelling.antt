@@ -1,33 +1,19 @@
 -- The names, numbers and texts of a plan are those of its query, or names made of a function's word
 -- and a number.
 use Rattle.std.proofs.Common.{◌≡◌, ◌∙◌, sym, ap, ℕ, ◌+◌, ◌<◌, ◌≤◌, ◌^◌, Bool, true, ◌&&◌, List, [], ◌∷◌, ◌++◌, Option, Some, None, length, option_map, arith, refl, length-append}
-use Rattle.std.specs.Prelude.{decimal}
-use Rattle.std.specs.List.{list_all}
-use Rattle.std.specs.Str.Parse.{AllDigits}
-use Rattle.std.proofs.lemmas.Fmt.{decimal_is_IsNumeral, length-decimal-le}
-use Rattle.std.proofs.lemmas.Str.Parse.{tells_digits}
-use Rattle.std.proofs.lemmas.Bool.{and_from, and_parts, le-leb, or_right}
-use Rattle.std.proofs.lemmas.List.Folds.{list_all-append}
+use Rattle.std.specs.{Prelude.decimal, List.list_all, Str.Parse.AllDigits}
+use Rattle.std.proofs.lemmas.{Fmt.decimal_is_IsNumeral, Fmt.length-decimal-le, Str.Parse.tells_digits, Bool.and_from, Bool.and_parts, Bool.le-leb, Bool.or_right, List.Folds.list_all-append}
 use Rattle.star_schema.specs.declared.column.ColumnId.{ColumnId}
 use Rattle.star_query.specs.declared.token.Fold.TheVariants as fold
 use Rattle.star_query.specs.Tree as tree
-use Rattle.star_query.specs.Tree.{Aggregate, Item, Literal, Name, Expression, column, constant, add, sub, mul, or, and, not, test, compare, between, Measure, count as counted, fold as folds}
-use Rattle.star_query.specs.Tokens.{begins_with_letter, is_letter, is_word_byte}
+use Rattle.star_query.specs.Tree.{Aggregate, Item, Name, Expression, column, constant, add, sub, mul, or, and, not, test, compare, between, Measure, count as counted, fold as folds}
+use Rattle.star_query.specs.{Tokens.begins_with_letter, Tokens.is_letter, Tokens.is_word_byte, Spelled.is_name}
 use Rattle.star_query.specs.Spelled as asked
-use Rattle.star_query.specs.Spelled.{is_name}
-use Rattle.star_plan.specs.Meaning.{RowCondition}
-use Rattle.star_plan.specs.Names.{column_at, literal_value}
-use Rattle.star_plan.specs.Naming.{name_of_aggregate, default_name, function_word, names_from}
+use Rattle.star_plan.specs.{Meaning.RowCondition, Names.column_at, Naming.name_of_aggregate, Naming.default_name, Naming.function_word, Naming.names_from, Spelled.condition_is_spelled, Spelled.expression_is_spelled, Spelled.measure_is_spelled, Spelled.value_is_spelled}
 use Rattle.star_plan.specs.Resolved.{conjuncts_of, resolved_measures, option_both, resolved_condition, resolved_expression, resolved_measure, resolved_test, where_conjuncts}
-use Rattle.star_plan.specs.Spelled.{condition_is_spelled, expression_is_spelled, measure_is_spelled, value_is_spelled}
 use Rattle.star_plan.proofs.Options.{both_gave, mapped_gave}
 
 -- ---- numbers and texts
-
-value_spelled : (l : Literal) → asked.literal_is_spelled l ≡ true
-    → value_is_spelled (literal_value l) ≡ true
-value_spelled (tree.number z) e = e
-value_spelled (tree.text bytes) e = e
 
 -- a whole of two parts
 both_spelled : {S T : Type 0} (asks : S → Bool) (passes : T → Bool) (f : S → Option T)
@@ -100,19 +86,19 @@ condition_spelled (tree.not a) x e good =
 condition_spelled (tree.test (tree.pair m n)) x e good = absurd (cc)
 condition_spelled (tree.test (tree.comparison (tree.compare n s l))) x e good =
     let t = mapped_gave test (resolved_test (tree.comparison (tree.compare n s l))) x e in
-    let g = mapped_gave (λ c. compare c s (literal_value l)) (column_at n) t.0 t.1 in
-    let parts = and_parts (is_name n.text) (asked.literal_is_spelled l) good in
+    let g = mapped_gave (λ c. compare c s l) (column_at n) t.0 t.1 in
+    let parts = and_parts (is_name n.text) (asked.value_is_spelled l) good in
     ap condition_is_spelled (sym t.2) ∙ ap (λ y. condition_is_spelled (test y)) (sym g.2)
-    ∙ value_spelled l parts.1
+    ∙ parts.1
 condition_spelled (tree.test (tree.comparison (tree.between n from upto))) x e good =
     let t = mapped_gave test (resolved_test (tree.comparison (tree.between n from upto))) x e in
-    let g = mapped_gave (λ c. between c (literal_value from) (literal_value upto)) (column_at n) t.0
+    let g = mapped_gave (λ c. between c from upto) (column_at n) t.0
     t.1 in
     let parts = and_parts (is_name n.text)
-    (asked.literal_is_spelled from && asked.literal_is_spelled upto) good in
-    let ends = and_parts (asked.literal_is_spelled from) (asked.literal_is_spelled upto) parts.1 in
+    (asked.value_is_spelled from && asked.value_is_spelled upto) good in
+    let ends = and_parts (asked.value_is_spelled from) (asked.value_is_spelled upto) parts.1 in
     ap condition_is_spelled (sym t.2) ∙ ap (λ y. condition_is_spelled (test y)) (sym g.2)
-    ∙ and_from _ _ (value_spelled from ends.0) (value_spelled upto ends.1)
+    ∙ and_from _ _ ends.0 ends.1
 
 lone_spelled : (q : tree.Condition tree.Test) (xs : List RowCondition)
     → option_map (λ x. x ∷ []) (resolved_condition q) ≡ Some xs

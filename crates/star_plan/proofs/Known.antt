@@ -1,33 +1,25 @@
 -- The names of a well named query stand for something that is in scope and of the kind that is
 -- asked of it.
 use Rattle.std.proofs.Common.{◌≡◌, ◌∙◌, sym, ap, ◌+◌, ℕ, Bool, true, false, ◌&&◌, ◌||◌, if◌then◌else◌, List, [], ◌∷◌, ◌++◌, Option, Some, None, nat_eq, option_map, refl}
-use Rattle.std.specs.Cmp.Lexicographic.{pointwise, same_text}
-use Rattle.std.specs.List.{AllByRecursion, list_all, list_any}
-use Rattle.std.proofs.lemmas.Bool.{and_from, and_parts}
-use Rattle.std.proofs.lemmas.List.Folds.{list_all-append}
+use Rattle.std.specs.{Cmp.Lexicographic.pointwise, Cmp.Lexicographic.same_text, List.AllByRecursion, List.list_all, List.list_any}
+use Rattle.std.proofs.lemmas.{Bool.and_from, List.Folds.list_all-append}
 use Rattle.star_common.proofs.Firsts.{or_none}
-use Rattle.star_schema.specs.declared.table.TableId.{TableId}
-use Rattle.star_schema.specs.declared.table.TableId.TheVariants.{Lineorder}
-use Rattle.star_schema.specs.declared.column.ColumnId.{ColumnId}
+use Rattle.star_schema.specs.declared.{table.TableId.TableId, table.TableId.TheVariants.Lineorder, column.ColumnId.ColumnId, group.GroupColumn.GroupColumn}
 use Rattle.star_schema.specs.declared.column.Kind.TheVariants as kind
-use Rattle.star_schema.specs.declared.group.GroupColumn.{GroupColumn}
 use Rattle.star_schema.specs.declared.group.GroupColumn.TheVariants as group
-use Rattle.star_schema.specs.Tables.{kind_of_value}
+use Rattle.star_schema.specs.{Tables.kind_of_value, Schema.is_table, Schema.table_name, Schema.table_of}
 use Rattle.star_schema.specs.declared.group.SortKey as sorted
 use Rattle.star_common.specs.First.{first_answer}
-use Rattle.star_schema.specs.Schema.{is_table, kind_of, table_name, table_of}
 use Rattle.star_schema.proofs.NamesApart.{table_by_name}
 use Rattle.star_query.specs.Tree as tree
-use Rattle.star_query.specs.Tree.{Item, Literal, Name, SortKey, Expression, column, constant, add, sub, mul, or, and, not, test, compare, between, Measure, count, fold}
+use Rattle.star_query.specs.Tree.{Item, Name, SortKey, Expression, column, constant, add, sub, mul, or, and, not, test, compare, between, Measure, count, fold}
 use Rattle.star_plan.specs.declared.tree.Join.{Join}
-use Rattle.star_plan.specs.First.{first_after}
-use Rattle.star_plan.specs.Meaning.{RowCondition}
-use Rattle.star_plan.specs.Names.{column_at, has_name, is_of, literal_value, same_kind, table_called}
-use Rattle.star_plan.specs.Uses.{Use, expression_uses, kind_of_literal, measure_uses, where_uses}
-use Rattle.star_plan.specs.Private.Stages.{condition_uses, groups_uses, items_uses}
+use Rattle.star_plan.specs.{Uses.Use, Uses.expression_uses, Uses.measure_uses, Uses.where_uses, Private.Stages.condition_uses, Private.Stages.groups_uses, Private.Stages.items_uses, Naming.key_column, Naming.resolved_key}
+use Rattle.star_plan.specs.Names.{column_at, has_name, is_of, table_at, table_called}
+use Rattle.star_plan.specs.WellNamed.{is_grouped, is_reached}
+use Rattle.star_plan.proofs.Apart.{each}
 use Rattle.star_plan.specs.Joins.{Pair, is_joined, joins_of, pairs_of, where_pairs}
-use Rattle.star_plan.specs.Naming.{key_column, resolved_key}
-use Rattle.star_plan.specs.Faults.{item_fault, key_fault, use_kind_fault, missing_fault, pair_fault, scope_fault, of_column, of_missing}
+use Rattle.star_plan.specs.Faults.{item_fault, key_fault, use_kind_fault, missing_fault, scope_fault, of_column, of_missing}
 use Rattle.star_plan.specs.Resolved.{conjuncts_of, where_conjuncts, items_from, resolved_measures, option_all, option_both, resolved_condition, resolved_expression, resolved_measure}
 use Rattle.star_plan.proofs.Sought.{is_there, key_sought, order_sought}
 use Rattle.star_plan.specs.Sound.{condition_is_sound, expression_is_sound, in_scope, joins_table, measure_is_sound}
@@ -58,232 +50,149 @@ each_right P (x ∷ xs) ys all = each_right P xs ys all.1
 
 -- ---- one name
 
+pub named_of : {A : Type 0} (b : Bool) (x : A) → (if b then None else Some x) ≡ None → b ≡ true
+named_of true x e = refl
+named_of false x e = absurd (cc)
+
 -- the column is of a table of FROM
 abbrev IsNamed : List Name → ColumnId → Type 0
 IsNamed tables c = has_name tables (table_name (table_of c)) ≡ true
 
-scope_known : (tables : List Name) (at : ℕ) (o : Option ColumnId) → of_column tables at o ≡ None
+pub scope_known : (tables : List Name) (at : ℕ) (o : Option ColumnId) → of_column tables at o ≡ None
     → (c : ColumnId) × (o ≡ Some c) × IsNamed tables c
 scope_known tables at None e = absurd (cc)
-scope_known tables at (Some c) e = (c, refl, go (has_name tables (table_name (table_of c))) refl e)
-  where
-    go : (b : Bool) → has_name tables (table_name (table_of c)) ≡ b
-        → of_column tables at (Some c) ≡ None → has_name tables (table_name (table_of c)) ≡ true
-    go true h e = h
-    go false h e = absurd (let wrong = rw h at e in cc)
+scope_known tables at (Some c) e =
+    (c, refl, named_of (has_name tables (table_name (table_of c))) _ e)
 
-kind_known : (u : Use) → use_kind_fault u ≡ None → u.fits ≡ true
-kind_known u e = go u.fits refl e
-  where
-    go : (b : Bool) → u.fits ≡ b → use_kind_fault u ≡ None → u.fits ≡ true
-    go true h e = h
-    go false h e = absurd (let wrong = rw h at e in cc)
+-- ---- a whole of parts that are known
 
--- ---- expressions
+-- there is something, and it is sound
+abbrev Known : {A : Type 0} → (A → Bool) → Option A → Type 0
+Known {A} sound o = (x : A) × (o ≡ Some x) × (sound x ≡ true)
 
-abbrev AreScoped : List Name → List Use → Type 0
-AreScoped tables us = AllByRecursion (λ u. scope_fault tables u ≡ None) us
+both_known : {T : Type 0} (sound : T → Bool) (make : T → T → T)
+    → ((y z : T) → sound (make y z) ≡ (sound y && sound z)) → (a b : Option T) → Known sound a
+    → Known sound b → Known sound (option_both make a b)
+both_known sound make both a b l r =
+    (make l.0 r.0, λ i. option_both make (l.1 i) (r.1 i), both l.0 r.0 ∙ and_from _ _ l.2 r.2)
 
-abbrev AreFit : List Use → Type 0
-AreFit us = AllByRecursion (λ u. use_kind_fault u ≡ None) us
+lone_known : {T : Type 0} (sound : T → Bool) (o : Option T) → Known sound o
+    → Known (list_all sound) (option_map (λ y. y ∷ []) o)
+lone_known sound o k = (k.0 ∷ [], ap (option_map (λ y. y ∷ [])) k.1, and_from _ _ k.2 refl)
+
+-- ---- expressions and conditions
+
+-- in scope, and of the kind that is asked of it
+abbrev pub AreGood : List Name → List Use → Type 0
+AreGood tables us =
+    AllByRecursion (λ u. (scope_fault tables u ≡ None) × (use_kind_fault u ≡ None)) us
+
+-- each comparison of two columns is a join
+abbrev AreJoins : List Pair → Type 0
+AreJoins ps = AllByRecursion (λ p. (j : Join) × (p.join ≡ Some j)) ps
 
 -- what stands in FROM is in scope
 abbrev pub Reaches : List Name → List Join → Type 0
 Reaches tables js = (c : ColumnId) → has_name tables (table_name (table_of c)) ≡ true
     → in_scope js (table_of c) ≡ true
 
-abbrev KnownExpression : List Join → Expression Name → Type 0
-KnownExpression js e = (x : Expression ColumnId) × (resolved_expression e ≡ Some x)
-    × (expression_is_sound js x ≡ true)
+module _ (tables : List Name) (js : List Join) (reach : Reaches tables js) where
+  expression_known : (e : Expression Name) → AreGood tables (expression_uses e)
+      → Known (expression_is_sound js) (resolved_expression e)
+  expression_known (tree.column n) good =
+      let c = scope_known tables n.place (column_at n) good.0.0 in
+      let k : is_of kind.Number (column_at n) ≡ true = named_of _ _ good.0.1 in
+      (column c.0, ap (option_map column) c.1, and_from _ _ (reach c.0 c.2) (rw c.1 at k))
+  expression_known (tree.constant z) good = (constant z, refl, refl)
+  expression_known (tree.add a b) good =
+      both_known (expression_is_sound js) add (λ y z. refl) _ _
+      (expression_known a (each_left _ (expression_uses a) (expression_uses b) good))
+      (expression_known b (each_right _ (expression_uses a) (expression_uses b) good))
+  expression_known (tree.sub a b) good =
+      both_known (expression_is_sound js) sub (λ y z. refl) _ _
+      (expression_known a (each_left _ (expression_uses a) (expression_uses b) good))
+      (expression_known b (each_right _ (expression_uses a) (expression_uses b) good))
+  expression_known (tree.mul a b) good =
+      both_known (expression_is_sound js) mul (λ y z. refl) _ _
+      (expression_known a (each_left _ (expression_uses a) (expression_uses b) good))
+      (expression_known b (each_right _ (expression_uses a) (expression_uses b) good))
 
-expression_known : (tables : List Name) (js : List Join) → Reaches tables js → (e : Expression Name)
-    → AreScoped tables (expression_uses e) → AreFit (expression_uses e) → KnownExpression js e
-expression_known tables js reach (tree.column n) scoped fit =
-    let s = scope_known tables n.place (column_at n) scoped.0 in
-    let k : is_of kind.Number (column_at n) ≡ true =
-    kind_known (record {
-      column = column_at n;
-      fits = is_of kind.Number (column_at n);
-      at =
-          n.place;
-    }) fit.0 in
-    (column s.0, ap (option_map column) s.1, and_from _ _ (reach s.0 s.2) (rw s.1 at k))
-expression_known tables js reach (tree.constant z) scoped fit = (constant z, refl, refl)
-expression_known tables js reach (tree.add a b) scoped fit =
-    let l = expression_known tables js reach a
-    (each_left _ (expression_uses a) (expression_uses b) scoped)
-    (each_left _ (expression_uses a) (expression_uses b) fit) in
-    let r = expression_known tables js reach b
-    (each_right _ (expression_uses a) (expression_uses b) scoped)
-    (each_right _ (expression_uses a) (expression_uses b) fit) in
-    (add l.0 r.0, λ i. option_both add (l.1 i) (r.1 i), and_from _ _ l.2 r.2)
-expression_known tables js reach (tree.sub a b) scoped fit =
-    let l = expression_known tables js reach a
-    (each_left _ (expression_uses a) (expression_uses b) scoped)
-    (each_left _ (expression_uses a) (expression_uses b) fit) in
-    let r = expression_known tables js reach b
-    (each_right _ (expression_uses a) (expression_uses b) scoped)
-    (each_right _ (expression_uses a) (expression_uses b) fit) in
-    (sub l.0 r.0, λ i. option_both sub (l.1 i) (r.1 i), and_from _ _ l.2 r.2)
-expression_known tables js reach (tree.mul a b) scoped fit =
-    let l = expression_known tables js reach a
-    (each_left _ (expression_uses a) (expression_uses b) scoped)
-    (each_left _ (expression_uses a) (expression_uses b) fit) in
-    let r = expression_known tables js reach b
-    (each_right _ (expression_uses a) (expression_uses b) scoped)
-    (each_right _ (expression_uses a) (expression_uses b) fit) in
-    (mul l.0 r.0, λ i. option_both mul (l.1 i) (r.1 i), and_from _ _ l.2 r.2)
+  measure_known : (m : tree.Measure tree.Name) → AreGood tables (measure_uses m)
+      → Known (measure_is_sound js) (resolved_measure m)
+  measure_known tree.count good = (count, refl, refl)
+  measure_known (tree.fold f e) good =
+      let x = expression_known e good in (fold f x.0, ap (option_map (fold f)) x.1, x.2)
 
-measure_known : (tables : List Name) (js : List Join) → Reaches tables js
-    → (m : tree.Measure tree.Name) → AreScoped tables (measure_uses m) → AreFit (measure_uses m)
-    → (x : Measure ColumnId) × (resolved_measure m ≡ Some x) × (measure_is_sound js x ≡ true)
-measure_known tables js reach tree.count scoped fit = (count, refl, refl)
-measure_known tables js reach (tree.fold f e) scoped fit =
-    let x = expression_known tables js reach e scoped fit in
-    (fold f x.0, ap (option_map (fold f)) x.1, x.2)
+  pub measures_known : (is' : List Item) → AreGood tables (items_uses is')
+      → Known (list_all (measure_is_sound js)) (resolved_measures is')
+  measures_known [] good = ([], refl, refl)
+  measures_known (tree.plain n ∷ is') good = measures_known is' good.1
+  measures_known (tree.aggregate a ∷ is') good =
+      let m = measure_known a.measure
+      (each_left _ (measure_uses a.measure) (items_uses is') good) in
+      let ms = measures_known is' (each_right _ (measure_uses a.measure) (items_uses is') good) in
+      (m.0 ∷ ms.0, λ i. option_both (λ x xs. x ∷ xs) (m.1 i) (ms.1 i), and_from _ _ m.2 ms.2)
 
-pub measures_known : (tables : List Name) (js : List Join) → Reaches tables js → (is' : List Item)
-    → AreScoped tables (items_uses is') → AreFit (items_uses is')
-    → (ms : List (Measure ColumnId)) × (resolved_measures is' ≡ Some ms)
-    × (list_all (measure_is_sound js) ms ≡ true)
-measures_known tables js reach [] scoped fit = ([], refl, refl)
-measures_known tables js reach (tree.plain n ∷ is') scoped fit =
-    measures_known tables js reach is' scoped.1 fit.1
-measures_known tables js reach (tree.aggregate a ∷ is') scoped fit =
-    let m = measure_known tables js reach a.measure
-    (each_left _ (measure_uses a.measure) (items_uses is') scoped)
-    (each_left _ (measure_uses a.measure) (items_uses is') fit) in
-    let ms = measures_known tables js reach is'
-    (each_right _ (measure_uses a.measure) (items_uses is') scoped)
-    (each_right _ (measure_uses a.measure) (items_uses is') fit) in
-    (m.0 ∷ ms.0, λ i. option_both (λ x xs. x ∷ xs) (m.1 i) (ms.1 i), and_from _ _ m.2 ms.2)
+  condition_known : (q : tree.Condition tree.Test) → AreJoins (pairs_of false q)
+      → AreGood tables (condition_uses q) → Known (condition_is_sound js) (resolved_condition q)
+  condition_known (tree.or a b) pairs good =
+      both_known (condition_is_sound js) or (λ y z. refl) _ _
+      (condition_known a (each_left _ (pairs_of false a) (pairs_of false b) pairs)
+      (each_left _ (condition_uses a) (condition_uses b) good))
+      (condition_known b (each_right _ (pairs_of false a) (pairs_of false b) pairs)
+      (each_right _ (condition_uses a) (condition_uses b) good))
+  condition_known (tree.and a b) pairs good =
+      both_known (condition_is_sound js) and (λ y z. refl) _ _
+      (condition_known a (each_left _ (pairs_of false a) (pairs_of false b) pairs)
+      (each_left _ (condition_uses a) (condition_uses b) good))
+      (condition_known b (each_right _ (pairs_of false a) (pairs_of false b) pairs)
+      (each_right _ (condition_uses a) (condition_uses b) good))
+  condition_known (tree.not a) pairs good =
+      let x = condition_known a pairs good in (not x.0, ap (option_map not) x.1, x.2)
+  condition_known (tree.test (tree.pair m n)) pairs good = absurd (let j = pairs.0.1 in cc)
+  condition_known (tree.test (tree.comparison (tree.compare n s l))) pairs good =
+      let c = scope_known tables n.place (column_at n) good.0.0 in
+      let k : is_of (kind_of_value l) (column_at n) ≡ true = named_of _ _ good.0.1 in (
+        test (compare c.0 s l),
+        ap (λ o. option_map test (option_map (λ d. compare d s l) o)) c.1,
+        and_from _ _ (reach c.0 c.2) (rw c.1 at k),
+      )
+  condition_known (tree.test (tree.comparison (tree.between n from upto))) pairs good =
+      let c = scope_known tables n.place (column_at n) good.0.0 in
+      let k : (is_of (kind_of_value from) (column_at n)
+      && is_of (kind_of_value upto) (column_at n)) ≡ true = named_of _ _ good.0.1 in (
+        test (between c.0 from upto),
+        ap (λ o. option_map test (option_map (λ d. between d from upto) o)) c.1,
+        and_from _ _ (reach c.0 c.2) (rw c.1 at k),
+      )
 
--- ---- conditions
+  conjuncts_known : (q : tree.Condition tree.Test) → AreJoins (pairs_of true q)
+      → AreGood tables (condition_uses q)
+      → Known (list_all (condition_is_sound js)) (conjuncts_of q)
+  conjuncts_known (tree.and a b) pairs good =
+      both_known (list_all (condition_is_sound js)) (λ xs ys. xs ++ ys)
+      (list_all-append (condition_is_sound js)) _ _
+      (conjuncts_known a (each_left _ (pairs_of true a) (pairs_of true b) pairs)
+      (each_left _ (condition_uses a) (condition_uses b) good))
+      (conjuncts_known b (each_right _ (pairs_of true a) (pairs_of true b) pairs)
+      (each_right _ (condition_uses a) (condition_uses b) good))
+  conjuncts_known (tree.test (tree.pair m n)) pairs good = ([], refl, refl)
+  conjuncts_known (tree.or a b) pairs good =
+      lone_known _ _ (condition_known (tree.or a b) pairs good)
+  conjuncts_known (tree.not a) pairs good =
+      lone_known _ _ (condition_known (tree.not a) pairs good)
+  conjuncts_known (tree.test (tree.comparison (tree.compare n s l))) pairs good =
+      lone_known _ _
+      (condition_known (tree.test (tree.comparison (tree.compare n s l))) pairs good)
+  conjuncts_known (tree.test (tree.comparison (tree.between n from upto))) pairs good =
+      lone_known _ _
+      (condition_known (tree.test (tree.comparison (tree.between n from upto))) pairs good)
 
--- each comparison of two columns is a join
-abbrev AreJoins : List Pair → Type 0
-AreJoins ps = AllByRecursion (λ p. (j : Join) × (p.join ≡ Some j)) ps
-
-value_kind : (l : Literal) (c : ColumnId) → is_of (kind_of_literal l) (Some c) ≡ true
-    → same_kind (kind_of c) (kind_of_value (literal_value l)) ≡ true
-value_kind (tree.number z) c e = e
-value_kind (tree.text bs) c e = e
-
-condition_known : (tables : List Name) (js : List Join) → Reaches tables js
-    → (q : tree.Condition tree.Test)
-    → AreJoins (pairs_of false q) → AreScoped tables (condition_uses q) → AreFit (condition_uses q)
-    → (x : RowCondition) × (resolved_condition q ≡ Some x) × (condition_is_sound js x ≡ true)
-condition_known tables js reach (tree.or a b) pairs scoped fit =
-    let l = condition_known tables js reach a
-    (each_left _ (pairs_of false a) (pairs_of false b) pairs)
-    (each_left _ (condition_uses a) (condition_uses b) scoped)
-    (each_left _ (condition_uses a) (condition_uses b) fit) in
-    let r = condition_known tables js reach b
-    (each_right _ (pairs_of false a) (pairs_of false b) pairs)
-    (each_right _ (condition_uses a) (condition_uses b) scoped)
-    (each_right _ (condition_uses a) (condition_uses b) fit) in
-    (or l.0 r.0, λ i. option_both or (l.1 i) (r.1 i), and_from _ _ l.2 r.2)
-condition_known tables js reach (tree.and a b) pairs scoped fit =
-    let l = condition_known tables js reach a
-    (each_left _ (pairs_of false a) (pairs_of false b) pairs)
-    (each_left _ (condition_uses a) (condition_uses b) scoped)
-    (each_left _ (condition_uses a) (condition_uses b) fit) in
-    let r = condition_known tables js reach b
-    (each_right _ (pairs_of false a) (pairs_of false b) pairs)
-    (each_right _ (condition_uses a) (condition_uses b) scoped)
-    (each_right _ (condition_uses a) (condition_uses b) fit) in
-    (and l.0 r.0, λ i. option_both and (l.1 i) (r.1 i), and_from _ _ l.2 r.2)
-condition_known tables js reach (tree.not a) pairs scoped fit =
-    let x = condition_known tables js reach a pairs scoped fit in
-    (not x.0, ap (option_map not) x.1, x.2)
-condition_known tables js reach (tree.test (tree.pair m n)) pairs scoped fit =
-    absurd (let j = pairs.0.1 in cc)
-condition_known tables js reach (tree.test (tree.comparison (tree.compare n s l))) pairs scoped
-    fit =
-    let c = scope_known tables n.place (column_at n) scoped.0 in
-    let k : is_of (kind_of_literal l) (column_at n) ≡ true =
-    kind_known (record {
-      column = column_at n;
-      fits =
-          is_of (kind_of_literal l) (column_at n);
-      at = n.place;
-    }) fit.0 in (
-      test (compare c.0 s (literal_value l)),
-      ap (λ o. option_map test (option_map (λ d. compare d s (literal_value l)) o)) c.1,
-      and_from _ _ (reach c.0 c.2) (value_kind l c.0 (rw c.1 at k)),
-    )
-condition_known tables js reach (tree.test (tree.comparison (tree.between n from upto))) pairs
-    scoped fit =
-    let c = scope_known tables n.place (column_at n) scoped.0 in
-    let k : (is_of (kind_of_literal from) (column_at n)
-    && is_of (kind_of_literal upto) (column_at n)) ≡ true =
-    kind_known (record {
-      column = column_at n;
-      fits =
-          is_of (kind_of_literal from) (column_at n) && is_of (kind_of_literal upto) (column_at n);
-      at = n.place;
-    }) fit.0 in
-    let ks = and_parts _ _ (rw c.1 at k) in (
-      test (between c.0 (literal_value from) (literal_value upto)),
-      ap (λ o. option_map test
-          (option_map (λ d. between d (literal_value from) (literal_value upto)) o)) c.1,
-      and_from _ _ (reach c.0 c.2)
-          (and_from _ _ (value_kind from c.0 ks.0) (value_kind upto c.0 ks.1)),
-    )
-
-abbrev KnownConjuncts : List Join → tree.Condition tree.Test → Type 0
-KnownConjuncts js q = (xs : List RowCondition) × (conjuncts_of q ≡ Some xs)
-    × (list_all (condition_is_sound js) xs ≡ true)
-
-lone_known : (js : List Join) (o : Option RowCondition) (x : RowCondition) → o ≡ Some x
-    → condition_is_sound js x ≡ true
-    → (xs : List RowCondition) × (option_map (λ y. y ∷ []) o ≡ Some xs)
-    × (list_all (condition_is_sound js) xs ≡ true)
-lone_known js o x e sound = (x ∷ [], ap (option_map (λ y. y ∷ [])) e, and_from _ _ sound refl)
-
-conjuncts_known : (tables : List Name) (js : List Join) → Reaches tables js
-    → (q : tree.Condition tree.Test)
-    → AreJoins (pairs_of true q) → AreScoped tables (condition_uses q) → AreFit (condition_uses q)
-    → KnownConjuncts js q
-conjuncts_known tables js reach (tree.and a b) pairs scoped fit =
-    let l = conjuncts_known tables js reach a
-    (each_left _ (pairs_of true a) (pairs_of true b) pairs)
-    (each_left _ (condition_uses a) (condition_uses b) scoped)
-    (each_left _ (condition_uses a) (condition_uses b) fit) in
-    let r = conjuncts_known tables js reach b
-    (each_right _ (pairs_of true a) (pairs_of true b) pairs)
-    (each_right _ (condition_uses a) (condition_uses b) scoped)
-    (each_right _ (condition_uses a) (condition_uses b) fit) in (
-      l.0 ++ r.0,
-      λ i. option_both (λ xs ys. xs ++ ys) (l.1 i) (r.1 i),
-      list_all-append (condition_is_sound js) l.0 r.0 ∙ and_from _ _ l.2 r.2,
-    )
-conjuncts_known tables js reach (tree.test (tree.pair m n)) pairs scoped fit = ([], refl, refl)
-conjuncts_known tables js reach (tree.or a b) pairs scoped fit =
-    let x = condition_known tables js reach (tree.or a b) pairs scoped fit in
-    lone_known js _ x.0 x.1 x.2
-conjuncts_known tables js reach (tree.not a) pairs scoped fit =
-    let x = condition_known tables js reach (tree.not a) pairs scoped fit in
-    lone_known js _ x.0 x.1 x.2
-conjuncts_known tables js reach (tree.test (tree.comparison (tree.compare n s l))) pairs scoped
-    fit =
-    let x = condition_known tables js reach (tree.test (tree.comparison (tree.compare n s l))) pairs
-    scoped fit in lone_known js _ x.0 x.1 x.2
-conjuncts_known tables js reach (tree.test (tree.comparison (tree.between n from upto))) pairs
-    scoped fit =
-    let x = condition_known tables js reach (tree.test (tree.comparison (tree.between n from upto)))
-    pairs scoped fit in lone_known js _ x.0 x.1 x.2
-
-pub where_known : (tables : List Name) (js : List Join) → Reaches tables js
-    → (o : Option (tree.Condition tree.Test))
-    → AllByRecursion (λ p. (j : Join) × (p.join ≡ Some j)) (where_pairs o)
-    → AllByRecursion (λ u. scope_fault tables u ≡ None) (where_uses o)
-    → AllByRecursion (λ u. use_kind_fault u ≡ None) (where_uses o)
-    → (xs : List RowCondition) × (where_conjuncts o ≡ Some xs)
-    × (list_all (condition_is_sound js) xs ≡ true)
-where_known tables js reach None pairs scoped fit = ([], refl, refl)
-where_known tables js reach (Some q) pairs scoped fit =
-    conjuncts_known tables js reach q pairs scoped fit
+  pub where_known : (o : Option (tree.Condition tree.Test)) → AreJoins (where_pairs o)
+      → AreGood tables (where_uses o)
+      → Known (list_all (condition_is_sound js)) (where_conjuncts o)
+  where_known None pairs good = ([], refl, refl)
+  where_known (Some q) pairs good = conjuncts_known q pairs good
 
 -- ---- groups, items and the order
 
@@ -300,28 +209,13 @@ groups_known tables js reach (n ∷ ns) scoped =
       and_from _ _ (reach c.0 c.2) cs.2,
     )
 
--- a plain column is grouped
-abbrev pub IsGrouped : List Name → Item → Type 0
-IsGrouped groups (tree.plain n) = has_name groups n.text ≡ true
-IsGrouped groups (tree.aggregate a) = Unit {0}
-
-pub named_of : {A : Type 0} (b : Bool) (x : A) → (if b then None else Some x) ≡ None → b ≡ true
-named_of true x e = refl
-named_of false x e = absurd (cc)
-
-pub grouped : (groups : List Name) (before is' : List Item)
-    → first_after (item_fault groups) before is' ≡ None → AllByRecursion (IsGrouped groups) is'
-grouped groups before [] e = tt
-grouped groups before (tree.plain n ∷ is') e =
-    let parts = or_none _ _ e in (
-      named_of (has_name groups n.text) _ parts.0,
-      grouped groups (before ++ tree.plain n ∷ []) is' parts.1,
-    )
-grouped groups before (tree.aggregate a ∷ is') e = let parts = or_none _ _ e in
-    (tt, grouped groups (before ++ tree.aggregate a ∷ []) is' parts.1)
+pub item_grouped : (groups : List Name) (before : List Item) (i : Item)
+    → item_fault groups before i ≡ None → is_grouped groups i ≡ true
+item_grouped groups before (tree.plain n) e = named_of (has_name groups n.text) _ e
+item_grouped groups before (tree.aggregate a) e = refl
 
 pub items_known : (groups : List Name) (before : ℕ) (is' : List Item)
-    → AllByRecursion (IsGrouped groups) is'
+    → AllByRecursion (λ i. is_grouped groups i ≡ true) is'
     → (cs : List GroupColumn) × (items_from groups before is' ≡ Some cs)
 items_known groups before [] all = ([], refl)
 items_known groups before (tree.plain n ∷ is') all =
@@ -348,17 +242,6 @@ order_known groups names (k ∷ ks) all =
 
 -- ---- joins
 
-pub joined_each : (before ps : List Pair) → first_after pair_fault before ps ≡ None
-    → AllByRecursion (λ p. (j : Join) × (p.join ≡ Some j)) ps
-joined_each before [] e = tt
-joined_each before (p ∷ ps) e =
-    let parts = or_none _ _ e in (go p.join refl parts.0, joined_each (before ++ p ∷ []) ps parts.1)
-  where
-    go : (o : Option Join) → p.join ≡ o → pair_fault before p ≡ None
-        → (j : Join) × (p.join ≡ Some j)
-    go None h fault = absurd (let wrong = rw h at fault in cc)
-    go (Some j) h fault = (j, h)
-
 joined_table : (ps : List Pair) (t : TableId) → is_joined ps t ≡ joins_table (joins_of ps) t
 joined_table [] t = refl
 joined_table (p ∷ ps) t = go p.join refl (joined_table ps t)
@@ -368,12 +251,22 @@ joined_table (p ∷ ps) t = go p.join refl (joined_table ps t)
     go None h rest = rw h rest
     go (Some j) h rest = rw h (ap (λ b. is_table t (table_of j.key) || b) rest)
 
-missing_known : (ps : List Pair) (at : ℕ) (o : Option TableId) (t : TableId) → o ≡ Some t
-    → of_missing ps at o ≡ None → (is_table t Lineorder || is_joined ps t) ≡ true
-missing_known ps at o t e none = named_of _ _ (rw e at none)
+missing_known : (ps : List Pair) (at : ℕ) (o : Option TableId) → of_missing ps at o ≡ None
+    → is_reached ps o ≡ true
+missing_known ps at None none = refl
+missing_known ps at (Some t) none = named_of (is_table t Lineorder || is_joined ps t) _ none
+
+pub reached_each : (ps : List Pair) (tables : List Name)
+    → first_answer (missing_fault ps) tables ≡ None
+    → AllByRecursion (λ n. is_reached ps (table_at n) ≡ true) tables
+reached_each ps tables none =
+    each (λ n. missing_fault ps n ≡ None) (λ n. is_reached ps (table_at n) ≡ true)
+    (λ n e. missing_known ps n.place (table_at n) e) tables
+    (each_none (missing_fault ps) tables none)
 
 named_reached : (ps : List Pair) (t : TableId) (tables : List Name)
-    → has_name tables (table_name t) ≡ true → AllByRecursion (λ n. missing_fault ps n ≡ None) tables
+    → has_name tables (table_name t) ≡ true
+    → AllByRecursion (λ n. is_reached ps (table_at n) ≡ true) tables
     → (is_table t Lineorder || is_joined ps t) ≡ true
 unfolding has_name
 named_reached ps t [] e all = absurd (cc)
@@ -388,11 +281,10 @@ named_reached ps t (n ∷ ns) e all =
     go true h e rest =
         let same : n.text ≡ table_name t = same_text n.text (table_name t) (sym h) in
         let here : table_called n.text ≡ Some t = rw same (called t) in
-        missing_known ps n.place (table_called n.text) t here all.0
+        sym (ap (is_reached ps) here) ∙ all.0
     go false h e rest = rest (rw h at e)
 
-pub reaches : (tables : List Name) (ps : List Pair) → first_answer (missing_fault ps) tables ≡ None
-    → Reaches tables (joins_of ps)
-reaches tables ps none c named =
-    rw (← joined_table ps (table_of c))
-    (named_reached ps (table_of c) tables named (each_none (missing_fault ps) tables none))
+pub reaches : (tables : List Name) (ps : List Pair)
+    → AllByRecursion (λ n. is_reached ps (table_at n) ≡ true) tables → Reaches tables (joins_of ps)
+reaches tables ps all c named =
+    rw (← joined_table ps (table_of c)) (named_reached ps (table_of c) tables named all)

@@ -1,7 +1,6 @@
 pub mod Aggregates
-pub mod Calls
+pub mod Apart
 pub mod Exits
-pub mod Firsts
 pub mod Viewed
 pub mod Sought
 pub mod Known

@@ -1,12 +1,10 @@
 -- Both values of two options, or none.
 use Rattle.std.proofs.Common.{◌≡◌, ◌∙◌, sym, ap, subst, ◌+◌, ◌<◌, ◌≤◌, ◌⊎◌, inl, inr, ℕ, zero, suc, List, [], ◌∷◌, ◌++◌, Option, Some, None, drop, get_or, length, map, option_map, arith, append_assoc, append-nil, refl}
 use Rattle.std.specs.Option.{option_or}
+use Rattle.std.proofs.lemmas.List.{drop_all}
 use Rattle.star_schema.specs.declared.column.ColumnId.{ColumnId}
-use Rattle.star_query.specs.declared.tree.Comparison.{Comparison}
-use Rattle.star_query.specs.declared.tree.Condition.{Condition}
-use Rattle.star_plan.specs.Resolved.{option_all, option_both}
-use Rattle.star_plan.specs.Views.{row_condition_view}
-use Rattle.star_plan.specs.WellNamed.{IsThere}
+use Rattle.star_query.specs.declared.tree.{Comparison.Comparison, Condition.Condition}
+use Rattle.star_plan.specs.{Resolved.option_all, Resolved.option_both, Views.row_condition_view, WellNamed.IsThere}
 
 pub left_there : {A B C : Type 0} (f : A → B → C) (a : Option A) (b : Option B)
     → IsThere (option_both f a b) → IsThere a
@@ -43,12 +41,6 @@ drop_here (y ∷ ys) zero x within at = ap (λ z. z ∷ ys) (sym at)
 drop_here (y ∷ ys) (suc i) x within at = let next : suc i + 1 ≡ suc (i + 1) = omega arith in
     rw next (drop_here ys i x (omega arith) at)
 
-drop_past : {X : Type 0} (xs : List X) (i : ℕ) → length xs ≤ i → drop i xs ≡ []
-drop_past [] zero past = refl
-drop_past [] (suc i) past = refl
-drop_past (y ∷ ys) zero past = absurd (omega arith)
-drop_past (y ∷ ys) (suc i) past = drop_past ys i (omega arith)
-
 -- the results so far, and those of the elements that are left
 abbrev pub with_rest : {B : Type 0} → List B → Option (List B) → Option (List B)
 with_rest done rest = option_map (λ ys. done ++ ys) rest
@@ -83,7 +75,7 @@ pub all_whole : {X A B : Type 0} (v : X → A) (f : A → Option B) (xs : List X
     → with_rest done (option_all f (map v (drop i xs))) ≡ option_all f (map v xs)
     → Some done ≡ option_all f (map v xs)
 all_whole v f xs i done past so_far =
-    ap Some (sym (append-nil done)) ∙ (rw (drop_past xs i past) at so_far)
+    ap Some (sym (append-nil done)) ∙ (rw (drop_all i xs past) at so_far)
 
 pub all_first : {A B : Type 0} (f : A → Option B) (xs : List A)
     → with_rest [] (option_all f xs) ≡ option_all f xs

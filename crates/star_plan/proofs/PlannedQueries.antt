@@ -2,13 +2,8 @@
 use Rattle.std.proofs.Math.Logic.{∥∥₁_elim}
 use Rattle.std.proofs.Props.{props}
 use Rattle.star_query.proofs.MeantTrees.{meant_spelled_so, meant_within}
-use Rattle.star_plan.specs.Limits.{IsPlanWithinLimits}
-use Rattle.star_plan.specs.Meaning.{Plan}
-use Rattle.star_plan.specs.Planned.{IsPlanned}
-use Rattle.star_plan.specs.Sound.{IsSoundPlan}
-use Rattle.star_plan.specs.Spelled.{IsSpelledPlan}
-use Rattle.star_plan.proofs.Conditions.{no_fault}
-use Rattle.star_plan.proofs.Kept.{kept_sound, kept_spelled, kept_within}
+use Rattle.star_plan.specs.{Limits.IsPlanWithinLimits, Meaning.Plan, Planned.IsPlanned, Sound.IsSoundPlan, Spelled.IsSpelledPlan}
+use Rattle.star_plan.proofs.{Conditions.no_fault, Kept.kept_sound, Kept.kept_spelled, Kept.kept_within}
 
 sound_prop : (p : Plan) → IsProp (IsSoundPlan p)
 sound_prop p = hlevel props

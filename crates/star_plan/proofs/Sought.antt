@@ -1,14 +1,10 @@
 -- What a name of SELECT or ORDER BY stands for: it is there exactly where a test finds the name.
 use Rattle.std.proofs.Common.{◌≡◌, ◌∙◌, sym, cond, ltb, ◌||◌, Bool, true, false, not as negated, if◌then◌else◌, ℕ, suc, ◌+◌, List, [], ◌∷◌, Option, Some, None, length, nat_eq, option_map, arith, refl}
 use Rattle.std.proofs.lemmas.Bool.{le-ltb, lt-ltb, ltb-false, ltb-true}
-use Rattle.std.specs.Cmp.Lexicographic.{pointwise}
-use Rattle.std.specs.List.{list_any, position, prefix_len}
-use Rattle.std.specs.Option.{is_some, option_or}
+use Rattle.std.specs.{Cmp.Lexicographic.pointwise, List.list_any, List.position, List.prefix_len, Option.is_some, Option.option_or}
 use Rattle.star_schema.specs.declared.group.GroupColumn.TheVariants as group
 use Rattle.star_query.specs.Tree.{Name}
-use Rattle.star_plan.specs.Names.{has_name}
-use Rattle.star_plan.specs.Naming.{aggregate_column, has_text, key_column}
-use Rattle.star_plan.specs.WellNamed.{IsThere}
+use Rattle.star_plan.specs.{Names.has_name, Naming.aggregate_column, Naming.has_text, Naming.key_column, WellNamed.IsThere}
 
 pub is_there : {A : Type 0} (o : Option A) → is_some o ≡ true → IsThere o
 is_there None e = absurd (cc)

@@ -1,13 +1,11 @@
 -- Lists of the code, and what definitions see of their elements.
-use Rattle.std.proofs.Common.{◌≡◌, ◌∙◌, sym, ap, ℕ, ◌+◌, ◌<◌, ◌≤◌, ◌||◌, Bool, List, [], ◌∷◌, ◌++◌, Option, Some, None, Result, cond, not, drop, take, get_or, length, map, refl}
-use Rattle.std.specs.List.{list_any, position, position_or_len}
-use Rattle.std.specs.Option.{option_or}
-use Rattle.std.specs.Result.{IsErrAnd, result_err}
-use Rattle.std.proofs.lemmas.List.{length-map, map-append}
+use Rattle.std.proofs.Common.{◌≡◌, ◌∙◌, sym, ap, ℕ, zero, suc, ◌+◌, ◌<◌, ◌≤◌, ◌||◌, Bool, List, [], ◌∷◌, ◌++◌, Option, Some, None, Result, cond, not, drop, take, get_or, length, map, arith, append_assoc, append-nil, refl}
+use Rattle.std.specs.{List.list_any, List.position, List.position_or_len, Option.option_or, Result.IsErrAnd, Result.result_err}
+use Rattle.std.proofs.lemmas.List.{at_drop_all, length-map}
 use Rattle.star_common.specs.First.{first_answer}
 use Rattle.star_plan.specs.declared.fault.PlanFault.{PlanFault}
 use Rattle.star_plan.specs.First.{first_after, first_beside}
-use Rattle.star_plan.proofs.Firsts as plain
+use Rattle.star_plan.proofs.Exits.{error_is}
 
 -- ---- which of them
 
@@ -27,64 +25,56 @@ place_viewed v p xs = rw (← place_or_length v p xs, length-map xs v) refl
 
 -- ---- the first answer of an element
 
-answers : {X Y A : Type 0} (v : X → Y) (f : Y → Option A) (xs : List X)
-    → first_answer (λ x. f (v x)) xs ≡ first_answer f (map v xs)
-unfolding first_answer
-answers v f [] = refl
-answers v f (x ∷ xs) = ap (option_or (f (v x))) (answers v f xs)
-
 -- a loop that has passed the elements before this one
 abbrev pub AnswerSoFar : {X Y A : Type 0} (v : X → Y) (f : Y → Option A) → List X → ℕ → Type 0
 AnswerSoFar v f xs i = first_answer f (map v (drop i xs)) ≡ first_answer f (map v xs)
 
-so_far_plain : {X Y A : Type 0} (v : X → Y) (f : Y → Option A) (xs : List X) (i : ℕ)
-    → AnswerSoFar v f xs i
-    → first_answer (λ x. f (v x)) (drop i xs) ≡ first_answer (λ x. f (v x)) xs
-so_far_plain v f xs i e = answers v f (drop i xs) ∙ e ∙ sym (answers v f xs)
+answer_here : {X Y A : Type 0} (v : X → Y) (f : Y → Option A) (xs : List X) (i : ℕ) (d : X)
+    → i < length xs
+    → first_answer f (map v (drop i xs))
+    ≡ option_or (f (v (get_or xs i d))) (first_answer f (map v (drop (i + 1) xs)))
+unfolding first_answer
+answer_here v f [] i d within = absurd (omega arith)
+answer_here v f (x ∷ xs) zero d within = refl
+answer_here v f (x ∷ xs) (suc i) d within = let next : suc i + 1 ≡ suc (i + 1) = omega arith in
+    rw next (answer_here v f xs i d (omega arith))
 
 pub answer_passed : {X Y A : Type 0} (v : X → Y) (f : Y → Option A) (xs : List X) (i : ℕ) (d : X)
     → i < length xs → AnswerSoFar v f xs i → None ≡ f (v (get_or xs i d))
     → first_answer f (map v (drop (i + 1) xs)) ≡ first_answer f (map v xs)
 answer_passed v f xs i d within so_far passed =
-    sym (answers v f (drop (i + 1) xs))
-    ∙ plain.answer_passed (λ x. f (v x)) xs i d within (so_far_plain v f xs i so_far) passed
-    ∙ answers v f xs
+    let here : first_answer f (map v (drop i xs))
+    ≡ option_or (f (v (get_or xs i d))) (first_answer f (map v (drop (i + 1) xs))) =
+    answer_here v f xs i d within in
+    sym (rw (← passed) at here) ∙ so_far
 
 pub answer_whole : {X Y A : Type 0} (v : X → Y) (f : Y → Option A) (xs : List X) (i : ℕ)
     → length xs ≤ i → first_answer f (map v (drop i xs)) ≡ first_answer f (map v xs)
     → None ≡ first_answer f (map v xs)
+unfolding first_answer
 answer_whole v f xs i past so_far =
-    plain.answer_whole (λ x. f (v x)) xs i past (so_far_plain v f xs i so_far) ∙ answers v f xs
+    sym (at_drop_all (λ ys. first_answer f (map v ys)) xs i past) ∙ so_far
 
--- the exit of a loop at the first fault
-pub answer_found : {X Y T : Type 0} (v : X → Y) (f : Y → Option PlanFault) (xs : List X) (i : ℕ)
-    (x : X) (e : PlanFault) (r : Result T PlanFault) → IsErrAnd r (λ y. y ≡ e) → i < length xs
-    → AnswerSoFar v f xs i → x ≡ get_or xs i x → Some e ≡ f (v x)
-    → result_err r ≡ first_answer f (map v xs)
-answer_found v f xs i x e r is_e within so_far at found =
-    plain.answer_found_at (λ y. f (v y)) xs i x e r is_e within (so_far_plain v f xs i so_far) at
-    found
-    ∙ answers v f xs
-
--- the same where the element is a copy
+-- the exit of a loop at the first fault, where the element is a copy
 pub answer_of_copy : {X Y T : Type 0} (v : X → Y) (f : Y → Option PlanFault) (xs : List X) (i : ℕ)
     (d : X) (e : PlanFault) (r : Result T PlanFault) → IsErrAnd r (λ y. y ≡ e) → i < length xs
     → AnswerSoFar v f xs i → Some e ≡ f (v (get_or xs i d))
     → result_err r ≡ first_answer f (map v xs)
 answer_of_copy v f xs i d e r is_e within so_far found =
-    plain.answer_found (λ y. f (v y)) xs i d e r is_e within (so_far_plain v f xs i so_far) found
-    ∙ answers v f xs
+    let here : first_answer f (map v (drop i xs))
+    ≡ option_or (f (v (get_or xs i d))) (first_answer f (map v (drop (i + 1) xs))) =
+    answer_here v f xs i d within in
+    error_is r e is_e ∙ sym (rw (← found) at here) ∙ so_far
+
+-- and where it is given by itself
+pub answer_found : {X Y T : Type 0} (v : X → Y) (f : Y → Option PlanFault) (xs : List X) (i : ℕ)
+    (x : X) (e : PlanFault) (r : Result T PlanFault) → IsErrAnd r (λ y. y ≡ e) → i < length xs
+    → AnswerSoFar v f xs i → x ≡ get_or xs i x → Some e ≡ f (v x)
+    → result_err r ≡ first_answer f (map v xs)
+answer_found v f xs i x e r is_e within so_far at found =
+    answer_of_copy v f xs i x e r is_e within so_far (found ∙ ap (λ y. f (v y)) at)
 
 -- ---- beside the elements before it
-
-besides : {X Y A : Type 0} (v : X → Y) (f : List Y → Y → Option A) (before xs : List X)
-    → first_after (λ seen x. f (map v seen) (v x)) before xs
-    ≡ first_after f (map v before) (map v xs)
-besides v f before [] = refl
-besides v f before (x ∷ xs) =
-    ap (option_or (f (map v before) (v x)))
-    (besides v f (before ++ x ∷ []) xs
-    ∙ ap (λ seen. first_after f seen (map v xs)) (map-append v before (x ∷ [])))
 
 -- a loop that has passed the elements before this one
 abbrev pub BesideSoFar : {X Y A : Type 0} (v : X → Y) (f : List Y → Y → Option A) → List X → ℕ
@@ -92,46 +82,55 @@ abbrev pub BesideSoFar : {X Y A : Type 0} (v : X → Y) (f : List Y → Y → Op
 BesideSoFar v f xs i =
     first_after f (map v (take i xs)) (map v (drop i xs)) ≡ first_beside f (map v xs)
 
-beside_plain : {X Y A : Type 0} (v : X → Y) (f : List Y → Y → Option A) (xs : List X) (i : ℕ)
-    → BesideSoFar v f xs i
-    → first_after (λ seen x. f (map v seen) (v x)) (take i xs) (drop i xs)
-    ≡ first_beside (λ seen x. f (map v seen) (v x)) xs
-beside_plain v f xs i e = besides v f (take i xs) (drop i xs) ∙ e ∙ sym (besides v f [] xs)
+after_here : {X Y A : Type 0} (v : X → Y) (f : List Y → Y → Option A) (before : List Y)
+    (xs : List X) (i : ℕ) (d : X) → i < length xs
+    → first_after f (before ++ map v (take i xs)) (map v (drop i xs))
+    ≡ option_or (f (before ++ map v (take i xs)) (v (get_or xs i d)))
+    (first_after f (before ++ map v (take (i + 1) xs)) (map v (drop (i + 1) xs)))
+after_here v f before [] i d within = absurd (omega arith)
+after_here v f before (x ∷ xs) zero d within = rw append-nil refl
+after_here v f before (x ∷ xs) (suc i) d within =
+    let next : suc i + 1 ≡ suc (i + 1) = omega arith in
+    let rest = after_here v f (before ++ v x ∷ []) xs i d (omega arith) in
+    rw next (rw (
+      append_assoc before (v x ∷ []) (map v (take i xs)),
+      append_assoc before (v x ∷ []) (map v (take (i + 1) xs)),
+    ) at rest)
+
+beside_here : {X Y A : Type 0} (v : X → Y) (f : List Y → Y → Option A) (xs : List X) (i : ℕ)
+    (d : X) → i < length xs
+    → first_after f (map v (take i xs)) (map v (drop i xs))
+    ≡ option_or (f (map v (take i xs)) (v (get_or xs i d)))
+    (first_after f (map v (take (i + 1) xs)) (map v (drop (i + 1) xs)))
+beside_here v f xs i d within = after_here v f [] xs i d within
 
 pub beside_passed : {X Y A : Type 0} (v : X → Y) (f : List Y → Y → Option A) (xs : List X) (i : ℕ)
     (d : X) → i < length xs → BesideSoFar v f xs i
     → None ≡ f (map v (take i xs)) (v (get_or xs i d))
     → first_after f (map v (take (i + 1) xs)) (map v (drop (i + 1) xs)) ≡ first_beside f (map v xs)
 beside_passed v f xs i d within so_far passed =
-    sym (besides v f (take (i + 1) xs) (drop (i + 1) xs))
-    ∙ plain.beside_passed (λ seen x. f (map v seen) (v x)) xs i d within
-    (beside_plain v f xs i so_far) passed
-    ∙ besides v f [] xs
+    sym (rw (← passed) at (beside_here v f xs i d within)) ∙ so_far
 
 pub beside_whole : {X Y A : Type 0} (v : X → Y) (f : List Y → Y → Option A) (xs : List X) (i : ℕ)
     → length xs ≤ i
     → first_after f (map v (take i xs)) (map v (drop i xs)) ≡ first_beside f (map v xs)
     → None ≡ first_beside f (map v xs)
 beside_whole v f xs i past so_far =
-    plain.beside_whole (λ seen x. f (map v seen) (v x)) xs i past (beside_plain v f xs i so_far)
-    ∙ besides v f [] xs
+    sym (at_drop_all (λ ys. first_after f (map v (take i xs)) (map v ys)) xs i past) ∙ so_far
 
--- the exit of a loop at the first fault
-pub beside_found : {X Y T : Type 0} (v : X → Y) (f : List Y → Y → Option PlanFault) (xs : List X)
-    (i : ℕ) (x : X) (e : PlanFault) (r : Result T PlanFault) → IsErrAnd r (λ y. y ≡ e)
-    → i < length xs → BesideSoFar v f xs i → x ≡ get_or xs i x
-    → Some e ≡ f (map v (take i xs)) (v x) → result_err r ≡ first_beside f (map v xs)
-beside_found v f xs i x e r is_e within so_far at found =
-    plain.beside_found_at (λ seen y. f (map v seen) (v y)) xs i x e r is_e within
-    (beside_plain v f xs i so_far) at found
-    ∙ besides v f [] xs
-
--- the same where the element is a copy
+-- the exit of a loop at the first fault, where the element is a copy
 pub beside_of_copy : {X Y T : Type 0} (v : X → Y) (f : List Y → Y → Option PlanFault) (xs : List X)
     (i : ℕ) (d : X) (e : PlanFault) (r : Result T PlanFault) → IsErrAnd r (λ y. y ≡ e)
     → i < length xs → BesideSoFar v f xs i → Some e ≡ f (map v (take i xs)) (v (get_or xs i d))
     → result_err r ≡ first_beside f (map v xs)
 beside_of_copy v f xs i d e r is_e within so_far found =
-    plain.beside_found (λ seen y. f (map v seen) (v y)) xs i d e r is_e within
-    (beside_plain v f xs i so_far) found
-    ∙ besides v f [] xs
+    error_is r e is_e ∙ sym (rw (← found) at (beside_here v f xs i d within)) ∙ so_far
+
+-- and where it is given by itself
+pub beside_found : {X Y T : Type 0} (v : X → Y) (f : List Y → Y → Option PlanFault) (xs : List X)
+    (i : ℕ) (x : X) (e : PlanFault) (r : Result T PlanFault) → IsErrAnd r (λ y. y ≡ e)
+    → i < length xs → BesideSoFar v f xs i → x ≡ get_or xs i x
+    → Some e ≡ f (map v (take i xs)) (v x) → result_err r ≡ first_beside f (map v xs)
+beside_found v f xs i x e r is_e within so_far at found =
+    beside_of_copy v f xs i x e r is_e within so_far
+    (found ∙ ap (λ y. f (map v (take i xs)) (v y)) at)

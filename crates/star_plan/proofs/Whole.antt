@@ -1,27 +1,18 @@
 -- A well named query has each part of its plan.
 use Rattle.std.proofs.Common.{◌≡◌, true, List, [], ◌++◌, Some, None}
-use Rattle.std.specs.List.{AllByRecursion, list_all}
-use Rattle.std.specs.Option.{option_or}
+use Rattle.std.specs.{List.AllByRecursion, List.list_all, Option.option_or}
 use Rattle.star_common.proofs.Firsts.{or_none}
-use Rattle.star_schema.specs.declared.column.ColumnId.{ColumnId}
-use Rattle.star_schema.specs.declared.group.GroupColumn.{GroupColumn}
-use Rattle.star_schema.specs.declared.group.SortKey.{SortKey}
+use Rattle.star_schema.specs.declared.{column.ColumnId.ColumnId, group.GroupColumn.GroupColumn}
 use Rattle.star_common.specs.First.{first_answer}
 use Rattle.star_schema.specs.Schema.{table_of}
 use Rattle.star_query.specs.Tree.{Tree, Measure}
-use Rattle.star_plan.specs.declared.tree.Join.{Join}
-use Rattle.star_plan.specs.First.{first_beside}
-use Rattle.star_plan.specs.Meaning.{RowCondition}
-use Rattle.star_plan.specs.Names.{column_at}
-use Rattle.star_plan.specs.Uses.{uses_of, where_uses}
+use Rattle.star_plan.specs.{First.first_beside, Meaning.RowCondition, Names.column_at, Names.table_at, Uses.uses_of, Uses.where_uses, Joins.joins_of, Joins.where_pairs, Naming.aggregate_names, Resolved.items_from, Resolved.resolved_measures, Resolved.option_all, Resolved.where_conjuncts, Sound.are_distinct, Sound.condition_is_sound, Sound.in_scope, Sound.measure_is_sound}
 use Rattle.star_plan.specs.Private.Stages.{groups_uses, items_uses, from_fault, grouping_fault, join_fault, naming_fault, order_fault, select_fault}
-use Rattle.star_plan.specs.Joins.{joins_of, where_pairs}
-use Rattle.star_plan.specs.Naming.{aggregate_names, resolved_key}
 use Rattle.star_plan.specs.Faults.{aggregates_fault, fact_fault, group_fault, item_fault, key_fault, use_kind_fault, missing_fault, pair_fault, plan_fault, scope_fault, from_table_fault}
-use Rattle.star_plan.specs.Resolved.{items_from, resolved_measures, option_all, where_conjuncts}
-use Rattle.star_plan.specs.Sound.{are_distinct, condition_is_sound, in_scope, measure_is_sound}
-use Rattle.star_plan.proofs.Known.{Reaches, each_left, each_none, each_right, groups_known, grouped, items_known, joined_each, measures_known, order_known, reaches, where_known, IsGrouped}
-use Rattle.star_plan.proofs.KeptJoins.{distinct}
+use Rattle.star_plan.specs.WellNamed.{IsThere, is_grouped, is_reached}
+use Rattle.star_plan.proofs.Apart.{apart_to, each_after, each_two}
+use Rattle.star_plan.proofs.Known.{AreGood, Reaches, each_left, each_none, each_right, groups_known, item_grouped, items_known, measures_known, reached_each, reaches, where_known}
+use Rattle.star_plan.proofs.KeptJoins.{distinct, pair_known, same_join}
 
 -- what it says that no name of a table or a column is at fault
 pub record Named (t : Tree) : Type 0 where
@@ -29,8 +20,9 @@ pub record Named (t : Tree) : Type 0 where
   pub fact : fact_fault t.tables ≡ None
   pub scoped : AllByRecursion (λ u. scope_fault t.tables u ≡ None) (uses_of t)
   pub fit : AllByRecursion (λ u. use_kind_fault u ≡ None) (uses_of t)
-  pub pairs : AllByRecursion (λ p. (j : Join) × (p.join ≡ Some j)) (where_pairs t.condition)
-  pub joined : first_answer (missing_fault (where_pairs t.condition)) t.tables ≡ None
+  pub pairs : AllByRecursion (λ p. IsThere p.join) (where_pairs t.condition)
+  pub joined : AllByRecursion (λ n. is_reached (where_pairs t.condition) (table_at n) ≡ true)
+      t.tables
   pub reach : Reaches t.tables (joins_of (where_pairs t.condition))
   pub apart : are_distinct (joins_of (where_pairs t.condition)) ≡ true
 
@@ -39,7 +31,7 @@ pub record Parts (t : Tree) : Type 0 where
   pub named : Named t
   pub groups : first_beside group_fault t.grouping.columns ≡ None
   pub shown : first_beside (item_fault t.grouping.columns) t.items ≡ None
-  pub items : AllByRecursion (IsGrouped t.grouping.columns) t.items
+  pub items : AllByRecursion (λ i. is_grouped t.grouping.columns i ≡ true) t.items
   pub some : aggregates_fault (aggregate_names t.items) ≡ None
   pub order : AllByRecursion (λ k. key_fault t.grouping.columns (aggregate_names t.items) k ≡ None)
       t.keys
@@ -58,15 +50,19 @@ named t none =
     let rest = or_none (join_fault tables ps) (first_answer use_kind_fault (uses_of t)) columns.1 in
     let joined = or_none (first_beside pair_fault ps) (first_answer (missing_fault ps) tables)
     rest.0 in
+    let pairs = each_after pair_fault (λ p. IsThere p.join) (λ before p e. (pair_known before p e).0)
+    [] ps joined.0 in
+    let reached = reached_each ps tables joined.1 in
     record {
       tables = from.0;
       fact = from.1;
       scoped = each_none (scope_fault tables) (uses_of t) columns.0;
       fit = each_none use_kind_fault (uses_of t) rest.1;
-      pairs = joined_each [] ps joined.0;
-      joined = joined.1;
-      reach = reaches tables ps joined.1;
-      apart = distinct [] ps joined.0;
+      pairs = pairs;
+      joined = reached;
+      reach = reaches tables ps reached;
+      apart = distinct ps pairs (apart_to pair_fault same_join
+          (λ before p e. (pair_known before p e).1) [] ps joined.0).apart;
     }
 
 pub parts : (t : Tree) → plan_fault t ≡ None → Parts t
@@ -85,10 +81,14 @@ parts t none =
       named = named t halves.0;
       groups = grouping.0;
       shown = shown.0;
-      items = grouped groups [] items shown.0;
+      items = each_after (item_fault groups) (λ i. is_grouped groups i ≡ true)
+          (item_grouped groups) [] items shown.0;
       some = shown.1;
       order = each_none (key_fault groups (aggregate_names items)) keys select.1;
     }
+
+all_good : (t : Tree) → Named t → AreGood t.tables (uses_of t)
+all_good t p = each_two _ _ _ (λ u scoped fit. (scoped, fit)) (uses_of t) p.scoped p.fit
 
 pub conjuncts_there : (t : Tree) → Named t
     → (xs : List RowCondition) × (where_conjuncts t.condition ≡ Some xs)
@@ -97,10 +97,7 @@ conjuncts_there t p =
     where_known t.tables (joins_of (where_pairs t.condition)) p.reach t.condition p.pairs
     (each_left _ (where_uses t.condition) (groups_uses t.grouping.columns)
     (each_right _ (items_uses t.items)
-    (where_uses t.condition ++ groups_uses t.grouping.columns) p.scoped))
-    (each_left _ (where_uses t.condition) (groups_uses t.grouping.columns)
-    (each_right _ (items_uses t.items)
-    (where_uses t.condition ++ groups_uses t.grouping.columns) p.fit))
+    (where_uses t.condition ++ groups_uses t.grouping.columns) (all_good t p)))
 
 pub keys_there : (t : Tree) → Named t
     → (cs : List ColumnId) × (option_all column_at t.grouping.columns ≡ Some cs)
@@ -117,9 +114,7 @@ pub measures_there : (t : Tree) → Named t
 measures_there t p =
     measures_known t.tables (joins_of (where_pairs t.condition)) p.reach t.items
     (each_left _ (items_uses t.items) (where_uses t.condition ++ groups_uses t.grouping.columns)
-    p.scoped)
-    (each_left _ (items_uses t.items) (where_uses t.condition ++ groups_uses t.grouping.columns)
-    p.fit)
+    (all_good t p))
 
 pub items_there : (t : Tree) → Parts t
     → (cs : List GroupColumn) × (items_from t.grouping.columns 0 t.items ≡ Some cs)

@@ -1,24 +1,16 @@
 -- Parts of queries with their names resolved; joins among comparisons; names of aggregates; and the
 -- columns that a query names.
-use Rattle.std.proofs.Common.{◌≡◌, ℕ, List, [], ◌∷◌, Bool, true, false, Option, Some, None, map, pos, refl}
+use Rattle.std.proofs.Common.{◌≡◌, ℕ, List, [], ◌∷◌, true, false, Option, Some, None, map, pos, refl}
 use Rattle.std.specs.Prelude.{◌+◌, codes}
 use Rattle.std.specs.Fmt.{digits}
 use Rattle.star_common.proofs.Tables.{Gives, Gives2}
 use Rattle.star_schema.specs.declared.column.ColumnId.TheVariants.{CCustkey, DDatekey, LoCustkey, LoDiscount, LoOrderdate, LoTax}
-use Rattle.star_schema.specs.declared.column.ColumnId.{ColumnId}
-use Rattle.star_schema.specs.declared.group.GroupColumn.TheVariants.{Key, Aggregate}
-use Rattle.star_schema.specs.declared.group.Shape.TheVariants.{Plain}
-use Rattle.star_schema.specs.Schema.{column_of}
-use Rattle.star_schema.specs.Tables.{Number, Value}
-use Rattle.star_query.specs.declared.token.Fold.TheVariants.{Max, Min, Sum}
-use Rattle.star_query.specs.declared.token.Relation.TheVariants.{Equal}
-use Rattle.star_query.specs.Tree.{Comparison, Condition, Expression, Item, Literal, Measure, Name, Test, Tree, add, aggregate, and, between, column, compare, comparison, constant, count, fold, mul, not, number, or, pair, plain, sub, test, text}
-use Rattle.star_plan.specs.Joins.{Pair, pairs_of, where_pairs}
-use Rattle.star_plan.specs.Names.{column_called}
-use Rattle.star_plan.specs.Naming.{aggregate_names, default_name, function_word}
+use Rattle.star_schema.specs.declared.{column.ColumnId.ColumnId, group.GroupColumn.TheVariants.Key, group.GroupColumn.TheVariants.Aggregate, group.Shape.TheVariants.Plain}
+use Rattle.star_schema.specs.{Schema.column_of, Tables.Number, Tables.Text, Tables.Value}
+use Rattle.star_query.specs.declared.token.{Fold.TheVariants.Max, Fold.TheVariants.Min, Fold.TheVariants.Sum, Relation.TheVariants.Equal}
+use Rattle.star_query.specs.Tree.{Comparison, Condition, Expression, Item, Name, Test, add, aggregate, and, between, column, compare, comparison, constant, count, fold, mul, not, or, pair, plain, sub, test}
+use Rattle.star_plan.specs.{Joins.Pair, Joins.pairs_of, Joins.where_pairs, Names.column_called, Naming.aggregate_names, Naming.default_name, Naming.function_word, Uses.test_uses, Uses.uses_of, Private.Stages.any_use}
 use Rattle.star_plan.specs.Resolved.{conjuncts_of, item_column, option_both, resolved_condition, resolved_expression}
-use Rattle.star_plan.specs.Uses.{test_uses, uses_of}
-use Rattle.star_plan.specs.Private.Stages.{any_use}
 
 -- a name, and where it stands
 abbrev called : List ℕ → ℕ → Name
@@ -43,11 +35,11 @@ unfolding column_of column_called
 both_or_none = (refl, refl)
 
 abbrev taxed : Condition Test
-taxed = test (comparison (compare (called (codes "lo_tax") 60) Equal (number (pos 2))))
+taxed = test (comparison (compare (called (codes "lo_tax") 60) Equal (Number (pos 2))))
 
 abbrev discounted : Condition Test
 discounted =
-    test (comparison (between (called (codes "lo_discount") 9) (number (pos 1)) (number (pos 3))))
+    test (comparison (between (called (codes "lo_discount") 9) (Number (pos 1)) (Number (pos 3))))
 
 abbrev by_date : Condition Test
 by_date = test (pair (called (codes "lo_orderdate") 3) (called (codes "d_datekey") 18))
@@ -114,24 +106,24 @@ items = (refl, refl, refl, refl)
 
 -- ---- columns that are named, and whether they are of the kind asked for; one alone is of any kind
 
-abbrev equal : Literal → Name → Test
+abbrev equal : Value → Name → Test
 equal literal n = comparison (compare n Equal literal)
 
-abbrev within : Literal → Literal → Name → Test
+abbrev within : Value → Value → Name → Test
 within from upto n = comparison (between n from upto)
 
-abbrev one : Literal
-one = number (pos 1)
+abbrev one : Value
+one = Number (pos 1)
 
 uses : Gives (λ word. (any_use (called word 3)).fits)
     ((codes "lo_tax", true) ∷ (codes "lo_shipmode", true) ∷ [])
     × Gives2 (λ word of_name. map (λ u. u.fits) (test_uses (of_name (called word 3)))) (
-    (codes "lo_tax", equal one, true ∷ []) ∷ (codes "lo_tax", equal (text (codes "1")), false ∷ [])
+    (codes "lo_tax", equal one, true ∷ []) ∷ (codes "lo_tax", equal (Text (codes "1")), false ∷ [])
     ∷ (codes "lo_tax", within one one, true ∷ [])
-    ∷ (codes "lo_tax", within one (text (codes "2")), false ∷ [])
-    ∷ (codes "lo_tax", within (text (codes "1")) one, false ∷ [])
+    ∷ (codes "lo_tax", within one (Text (codes "2")), false ∷ [])
+    ∷ (codes "lo_tax", within (Text (codes "1")) one, false ∷ [])
     ∷ (codes "lo_shipmode", equal one, false ∷ [])
-    ∷ (codes "lo_shipmode", equal (text (codes "1")), true ∷ []) ∷ [])
+    ∷ (codes "lo_shipmode", equal (Text (codes "1")), true ∷ []) ∷ [])
 unfolding column_of column_called
 uses = (refl, refl)
 

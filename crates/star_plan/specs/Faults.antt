@@ -1,20 +1,13 @@
 -- What is wrong with a query's names, and which fault comes first (this project's profile of SQL).
 use Rattle.std.specs.Prelude.{ℕ, ◌+◌, Bool, ◌||◌, List, [], ◌∷◌, length, Option, Some, None, if◌then◌else◌}
 use Rattle.std.specs.Option.{option_or}
-use Rattle.star_schema.specs.declared.table.TableId.{TableId}
-use Rattle.star_schema.specs.declared.table.TableId.TheVariants.{Lineorder}
-use Rattle.star_schema.specs.declared.column.ColumnId.{ColumnId}
+use Rattle.star_schema.specs.declared.{table.TableId.TableId, table.TableId.TheVariants.Lineorder, column.ColumnId.ColumnId}
 use Rattle.star_common.specs.First.{first_answer}
 use Rattle.star_schema.specs.Schema.{is_table, table_name, table_of}
 use Rattle.star_query.specs.Tree.{Item, Name, SortKey, Tree, aggregate, plain}
-use Rattle.star_plan.specs.declared.fault.PlanFault.{PlanFault}
+use Rattle.star_plan.specs.declared.{fault.PlanFault.PlanFault, tree.Join.Join}
 use Rattle.star_plan.specs.declared.fault.PlanFault.TheVariants.{UnknownName, NoFactTable, TableTwice, TableNotNamed, JoinMissing, JoinTwice, NotAKeyPair, WrongKind, NotGrouped, DuplicateGroup, UnknownOrderKey, DuplicateAlias, NoAggregate}
-use Rattle.star_plan.specs.declared.tree.Join.{Join}
-use Rattle.star_plan.specs.First.{first_beside}
-use Rattle.star_plan.specs.Names.{has_name, table_at}
-use Rattle.star_plan.specs.Uses.{Use, uses_of}
-use Rattle.star_plan.specs.Joins.{Pair, is_joined, where_pairs}
-use Rattle.star_plan.specs.Naming.{name_of_aggregate, aggregate_names, has_text, name_place}
+use Rattle.star_plan.specs.{First.first_beside, Names.has_name, Names.table_at, Uses.Use, Uses.uses_of, Joins.Pair, Joins.is_joined, Joins.where_pairs, Naming.name_of_aggregate, Naming.aggregate_names, Naming.has_text, Naming.name_place}
 
 -- ---- the names of FROM
 

@@ -1,11 +1,7 @@
 -- The joins of a query: comparisons of a foreign key with the key that it references.
 use Rattle.std.specs.Prelude.{ℕ, Bool, true, false, ◌&&◌, ◌==◌, List, [], ◌∷◌, ◌++◌, Option, Some, None, if◌then◌else◌}
-use Rattle.std.specs.List.{flat_map, list_any}
-use Rattle.std.specs.Option.{option_or, option_to_list}
-use Rattle.star_schema.specs.declared.table.TableId.{TableId}
-use Rattle.star_schema.specs.declared.table.Key.{Key}
-use Rattle.star_schema.specs.declared.table.Key.TheVariants.{One, Two}
-use Rattle.star_schema.specs.declared.column.ColumnId.{ColumnId}
+use Rattle.std.specs.{List.flat_map, List.list_any, Option.option_or, Option.option_to_list}
+use Rattle.star_schema.specs.declared.{table.TableId.TableId, table.Key.Key, table.Key.TheVariants.One, table.Key.TheVariants.Two, column.ColumnId.ColumnId}
 use Rattle.star_schema.specs.Schema.{index_of, is_table, key_of, references, table_of}
 use Rattle.star_query.specs.Tree.{Condition, Test, pair, comparison, and, or, not, test}
 use Rattle.star_plan.specs.declared.tree.Join.{Join}

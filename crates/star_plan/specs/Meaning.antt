@@ -3,21 +3,11 @@ use Rattle.std.specs.Prelude.{ℕ, ℤ, pos, ◌+ℤ◌, ◌-ℤ◌, ◌*ℤ◌,
 use Rattle.std.specs.List.{flat_map, list_all}
 use Rattle.std.specs.declared.cmp.Ordering.{Ordering}
 use Rattle.std.specs.Ordering.{is_eq, is_ne, is_lt, is_le, is_gt, is_ge}
-use Rattle.star_schema.specs.declared.table.TableId.{TableId}
-use Rattle.star_schema.specs.declared.table.TableId.TheVariants.{Lineorder}
-use Rattle.star_schema.specs.declared.column.ColumnId.{ColumnId}
-use Rattle.star_schema.specs.declared.group.Shape.{Shape}
-use Rattle.star_schema.specs.declared.group.Aggregate.{Aggregate}
+use Rattle.star_schema.specs.declared.{table.TableId.TableId, table.TableId.TheVariants.Lineorder, column.ColumnId.ColumnId, group.Shape.Shape, group.Aggregate.Aggregate, group.GroupColumn.GroupColumn, group.SortKey.SortKey}
 use Rattle.star_schema.specs.declared.group.Aggregate.TheVariants as aggregate
-use Rattle.star_schema.specs.declared.group.GroupColumn.{GroupColumn}
-use Rattle.star_schema.specs.declared.group.SortKey.{SortKey}
-use Rattle.star_schema.specs.Groups.{Entry}
-use Rattle.star_schema.specs.Order.{value_cmp}
-use Rattle.star_schema.specs.Schema.{is_table, place_of, table_of}
-use Rattle.star_schema.specs.Tables.{Value, Number, Text}
-use Rattle.star_query.specs.declared.token.Relation.{Relation}
+use Rattle.star_schema.specs.{Groups.Entry, Order.value_cmp, Schema.is_table, Schema.place_of, Schema.table_of, Tables.Value, Tables.Number, Tables.Text}
+use Rattle.star_query.specs.declared.token.{Relation.Relation, Fold.TheVariants.Sum, Fold.TheVariants.Min, Fold.TheVariants.Max}
 use Rattle.star_query.specs.declared.token.Relation.TheVariants as sign
-use Rattle.star_query.specs.declared.token.Fold.TheVariants.{Sum, Min, Max}
 use Rattle.star_query.specs.Leaves.{is_so}
 use Rattle.star_query.specs.Tree.{Expression, column, constant, add, sub, mul, Comparison, compare, between, Condition, Measure, fold, count}
 use Rattle.star_plan.specs.declared.tree.Join.{Join}

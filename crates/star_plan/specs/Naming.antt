@@ -1,11 +1,8 @@
 -- The names of a query's aggregates, and what names stand for that an answer shows or is sorted by.
 use Rattle.std.specs.Prelude.{ℕ, ◌+◌, Bool, List, [], ◌∷◌, ◌++◌, Option, Some, None, codes, decimal, nat_eq, option_map}
-use Rattle.std.specs.List.{list_any, position}
-use Rattle.std.specs.Option.{option_or}
-use Rattle.std.specs.Cmp.Lexicographic.{pointwise}
-use Rattle.star_schema.specs.declared.group.GroupColumn.{GroupColumn}
+use Rattle.std.specs.{List.list_any, List.position, Option.option_or, Cmp.Lexicographic.pointwise}
+use Rattle.star_schema.specs.declared.group.{GroupColumn.GroupColumn, SortKey.SortKey}
 use Rattle.star_schema.specs.declared.group.GroupColumn.TheVariants as group
-use Rattle.star_schema.specs.declared.group.SortKey.{SortKey}
 use Rattle.star_query.specs.declared.token.Fold.TheVariants.{Sum, Min, Max}
 use Rattle.star_query.specs.Tree as tree
 use Rattle.star_query.specs.Tree.{Aggregate, Item, Measure, Name, aggregate, count, fold, plain}

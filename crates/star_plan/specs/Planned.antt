@@ -1,9 +1,6 @@
 -- Which plans there are.
-use Rattle.star_query.specs.Tree.{Tree}
-use Rattle.star_query.specs.Meant.{IsMeant}
-use Rattle.star_plan.specs.Meaning.{Plan}
-use Rattle.star_plan.specs.Resolved.{IsResolved}
-use Rattle.star_plan.specs.WellNamed.{IsWellNamed}
+use Rattle.star_query.specs.{Tree.Tree, Meant.IsMeant}
+use Rattle.star_plan.specs.{Meaning.Plan, Resolved.IsResolved, WellNamed.IsWellNamed}
 
 -- it is some well named query with its names resolved, and some text means that query: so its names
 -- are spelled as the grammar spells them

@@ -1,16 +1,12 @@
 -- A query with its names resolved.
 use Rattle.std.specs.Prelude.{◌≡◌, ℕ, ◌+◌, List, [], ◌∷◌, ◌++◌, Option, Some, None, option_map}
-use Rattle.star_schema.specs.declared.column.ColumnId.{ColumnId}
-use Rattle.star_schema.specs.declared.group.GroupColumn.{GroupColumn}
+use Rattle.star_schema.specs.declared.{column.ColumnId.ColumnId, group.GroupColumn.GroupColumn}
 use Rattle.star_schema.specs.declared.group.GroupColumn.TheVariants as group
 use Rattle.star_schema.specs.Tables.{Value}
 use Rattle.star_query.specs.Limits.{aggregates_in}
 use Rattle.star_query.specs.Tree as tree
 use Rattle.star_query.specs.Tree.{Item, Name, Tree, Expression, column, constant, add, sub, mul, Comparison, compare, between, Test, pair, comparison, Condition, or, and, not, test, Measure, fold, count}
-use Rattle.star_plan.specs.Meaning.{RowCondition, Plan}
-use Rattle.star_plan.specs.Names.{column_at, literal_value}
-use Rattle.star_plan.specs.Joins.{joins_of, where_pairs}
-use Rattle.star_plan.specs.Naming.{aggregate_names, key_column, resolved_key}
+use Rattle.star_plan.specs.{Meaning.RowCondition, Meaning.Plan, Names.column_at, Joins.joins_of, Joins.where_pairs, Naming.aggregate_names, Naming.key_column, Naming.resolved_key}
 
 -- both values by an operation, or none where one is missing
 abbrev pub option_both : {A B C : Type 0} → (A → B → C) → Option A → Option B → Option C
@@ -38,8 +34,8 @@ resolved_measure (fold f e) = option_map (fold f) (resolved_expression e)
 -- none where it compares two columns
 abbrev pub resolved_test : Test → Option (Comparison ColumnId Value)
 resolved_test (pair m n) = None
-resolved_test (comparison (compare n s l)) = option_map (λ c. compare c s (literal_value l)) (column_at n)
-resolved_test (comparison (between n from upto)) = option_map (λ c. between c (literal_value from) (literal_value upto)) (column_at n)
+resolved_test (comparison (compare n s l)) = option_map (λ c. compare c s l) (column_at n)
+resolved_test (comparison (between n from upto)) = option_map (λ c. between c from upto) (column_at n)
 
 abbrev pub resolved_condition : Condition Test → Option RowCondition
 resolved_condition (or a b) = option_both or (resolved_condition a) (resolved_condition b)

@@ -1,21 +1,14 @@
 -- What every plan keeps.
 use Rattle.std.specs.Prelude.{◌≡◌, ℕ, ◌≤◌, nat_lt, Bool, true, ◌&&◌, ◌||◌, not as negated, List, [], ◌∷◌, length}
 use Rattle.std.specs.List.{list_all, list_any}
-use Rattle.star_schema.specs.declared.table.TableId.{TableId}
-use Rattle.star_schema.specs.declared.table.TableId.TheVariants.{Lineorder}
-use Rattle.star_schema.specs.declared.column.ColumnId.{ColumnId}
-use Rattle.star_schema.specs.declared.column.Kind.{Kind}
+use Rattle.star_schema.specs.declared.{table.TableId.TableId, table.TableId.TheVariants.Lineorder, column.ColumnId.ColumnId, column.Kind.Kind, group.GroupColumn.GroupColumn}
 use Rattle.star_schema.specs.declared.column.Kind.TheVariants as kind
-use Rattle.star_schema.specs.declared.group.GroupColumn.{GroupColumn}
 use Rattle.star_schema.specs.declared.group.GroupColumn.TheVariants as group
-use Rattle.star_schema.specs.Schema.{is_table, kind_of, table_of}
-use Rattle.star_schema.specs.Tables.{Value, kind_of_value}
+use Rattle.star_schema.specs.{Schema.is_table, Schema.kind_of, Schema.table_of, Tables.Value, Tables.kind_of_value}
 use Rattle.star_plan.specs.declared.tree.Join.{Join}
-use Rattle.star_plan.specs.Joins.{is_foreign}
+use Rattle.star_plan.specs.{Joins.is_foreign, Meaning.RowCondition, Meaning.Plan, Names.same_kind}
 use Rattle.star_query.specs.Leaves.{of_operands, of_tests}
 use Rattle.star_query.specs.Tree.{Expression, Comparison, compare, between, Measure, fold, count}
-use Rattle.star_plan.specs.Meaning.{RowCondition, Plan}
-use Rattle.star_plan.specs.Names.{same_kind}
 
 abbrev pub joins_table : List Join → TableId → Bool
 joins_table js t = list_any (λ j. is_table t (table_of j.key)) js

@@ -2,15 +2,9 @@
 use Rattle.std.specs.Prelude.{◌≡◌, Bool, true, ◌&&◌}
 use Rattle.std.specs.List.{list_all}
 use Rattle.star_schema.specs.declared.column.ColumnId.{ColumnId}
-use Rattle.star_schema.specs.Tables.{Value, Number, Text}
-use Rattle.star_query.specs.Leaves.{of_operands, of_tests}
-use Rattle.star_query.specs.Spelled.{comparison_is_spelled, is_name, has_few_digits, is_printable_text}
-use Rattle.star_query.specs.Tree.{Expression, Measure, fold, count}
+use Rattle.star_query.specs.{Leaves.of_operands, Leaves.of_tests, Spelled.comparison_is_spelled, Spelled.is_name, Spelled.has_few_digits, Tree.Expression, Tree.Measure, Tree.fold, Tree.count}
+pub use Rattle.star_query.specs.Spelled.{value_is_spelled}
 use Rattle.star_plan.specs.Meaning.{RowCondition, Plan}
-
-abbrev pub value_is_spelled : Value → Bool
-value_is_spelled (Number z) = has_few_digits z
-value_is_spelled (Text bytes) = is_printable_text bytes
 
 abbrev pub condition_is_spelled : RowCondition → Bool
 condition_is_spelled c = of_tests (comparison_is_spelled (λ c. true) value_is_spelled) (λ b. b) ◌&&◌ c

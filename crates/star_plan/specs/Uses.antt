@@ -1,11 +1,11 @@
 -- The columns that a query names, from the left.
 use Rattle.std.specs.Prelude.{ℕ, Bool, true, ◌&&◌, List, [], ◌∷◌, ◌++◌, Option, Some, None, map}
 use Rattle.std.specs.List.{flat_map}
-use Rattle.star_schema.specs.declared.column.ColumnId.{ColumnId}
-use Rattle.star_schema.specs.declared.column.Kind.{Kind}
+use Rattle.star_schema.specs.declared.column.{ColumnId.ColumnId}
 use Rattle.star_schema.specs.declared.column.Kind.TheVariants as kind
+use Rattle.star_schema.specs.Tables.{kind_of_value}
 use Rattle.star_query.specs.Leaves.{of_operands, of_tests}
-use Rattle.star_query.specs.Tree.{Condition, Expression, Item, Literal, Measure, Name, Test, Tree, aggregate, between, compare, comparison, count, fold, number, pair, plain, text}
+use Rattle.star_query.specs.Tree.{Condition, Expression, Item, Measure, Name, Test, Tree, aggregate, between, compare, comparison, count, fold, pair, plain}
 use Rattle.star_plan.specs.Names.{column_at, is_of}
 
 -- a column where a query names it: the column, if there is one of this name, and whether it is of the kind that is
@@ -18,10 +18,6 @@ pub record Use : Type 0 where
 -- where the column, if there is one, is asked whether it fits
 abbrev pub use_when : (Option ColumnId → Bool) → Name → Use
 use_when fits n = record { column = column_at n; fits = fits (column_at n); at = n.place }
-
-abbrev pub kind_of_literal : Literal → Kind
-kind_of_literal (number z) = kind.Number
-kind_of_literal (text bytes) = kind.Text
 
 -- inside an aggregate stand numbers alone
 abbrev pub expression_uses : Expression Name → List Use
@@ -38,8 +34,8 @@ item_uses (aggregate a) = measure_uses a.measure
 -- a column stands beside literals of its kind
 abbrev pub test_uses : Test → List Use
 test_uses (pair a b) = use_when (λ c. true) a ∷ use_when (λ c. true) b ∷ []
-test_uses (comparison (compare n s l)) = use_when (is_of (kind_of_literal l)) n ∷ []
-test_uses (comparison (between n from upto)) = use_when (λ c. is_of (kind_of_literal from) c && is_of (kind_of_literal upto) c) n ∷ []
+test_uses (comparison (compare n s l)) = use_when (is_of (kind_of_value l)) n ∷ []
+test_uses (comparison (between n from upto)) = use_when (λ c. is_of (kind_of_value from) c && is_of (kind_of_value upto) c) n ∷ []
 
 abbrev pub where_uses : Option (Condition Test) → List Use
 where_uses None = []

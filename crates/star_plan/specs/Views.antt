@@ -2,24 +2,18 @@
 use Rattle.std.specs.Prelude.{ℕ, List, map}
 use Rattle.star_schema.specs.declared.column.ColumnId.{ColumnId}
 use Rattle.star_schema.specs.Tables.{Value}
-use Rattle.star_query.specs.declared.tree.Literal.{Literal}
 use Rattle.star_query.specs.declared.tree.Comparison as of_comparison
 use Rattle.star_query.specs.declared.tree.Condition as of_condition
 use Rattle.star_query.specs.declared.tree.Expression as of_expression
 use Rattle.star_query.specs.declared.tree.Measure as of_measure
+pub use Rattle.star_query.specs.Views.{literal_view as literal_value_view}
 use Rattle.star_query.specs.Views.{comparison_by, condition_by, expression_by, literal_view, measure_by}
 use Rattle.star_query.specs.Tree.{Comparison, Expression, Measure}
-use Rattle.star_plan.specs.declared.tree.Aggregate.{Aggregate}
-use Rattle.star_plan.specs.declared.tree.PlanTree.{PlanTree}
+use Rattle.star_plan.specs.declared.tree.{Aggregate.Aggregate, PlanTree.PlanTree}
 use Rattle.star_plan.specs.Meaning.{RowCondition, Plan}
-use Rattle.star_plan.specs.Names.{literal_value}
-
--- the value that a literal stands for
-abbrev pub literal_value_view : Literal → Value
-literal_value_view l = literal_value (literal_view l)
 
 abbrev pub comparison_view : of_comparison.Comparison ColumnId → Comparison ColumnId Value
-comparison_view c = comparison_by (λ c. c) literal_value_view c
+comparison_view c = comparison_by (λ c. c) literal_view c
 
 abbrev pub row_condition_view : of_condition.Condition (of_comparison.Comparison ColumnId) → RowCondition
 row_condition_view c = condition_by comparison_view c

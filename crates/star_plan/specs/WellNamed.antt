@@ -1,17 +1,10 @@
 -- Which queries are well named, condition by condition (this project's profile of SQL).
 use Rattle.std.specs.Prelude.{◌≡◌, ℕ, ◌≤◌, Bool, true, false, ◌||◌, List, length, Option, Some, None, nat_eq}
-use Rattle.std.specs.List.{AllByRecursion, IsDistinct}
-use Rattle.std.specs.Cmp.Lexicographic.{pointwise}
-use Rattle.star_schema.specs.declared.table.TableId.{TableId}
-use Rattle.star_schema.specs.declared.table.TableId.TheVariants.{Lineorder}
-use Rattle.star_schema.specs.declared.column.ColumnId.{ColumnId}
+use Rattle.std.specs.{List.AllByRecursion, List.IsDistinct, Cmp.Lexicographic.pointwise}
+use Rattle.star_schema.specs.declared.{table.TableId.TableId, table.TableId.TheVariants.Lineorder, column.ColumnId.ColumnId}
 use Rattle.star_schema.specs.Schema.{is_table, table_name, table_of}
 use Rattle.star_query.specs.Tree.{Item, Name, Tree, aggregate, plain}
-use Rattle.star_plan.specs.Names.{has_name, table_at}
-use Rattle.star_plan.specs.Uses.{uses_of}
-use Rattle.star_plan.specs.Joins.{Pair, is_joined, joins_of, where_pairs}
-use Rattle.star_plan.specs.Naming.{aggregate_names, has_text}
-use Rattle.star_plan.specs.Sound.{are_distinct}
+use Rattle.star_plan.specs.{Names.has_name, Names.table_at, Uses.uses_of, Joins.Pair, Joins.is_joined, Joins.joins_of, Joins.where_pairs, Naming.aggregate_names, Naming.has_text, Sound.are_distinct}
 
 -- it stands for something
 abbrev pub IsThere : {A : Type 0} → Option A → Type 0

@@ -10,6 +10,7 @@ use star_query::Name;
 use star_schema::{ColumnId, Kind, TableId, column_named, kind_of, table_named};
 
 /// The table that a name stands for, if there is one.
+#[tactic(auto, unfolding(crate::specs::Names::table_called))]
 pub(crate) fn table_at(name: &Name) -> Option<TableId>
     ensures { result ≡ spec.table_at (name_view name.now) }
 {
@@ -17,6 +18,7 @@ pub(crate) fn table_at(name: &Name) -> Option<TableId>
 }
 
 /// The column that a name stands for, if there is one.
+#[tactic(auto, unfolding(crate::specs::Names::column_called))]
 pub(crate) fn column_at(name: &Name) -> Option<ColumnId>
     ensures { result ≡ spec.column_at (name_view name.now) }
 {

@@ -5,6 +5,7 @@ ghost use Rattle.std.specs.Result.{result_err};
 ghost use Rattle.star_common.specs.First.{first_answer};
 ghost use Rattle.star_query.specs.Views.{condition_view, expression_view, item_view, literal_view, measure_view, name_view, test_view, tree_view};
 ghost use Rattle.star_plan.specs.Private.Stages as stages;
+ghost use Rattle.star_schema.specs.Tables.{kind_of_value};
 ghost use Rattle.star_plan.specs.Uses as spec;
 ghost use Rattle.star_plan.specs.Faults.{use_kind_fault, scope_fault};
 ghost use Rattle.star_plan.specs.Private.Found.{use_view, uses_view};
@@ -85,7 +86,7 @@ impl Use {
 }
 
 fn kind_of_literal(literal: &Literal) -> Kind
-    ensures { result ≡ spec.kind_of_literal (literal_view literal.now) }
+    ensures { result ≡ kind_of_value (literal_view literal.now) }
 {
     match literal {
         Literal::Number(_) => Kind::Number,

@@ -2,8 +2,7 @@
 use Rattle.std.proofs.Common.{◌≡◌, ◌<◌, ◌≤◌, ◌*◌, ◌+◌, ℕ, zero, suc, List, [], ◌∷◌, ◌++◌, length, map, get_or, take, drop, ap, sym, refl, ◌∙◌, arith}
 use Rattle.std.specs.List.{flat_map}
 use Rattle.std.proofs.lemmas.List.{drop-drop, get_or_past, length-append}
-use Rattle.std.proofs.Math.Nat.{add_comm, suc-mul, zero-mul}
-use Rattle.std.proofs.Math.Seq.{drop-append_seam, take-append_seam}
+use Rattle.std.proofs.Math.{Nat.add_comm, Nat.suc-mul, Nat.zero-mul, Seq.drop-append_seam, Seq.take-append_seam}
 use Rattle.star_program.specs.Rows.{cut}
 
 module _ {A : Type 0} (w : ℕ) where

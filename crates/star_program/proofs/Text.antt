@@ -7,7 +7,6 @@ pub mod WrittenLemmas
 pub mod Depths
 pub mod Quotes
 pub mod ListLemmas
-pub mod ByName
 pub mod OneProgram
 pub mod FaultLemmas
 pub mod AddedStatements

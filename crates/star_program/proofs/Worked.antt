@@ -3,35 +3,20 @@
 use Rattle.std.proofs.Common.{◌≡◌, ℕ, ℤ, Bool, true, false, List, [], ◌∷◌, Option, Some, None, pos, negsuc, refl}
 use Rattle.std.specs.Prelude.{◌^◌, codes, map}
 use Rattle.star_common.proofs.Tables.{Gives, Gives2, Gives3}
-use Rattle.star_schema.specs.declared.column.ColumnId.TheVariants.{CRegion, LoQuantity}
-use Rattle.star_schema.specs.declared.group.Aggregate.TheVariants.{Count, Max, Min, Sum}
+use Rattle.star_schema.specs.declared.{column.ColumnId.TheVariants.CRegion, column.ColumnId.TheVariants.LoQuantity, group.Aggregate.TheVariants.Count, group.Aggregate.TheVariants.Max, group.Aggregate.TheVariants.Min, group.Aggregate.TheVariants.Sum, group.Direction.TheVariants.Ascending, group.Shape.TheVariants.Plain, table.TableId.TheVariants.Customer, table.TableId.TheVariants.Date, table.TableId.TheVariants.Lineorder}
 use Rattle.star_schema.specs.declared.group.GroupColumn.TheVariants as column
-use Rattle.star_schema.specs.declared.group.Direction.TheVariants.{Ascending}
-use Rattle.star_schema.specs.declared.group.Shape.TheVariants.{Plain}
-use Rattle.star_schema.specs.declared.table.TableId.TheVariants.{Customer, Date, Lineorder}
 use Rattle.star_schema.specs.Schema.{column_of}
 use Rattle.star_interval.specs.Range.{is_i64, is_i128}
 use Rattle.star_program.specs.declared.group.GroupKey.TheVariants as declared
 use Rattle.star_program.specs.declared.key.KeyValue.TheVariants as key
-use Rattle.star_program.specs.declared.op.Edge.TheVariants.{High, Low}
-use Rattle.star_program.specs.declared.op.Op.TheVariants.{Assign, Keep, Put}
+use Rattle.star_program.specs.declared.{op.Edge.TheVariants.High, op.Edge.TheVariants.Low, op.Op.TheVariants.Assign, op.Op.TheVariants.Keep, op.Op.TheVariants.Put, program.Parts.Parts, fault.TrapKind.TrapKind, fault.TrapKind.TheVariants.Wrong, fault.TrapKind.TheVariants.AbsentKey, fault.TrapKind.TheVariants.Overflow, value.Value.Value}
 use Rattle.star_program.specs.declared.op.Operation.TheVariants.{Const, Edge, Load, Find, Binary, Within, Not, Read}
 use Rattle.star_program.specs.declared.op.Operator.TheVariants.{Add, Sub, Mul, Less, LessOrEqual, Equal, And, Or}
-use Rattle.star_program.specs.declared.program.Parts.{Parts}
 use Rattle.star_program.specs.declared.fault.Fault.TheVariants.{BadGroup, BadRegister, Misplaced, Unset, WrongKind}
-use Rattle.star_program.specs.declared.fault.TrapKind.{TrapKind}
-use Rattle.star_program.specs.declared.fault.TrapKind.TheVariants.{Wrong, AbsentKey, Overflow}
-use Rattle.star_program.specs.declared.value.Value.{Value}
 use Rattle.star_program.specs.declared.value.Value.TheVariants.{Number, Text, Place, Row, Flag}
-use Rattle.star_program.specs.Code.{Each, Stop, Then}
+use Rattle.star_program.specs.{Code.Each, Code.Stop, Code.Then, Faults.group_at, Private.Doing.fitting, Puts.Update, Puts.overflows, Puts.total_over, ShowLines.shown_fault, Values.Registers, Values.no_registers, Values.with_entry, World.World}
 use Rattle.star_program.specs.Effects.{Effect, EndsTurn, GoesOn, State, Traps, act, answer_of, empty_state}
-use Rattle.star_program.specs.Faults.{group_at}
-use Rattle.star_program.specs.Private.Doing.{fitting}
-use Rattle.star_program.specs.Puts.{Update, overflows, total_over}
 use Rattle.star_program.specs.Run.{End, Ended, Limited, Trapped, bounded_run_of, run_of}
-use Rattle.star_program.specs.ShowLines.{shown_fault}
-use Rattle.star_program.specs.Values.{Registers, no_registers, with_entry}
-use Rattle.star_program.specs.World.{World}
 use Rattle.star_program.proofs.Sample.{sample, great_prices, assign, counting, plain, program, above_average, find_by_quantity, read_while_putting, written_twice, keep_outside, shows_no_key, scan_in_scan, doubled_difference}
 
 -- ---- what stands in registers

@@ -1,25 +1,16 @@
 -- What is wrong with an instruction, kind by kind, and in which order it is told.
 use Rattle.std.proofs.Common.{true, false, [], ◌∷◌, Option, Some, None, pos, refl}
 use Rattle.std.specs.Prelude.{codes, slice_index_or}
-use Rattle.star_schema.specs.declared.column.ColumnId.TheVariants.{CName, CRegion, DYear}
-use Rattle.star_schema.specs.declared.group.Aggregate.TheVariants.{Count, Sum}
-use Rattle.star_schema.specs.declared.group.Shape.TheVariants.{Plain}
+use Rattle.star_schema.specs.declared.{column.ColumnId.TheVariants.CName, column.ColumnId.TheVariants.CRegion, column.ColumnId.TheVariants.DYear, group.Aggregate.TheVariants.Count, group.Aggregate.TheVariants.Sum, group.Shape.TheVariants.Plain, table.TableId.TheVariants.Customer, table.TableId.TheVariants.Date}
 use Rattle.star_common.proofs.Tables.{Gives2, Gives3}
-use Rattle.star_schema.specs.declared.table.TableId.TheVariants.{Customer, Date}
 use Rattle.star_schema.specs.Schema.{column_of}
 use Rattle.star_program.specs.declared.group.GroupKey.TheVariants as declared
-use Rattle.star_program.specs.declared.op.Edge.TheVariants.{Low}
-use Rattle.star_program.specs.declared.op.Op.{Op}
-use Rattle.star_program.specs.declared.op.Op.TheVariants.{Assign, Keep, Put}
-use Rattle.star_program.specs.declared.op.Operation.{Operation}
+use Rattle.star_program.specs.declared.{op.Edge.TheVariants.Low, op.Op.Op, op.Op.TheVariants.Assign, op.Op.TheVariants.Keep, op.Op.TheVariants.Put, op.Operation.Operation, program.Parts.Parts, fault.Fault.Fault}
 use Rattle.star_program.specs.declared.op.Operation.TheVariants.{Const, Edge, Load, Find, Binary, Within, Not, Read}
 use Rattle.star_program.specs.declared.op.Operator.TheVariants.{Add, Sub, Mul, Less, LessOrEqual, Equal, And, Or}
-use Rattle.star_program.specs.declared.program.Parts.{Parts}
-use Rattle.star_program.specs.declared.fault.Fault.{Fault}
 use Rattle.star_program.specs.declared.fault.Fault.TheVariants.{BadRegister, Unset, WrongKind, BadColumn, BadGroup, Misplaced}
 use Rattle.star_program.specs.declared.value.Kind.TheVariants as kind
-use Rattle.star_program.specs.Code.{Stop}
-use Rattle.star_program.specs.Faults.{Kinds, fault_of}
+use Rattle.star_program.specs.{Code.Stop, Faults.Kinds, Faults.fault_of}
 
 -- seven registers, and a group by a number and a region that counts and sums
 abbrev parts : Parts

@@ -1,8 +1,6 @@
 -- The cell that is lent.
-use Rattle.star_program.specs.declared.outcome.Cell.{Cell}
+use Rattle.star_program.specs.declared.outcome.{Cell.Cell, CellView.CellView, CellView.TheVariants.Number, CellView.TheVariants.Text, CellView.TheVariants.All, CellView.TheVariants.Null}
 use Rattle.star_program.specs.declared.outcome.Cell.TheVariants as cell
-use Rattle.star_program.specs.declared.outcome.CellView.{CellView}
-use Rattle.star_program.specs.declared.outcome.CellView.TheVariants.{Number, Text, All, Null}
 
 abbrev pub cell_viewed : CellView → Cell
 cell_viewed (Number z) = cell.Number z

@@ -1,11 +1,8 @@
 -- The values of keys and their order.
 use Rattle.std.specs.Prelude.{Bool, false, nat_eq, List}
-use Rattle.std.specs.Ordering.{int_cmp, int_eq, nat_cmp}
-use Rattle.std.specs.Cmp.Lexicographic.{pointwise}
-use Rattle.std.specs.declared.cmp.Ordering.{Ordering}
-use Rattle.std.specs.declared.cmp.Ordering.TheVariants.{Less, Greater}
-use Rattle.star_program.specs.declared.key.KeyValue.{KeyValue}
-use Rattle.star_program.specs.declared.key.KeyValue.TheVariants.{Number, Code}
+use Rattle.std.specs.{Ordering.int_cmp, Ordering.int_eq, Ordering.nat_cmp, Cmp.Lexicographic.pointwise}
+use Rattle.std.specs.declared.cmp.Ordering.{Ordering, TheVariants.Less, TheVariants.Greater}
+use Rattle.star_program.specs.declared.key.KeyValue.{KeyValue, TheVariants.Number, TheVariants.Code}
 
 -- by value or by code; the keys of one column are all of one kind
 abbrev pub key_value_cmp : KeyValue → KeyValue → Ordering

@@ -1,8 +1,7 @@
 -- The limits of a program.
 use Rattle.std.specs.Prelude.{◌≤◌, All, length}
 use Rattle.star_program.specs.Code.{code_size, scan_depth}
-use Rattle.star_program.specs.declared.group.GroupDecl.{GroupDecl}
-use Rattle.star_program.specs.declared.program.Parts.{Parts}
+use Rattle.star_program.specs.declared.{group.GroupDecl.GroupDecl, program.Parts.Parts}
 
 -- a group has at most 6 keys and 8 aggregates
 pub record IsSmall (group : GroupDecl) : Type 0 where

@@ -2,8 +2,7 @@
 use Rattle.std.specs.Prelude.{ℤ, slice_index_or, Option, Some, None}
 use Rattle.star_schema.specs.declared.group.GroupColumn.{GroupColumn}
 use Rattle.star_schema.specs.declared.group.GroupColumn.TheVariants as column
-use Rattle.star_schema.specs.Groups.{GroupRow}
-use Rattle.star_schema.specs.Tables.{Value, Number, Text}
+use Rattle.star_schema.specs.{Groups.GroupRow, Tables.Value, Tables.Number, Tables.Text}
 use Rattle.star_program.specs.declared.outcome.Cell.{Cell}
 use Rattle.star_program.specs.declared.outcome.Cell.TheVariants as cell
 

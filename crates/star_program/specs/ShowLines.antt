@@ -1,9 +1,7 @@
 -- What a report names of its group.
 use Rattle.std.specs.Prelude.{ℕ, ◌+◌, Bool, ◌&&◌, nat_lt, List, [], ◌∷◌, ◌++◌, length, map, Option, Some, None, if◌then◌else◌}
-use Rattle.star_schema.specs.declared.group.GroupColumn.{GroupColumn}
-use Rattle.star_schema.specs.declared.group.GroupColumn.TheVariants.{Key, Aggregate}
-use Rattle.star_program.specs.declared.group.GroupDecl.{GroupDecl}
-use Rattle.star_program.specs.declared.program.Parts.{Parts}
+use Rattle.star_schema.specs.declared.group.GroupColumn.{GroupColumn, TheVariants.Key, TheVariants.Aggregate}
+use Rattle.star_program.specs.declared.{group.GroupDecl.GroupDecl, program.Parts.Parts}
 use Rattle.star_program.specs.Faults.{group_at}
 
 -- the group has the column

@@ -1,9 +1,7 @@
 -- The words of traps.
 use Rattle.std.specs.Prelude.{ℕ, List, codes}
-use Rattle.star_program.specs.declared.fault.Fault.{Fault}
+use Rattle.star_program.specs.declared.fault.{Fault.Fault, TrapKind.TrapKind, TrapKind.TheVariants.Wrong, TrapKind.TheVariants.AbsentKey, TrapKind.TheVariants.Overflow}
 use Rattle.star_program.specs.declared.fault.Fault.TheVariants.{BadRegister, WrittenTwice, Unset, WrongKind, BadColumn, BadGroup, Misplaced}
-use Rattle.star_program.specs.declared.fault.TrapKind.{TrapKind}
-use Rattle.star_program.specs.declared.fault.TrapKind.TheVariants.{Wrong, AbsentKey, Overflow}
 
 unfoldable pub wrong_text : Fault → List ℕ
 wrong_text BadRegister = codes "BadRegister"

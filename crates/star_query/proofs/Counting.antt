@@ -1,15 +1,11 @@
 -- Counts of parts.
 use Rattle.std.proofs.Common.{◌≡◌, ℕ, ◌+◌, ◌<◌, ◌≤◌, Bool, true, false, List, [], ◌∷◌, length, refl, sym, subst, arith}
 use Rattle.std.specs.Prelude.{nat_lt, if◌then◌else◌}
-use Rattle.std.proofs.lemmas.Bool.{ltb-true, ltb-false}
-use Rattle.star_query.specs.declared.counts.Part.{Part}
+use Rattle.std.proofs.lemmas.{Bool.ltb-true, Bool.ltb-false, List.length-map}
+use Rattle.star_query.specs.declared.counts.{Part.Part, Counts.Counts}
 use Rattle.star_query.specs.declared.counts.Part.TheVariants.{Item, Aggregate, GroupColumn, SortKey, Comparison, Operand}
-use Rattle.star_query.specs.declared.counts.Counts.{Counts}
 use Rattle.std.specs.Char.{to_ascii_lowercase}
-use Rattle.std.proofs.lemmas.List.{length-map}
-use Rattle.star_query.specs.Symbols.{Symbol, name, lowered}
-use Rattle.star_query.specs.Maxima.{limit}
-use Rattle.star_query.specs.Derives.{same_part, among, IsShortName, IsLongName}
+use Rattle.star_query.specs.{Symbols.Symbol, Symbols.name, Symbols.lowered, Maxima.limit, Derives.same_part, Derives.among, Derives.IsShortName, Derives.IsLongName}
 use Rattle.star_query.specs.Private.Machine.{count_of_part, bump, plus, is_over, is_long}
 
 pub not_below : (a b : ℕ) → b ≤ a → nat_lt a b ≡ false

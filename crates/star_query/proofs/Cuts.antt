@@ -2,35 +2,24 @@
 use Rattle.std.proofs.Common.{◌≡◌, ◌∙◌, ◌↔◌, refl, sym, ap, subst, ℕ, zero, suc, ◌+◌, ◌<◌, ◌≤◌, ◌⊎◌, inl, inr, Bool, true, false, List, [], ◌∷◌, ◌++◌, length, take, drop, arith, Option, Some, None, Result, Ok, Err, append_assoc, length-append, nat_eq, find, append-nil}
 use Rattle.std.specs.Prelude.{codes, ◌≢◌, ◌==◌, ◌||◌, ◌&&◌, not as negated, nat_lt, cond, Contains, if◌then◌else◌, slice_index_or, nat_le}
 use Rattle.std.specs.List.{AllByRecursion, flat_map, list_all, prefix_len, starts_with}
-use Rattle.std.specs.Char.{is_ascii_digit}
-use Rattle.std.specs.Cmp.Lexicographic.{same_text}
-use Rattle.std.specs.Str.Parse.{digits_value}
+use Rattle.std.specs.{Char.is_ascii_digit, Cmp.Lexicographic.same_text, Str.Parse.digits_value}
 use Rattle.std.proofs.Math.Seq.{take-append_seam, drop-append_seam}
-use Rattle.std.proofs.lemmas.Bool.{and_from, and_parts, eq-eqb, eqb-true, le-leb, leb-true, ltb-true, ltb-false, or_from, or_left, or_parts}
-use Rattle.std.proofs.lemmas.List.{take-append-drop, length-drop, length-take-le}
-use Rattle.std.proofs.lemmas.List.Folds.{length-prefix_len}
+use Rattle.std.proofs.lemmas.Bool.{and_from, and_parts, eq-eqb, eqb-true, leb-true, ltb-true, ltb-false, or_from, or_left, or_parts}
+use Rattle.std.proofs.lemmas.List.{take-append-drop, length-drop, length-take-le, Folds.length-prefix_len}
 use Rattle.star_common.proofs.NumeralLemmas.{digit_bounds}
-use Rattle.star_common.specs.Numerals.{is_numeral, numeral_of}
-use Rattle.star_common.specs.Quotes.{doubled, quoted}
-use Rattle.star_common.specs.Printable.{is_printable}
-use Rattle.star_query.specs.declared.token.Word.{Word}
+use Rattle.star_common.specs.{Numerals.is_numeral, Numerals.numeral_of, Quotes.doubled, Quotes.quoted, Printable.is_printable, WhiteSpace.is_blank}
+use Rattle.star_query.specs.declared.{token.Word.Word, fault.QueryFault.QueryFault, fault.QueryFault.TheVariants.BadCharacter, fault.QueryFault.TheVariants.BadNumber, fault.QueryFault.TheVariants.OpenText, fault.QueryFault.TheVariants.OutOfMemory}
 use Rattle.star_query.specs.declared.token.Word.TheVariants as words
 use Rattle.star_query.specs.declared.token.Relation.TheVariants as r
 use Rattle.star_query.specs.declared.token.Sign.TheVariants as s
 use Rattle.star_query.specs.declared.token.Additive.TheVariants as q
-use Rattle.star_query.specs.declared.fault.QueryFault.{QueryFault}
-use Rattle.star_query.specs.declared.fault.QueryFault.TheVariants.{BadCharacter, BadNumber, OpenText, OutOfMemory}
-use Rattle.star_query.specs.Maxima.{most_digits}
+use Rattle.star_query.specs.{Maxima.most_digits, Private.Lexed.front_piece, Private.Lexed.with_tokens}
 use Rattle.star_query.specs.Symbols.{Symbol, Placed, relation, sign, additive, name, number, text, spelling, word_symbol, lowered}
 use Rattle.star_query.specs.Private.Cut.{Piece, blank, token, bad, put_in_front, text_said, reserved, word_of, word_piece, number_piece, text_piece, sign_piece, piece_at, cut_from, cut_of}
-use Rattle.star_common.specs.WhiteSpace.{is_blank}
 use Rattle.star_query.specs.Tokens.{is_letter, is_word_byte, begins_with_letter, is_word, signs, IsToken, a_word, a_name, a_number, a_text, a_sign, continues, is_whole, AreTokens, no_more, white_space, a_token, IsBadNumber, IsStray, Stops, IsStopped}
-use Rattle.star_query.specs.Private.Lexed.{front_piece, with_tokens}
-use Rattle.star_query.proofs.Counting.{by_bool}
-use Rattle.star_query.proofs.Lexing.{cut_bad, cut_blank, cut_token, number_followed, number_long, number_some, prefix_passes, prefix_within, word_some}
+use Rattle.star_query.proofs.{Counting.by_bool, Reserved.spelled_alone, Signs.same_sign_piece}
+use Rattle.star_query.proofs.Lexing.{cut_bad, cut_blank, cut_token, number_followed, number_long, number_some, numeral_front, prefix_passes, prefix_within, word_some}
 use Rattle.star_query.proofs.Quotes.{Reads, read_closed, read_open, read_stopped, reads}
-use Rattle.star_query.proofs.Reserved.{spelled_alone}
-use Rattle.star_query.proofs.Signs.{same_sign_piece}
 
 -- ---- runs of bytes
 
@@ -160,18 +149,6 @@ no_more_of_it n [] digits letter = refl
 no_more_of_it n (b ∷ bs) digits letter =
     by_bool (is_ascii_digit b) (λ wrong. absurd (let h = rw wrong at digits in cc))
     (λ other. rw (letter, other) refl)
-
--- the digits at the front, at most `places`, are a numeral of these places
-numeral_front : (places : ℕ) (bytes : List ℕ) → 1 ≤ prefix_len is_ascii_digit bytes
-    → prefix_len is_ascii_digit bytes ≤ places
-    → is_numeral places (take (prefix_len is_ascii_digit bytes) bytes) ≡ true
-numeral_front places bytes some few =
-    let digits = take (prefix_len is_ascii_digit bytes) bytes in
-    let many : length digits ≡ prefix_len is_ascii_digit bytes =
-    length-prefix_len is_ascii_digit bytes in
-    and_from _ _ (and_from _ _ (le-leb 1 (length digits) (omega (arith, many, some)))
-    (le-leb (length digits) places (omega (arith, many, few))))
-    (prefix_passes is_ascii_digit bytes)
 
 number_found : (place b : ℕ) (bs : List ℕ) → is_ascii_digit b ≡ true
     → Found place (b ∷ bs) (number_piece place (b ∷ bs))
@@ -778,6 +755,16 @@ tokens_make_text bytes tokens = (
       subst (λ end. AreTokens end [] 0 bytes tokens) same (subst (Cut 0 bytes) e (cut_all bytes)),
   λ are. tokens_cut (length bytes) [] 0 bytes tokens are ∙ ap Ok (append-nil tokens),
 )
+
+-- no bytes have two lists of tokens
+pub one_cut : (bytes : List ℕ) (a b : List Placed) → AreTokens (length bytes) [] 0 bytes a
+    → AreTokens (length bytes) [] 0 bytes b → a ≡ b
+one_cut bytes a b s t =
+    let same : the_ok a ≡ the_ok b =
+    sym ((tokens_make_text bytes a).1 s) ∙ (tokens_make_text bytes b).1 t in cc
+  where
+    the_ok : List Placed → Result (List Placed) QueryFault
+    the_ok ts = Ok ts
 
 pub stop_cuts : (bytes : List ℕ) (fault : QueryFault)
     → (cut_of bytes ≡ Err fault) ↔ IsStopped bytes fault

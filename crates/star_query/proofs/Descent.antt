@@ -2,28 +2,18 @@
 use Rattle.std.proofs.Common.{◌≡◌, ◌∙◌, ℕ, pos, ◌+◌, ◌<◌, ◌≤◌, Bool, true, false, List, [], ◌∷◌, Some, None, Result, Ok, Err, refl, sym, ap, subst, arith}
 use Rattle.std.specs.Prelude.{nat_lt, neg_ℤ}
 use Rattle.star_query.specs.declared.token.Sign.TheVariants as s
-use Rattle.star_query.specs.declared.token.Digits.{Digits}
-use Rattle.star_query.specs.declared.token.Additive.{Additive}
-use Rattle.star_query.specs.declared.token.Additive.TheVariants.{Minus}
-use Rattle.star_query.specs.declared.counts.Part.{Part}
+use Rattle.star_query.specs.declared.{token.Digits.Digits, token.Additive.Additive, token.Additive.TheVariants.Minus, counts.Part.Part, fault.Fault.Fault, fault.Fault.TheVariants.Unexpected, fault.Fault.TheVariants.TooDeep, fault.Fault.TheVariants.TooMany, fault.ParseError.ParseError, tree.Name.Name, tree.Expression.Expression}
 use Rattle.star_query.specs.declared.counts.Part.TheVariants as part
-use Rattle.star_query.specs.declared.fault.Fault.{Fault}
-use Rattle.star_query.specs.declared.fault.Fault.TheVariants.{Unexpected, TooDeep, TooMany}
-use Rattle.star_query.specs.declared.fault.ParseError.{ParseError}
 use Rattle.star_query.specs.declared.fault.ParseError.TheVariants as errors
-use Rattle.star_query.specs.declared.tree.Name.{Name}
-use Rattle.star_query.specs.declared.tree.Expression.{Expression}
 use Rattle.star_query.specs.declared.tree.Expression.TheVariants as expressions
+use Rattle.std.specs.Result.{IsErrAnd}
 use Rattle.star_query.specs.Symbols.{Symbol, sign, additive, name, number}
 use Rattle.star_query.specs.Tree as tree
 use Rattle.star_query.specs.Private.Phrases.{Expr, plus_or_minus, Term, times, column, constant, negative, parens, first, ident, sum_or_difference, expr_tree, term_tree, factor_tree}
 use Rattle.star_query.specs.Private.Machine.{ExprHole, in_parens, TermHole, first_term, next_term, FactorHole, first_factor, next_factor, expr_depth, term_depth, factor_depth, ParserState, factor_wanted, factor_negative, term_had, expr_had, give_factor, to, next_step, query_at_end, Verdict, Bad, plus, checked, verdict_after, ends, run}
-use Rattle.star_query.specs.Views.{name_view, expression_view}
+use Rattle.star_query.specs.{Views.name_view, Views.expression_view, Private.Lists.bad_along}
 use Rattle.star_query.specs.Private.Reads.{Spot, head_of, No, verdict, EndsBad, Takes, NoName, NoNumber, IsName, IsNumber, IsBeyond, ReadsToken, ReadsName, ReadsNumber, Nests, ReadsPhrase, ReadsOperand, ReadsFactor, ReadsTerm, ReadsExpr}
-use Rattle.star_query.specs.Private.Lists.{bad_along}
-use Rattle.star_query.proofs.Counting.{not_below}
-use Rattle.star_query.proofs.Accepting.{expr_joins, parens_close}
-use Rattle.star_query.proofs.Tokens.{no_name_there}
+use Rattle.star_query.proofs.{Counting.not_below, Accepting.expr_joins, Accepting.parens_close, Tokens.no_name_there}
 
 -- past a symbol, within the limits
 pub takes : (old new : Spot) (x : Symbol) (ps : List Part) (d : ℕ) (from next : ParserState)
@@ -37,17 +27,17 @@ takes old new x ps d from next t deep e =
     ∙ ap (λ o. verdict_after o old.counts (x ∷ new.left) (run new.left)) e ∙ now
     ∙ ap (run new.left next) (sym t.counts)
 
--- where no step goes on
-pub stuck : (old : Spot) (from : ParserState) → query_at_end from ≡ None
+-- where no step goes on, and no query ends
+pub stuck : (old : Spot) (from : ParserState) → (old.left ≡ [] → query_at_end from ≡ None)
     → ((x : Symbol) → head_of old.left ≡ Some x → next_step from x ≡ None)
     → verdict old from ≡ Bad Unexpected old.left
-stuck old from ends_not steps_not = by_left old.left steps_not
+stuck old from ends_not steps_not = by_left old.left ends_not steps_not
   where
-    by_left : (left : List Symbol)
+    by_left : (left : List Symbol) → (left ≡ [] → query_at_end from ≡ None)
         → ((x : Symbol) → head_of left ≡ Some x → next_step from x ≡ None)
         → run left from old.counts ≡ Bad Unexpected left
-    by_left [] f = ap ends ends_not
-    by_left (x ∷ xs) f = ap (λ o. verdict_after o old.counts (x ∷ xs) (run xs)) (f x refl)
+    by_left [] e f = ap ends (e refl)
+    by_left (x ∷ xs) e f = ap (λ o. verdict_after o old.counts (x ∷ xs) (run xs)) (f x refl)
 
 head_is : (left : List Symbol) (x : Symbol) → head_of left ≡ Some x
     → (rest : List Symbol) × (left ≡ x ∷ rest)
@@ -140,14 +130,11 @@ bad_number ps d from old new e deep numbers others b =
     goes (number n) rest is = numbers n
     goes _ rest is = absurd is
 
--- what was refused, by another name of the answer
-pub refused : {A T P H : Type 0} (view : A → T) (tree : P → T) (IsHole : H → Type 0)
-    (wanted : H → ParserState) (given : P → H → ParserState) (old new : Spot)
-    (r : Result A ParseError) (e : ParseError) → r ≡ Err e
-    → ((h : H) → IsHole h → EndsBad e new (verdict old (wanted h)))
-    → ReadsPhrase view tree IsHole wanted given old new r
-refused view tree IsHole wanted given old new r e same f =
-    subst (ReadsPhrase view tree IsHole wanted given old new) (sym same) f
+-- what holds of an error holds where a `?` returns it
+pub failed : {A : Type 0} (P : Result A ParseError → Type 0) (r : Result A ParseError)
+    (e : ParseError) → IsErrAnd r (λ y. y ≡ e) → P (Err e) → P r
+failed P (Ok x) e is bad = absurd is
+failed P (Err y) e is bad = subst (λ z. P (Err z)) (sym is) bad
 
 -- operands
 pub read_column : (old new : Spot) (n : Name)
@@ -197,39 +184,34 @@ no_factor h (additive Minus) a b c d = absurd (c refl)
 no_factor h (sign s.Open) a b c d = absurd (d refl)
 no_factor h _ a b c d = refl
 
-pub bad_column : (old new : Spot) (r : Result (Expression Name) ParseError) (e : ParseError)
-    → r ≡ Err e → IsName old.left → ReadsName (part.Operand ∷ []) old new (Err e)
-    → ReadsOperand old new r
-bad_column old new r e same is b =
-    refused expression_view factor_tree (λ h. factor_depth h ≤ 32) factor_wanted give_factor old new
-    r e same (λ h deep. bad_name (part.Operand ∷ []) (factor_depth h) (factor_wanted h) old new
-    e deep (λ t p. (give_factor (column (record { text = t; place = p })) h, refl))
-    (λ none. absurd (no_name_there old.left is none)) b)
+pub bad_column : (old new : Spot) (e : ParseError) → IsName old.left
+    → ReadsName (part.Operand ∷ []) old new (Err e) → ReadsOperand old new (Err e)
+bad_column old new e is b =
+    λ h deep. bad_name (part.Operand ∷ []) (factor_depth h) (factor_wanted h) old new e deep
+    (λ t p. (give_factor (column (record { text = t; place = p })) h, refl))
+    (λ none. absurd (no_name_there old.left is none)) b
 
-pub bad_negative : (old mid new : Spot) (r : Result (Expression Name) ParseError) (e : ParseError)
-    → r ≡ Err e → Takes old mid (additive Minus) []
-    → ReadsNumber (part.Operand ∷ []) mid new (Err e) → ReadsOperand old new r
-bad_negative old mid new r e same t b =
-    refused expression_view factor_tree (λ h. factor_depth h ≤ 32) factor_wanted give_factor old new
-    r e same (λ h deep. bad_along e new _ _
+pub bad_negative : (old mid new : Spot) (e : ParseError) → Takes old mid (additive Minus) []
+    → ReadsNumber (part.Operand ∷ []) mid new (Err e) → ReadsOperand old new (Err e)
+bad_negative old mid new e t b =
+    λ h deep. bad_along e new _ _
     (takes old mid _ [] (factor_depth h) (factor_wanted h) (factor_negative h) t deep refl)
     (bad_number (part.Operand ∷ []) (factor_depth h) (factor_negative h) mid new e deep
     (λ n. (give_factor (negative n) h, refl))
-    (λ none. stuck mid (factor_negative h) refl
-    (λ x head. only_number h x (head_no_number mid.left x head none))) b))
+    (λ none. stuck mid (factor_negative h) (λ e. refl)
+    (λ x head. only_number h x (head_no_number mid.left x head none))) b)
 
-pub bad_constant : (old mid new : Spot) (r : Result (Expression Name) ParseError) (e : ParseError)
-    → r ≡ Err e → mid ≡ old → NoName old.left → No (additive Minus) old → No (sign s.Open) old
-    → ReadsNumber (part.Operand ∷ []) mid new (Err e) → ReadsOperand old new r
-bad_constant old mid new r e same here no_name no_minus no_open b =
-    let number_bad = subst (λ s. ReadsNumber (part.Operand ∷ []) s new (Err e)) here b in
-    refused expression_view factor_tree (λ h. factor_depth h ≤ 32) factor_wanted give_factor old new
-    r e same (λ h deep. bad_number (part.Operand ∷ []) (factor_depth h) (factor_wanted h) old
-    new e deep (λ n. (give_factor (constant n) h, refl))
-    (λ none. stuck old (factor_wanted h) refl
+pub bad_constant : (old mid new : Spot) (e : ParseError) → mid ≡ old → NoName old.left
+    → No (additive Minus) old → No (sign s.Open) old
+    → ReadsNumber (part.Operand ∷ []) mid new (Err e) → ReadsOperand old new (Err e)
+bad_constant old mid new e here no_name no_minus no_open b =
+    λ h deep. bad_number (part.Operand ∷ []) (factor_depth h) (factor_wanted h) old new e deep
+    (λ n. (give_factor (constant n) h, refl))
+    (λ none. stuck old (factor_wanted h) (λ e. refl)
     (λ x head. no_factor h x (head_no_name old.left x head no_name)
     (head_no_number old.left x head none) (λ q. no_minus (head ∙ ap Some q))
-    (λ q. no_open (head ∙ ap Some q)))) number_bad)
+    (λ q. no_open (head ∙ ap Some q))))
+    (subst (λ s. ReadsNumber (part.Operand ∷ []) s new (Err e)) here b)
 
 -- expressions
 pub read_parens : (old a b new : Spot) (d : ℕ) (x : Expression Name) → Takes old a (sign s.Open) []

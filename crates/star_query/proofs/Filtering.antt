@@ -1,36 +1,29 @@
 -- The parser's functions on conditions go with the machine.
 use Rattle.std.proofs.Common.{◌≡◌, ◌∙◌, ℕ, pos, ◌+◌, ◌<◌, ◌≤◌, [], ◌∷◌, Some, None, Result, Ok, Err, refl, sym, ap, arith}
 use Rattle.std.specs.Prelude.{neg_ℤ}
-use Rattle.std.specs.declared.alloc.Global.{Global}
-use Rattle.std.specs.declared.vec.Vec.{Vec}
+use Rattle.std.specs.declared.{alloc.Global.Global, vec.Vec.Vec}
 use Rattle.star_query.specs.declared.token.Keyword.TheVariants as k
 use Rattle.star_query.specs.declared.token.Sign.TheVariants as s
-use Rattle.star_query.specs.declared.token.Additive.TheVariants.{Minus}
-use Rattle.star_query.specs.declared.token.Relation.{Relation}
+use Rattle.star_query.specs.declared.{token.Additive.TheVariants.Minus, token.Relation.Relation, fault.ParseError.ParseError, tree.Name.Name, tree.Literal.Literal, tree.Test.Test, tree.Condition.Condition}
 use Rattle.star_query.specs.declared.token.Relation.TheVariants as r
 use Rattle.star_query.specs.declared.counts.Part.TheVariants as part
-use Rattle.star_query.specs.declared.fault.ParseError.{ParseError}
-use Rattle.star_query.specs.declared.tree.Name.{Name}
-use Rattle.star_query.specs.declared.tree.Literal.{Literal}
 use Rattle.star_query.specs.declared.tree.Literal.TheVariants as literals
 use Rattle.star_query.specs.declared.tree.Comparison.TheVariants as comparisons
-use Rattle.star_query.specs.declared.tree.Test.{Test}
 use Rattle.star_query.specs.declared.tree.Test.TheVariants as tests
-use Rattle.star_query.specs.declared.tree.Condition.{Condition}
 use Rattle.star_query.specs.declared.tree.Condition.TheVariants as conditions
 use Rattle.star_query.specs.Symbols.{Symbol, keyword, relation, sign, additive, name, number, text}
+use Rattle.star_schema.specs.Tables.{Value, Number}
 use Rattle.star_query.specs.Tree as tree
 use Rattle.star_query.specs.Private.Phrases.{unsigned_literal, negative_literal, string_literal, Cond, or_conj, Conj, and_unit, Unary, not_unit, group, pair, compare, between, ident, lit_tree, cond_tree, conj_tree, unit_tree}
 use Rattle.star_query.specs.Private.Machine.{compared, low, high, UnitHole, first_unit, next_unit, under_not, ConjHole, first_conj, next_conj, CondHole, in_group, lit_depth, unit_depth, conj_depth, cond_depth, lit_wanted, lit_negative, low_had, unit_wanted, unit_named, equal_had, conj_had, cond_had, give_lit, give_unit, behind_relation, next_step, Verdict}
-use Rattle.star_query.specs.Views.{name_view, literal_view, condition_view}
+use Rattle.star_query.specs.{Views.name_view, Views.literal_view, Views.condition_view, Private.Lists.bad_along}
 use Rattle.star_query.specs.Private.Reads.{Spot, No, verdict, Takes, NoName, ReadsName, ReadsLit, ReadsNamed, ReadsUnit, ReadsConj, ReadsCond}
-use Rattle.star_query.specs.Private.Lists.{bad_along}
 use Rattle.star_query.proofs.Accepting.{cond_joins, group_closes}
-use Rattle.star_query.proofs.Descent.{takes, stuck, bad_name, refused, along, same_from, head_no_name}
+use Rattle.star_query.proofs.Descent.{takes, stuck, bad_name, along, same_from, head_no_name}
 
 -- literals
 pub read_negated : (old mid new : Spot) (x : Literal) (n : ℕ)
-    → literal_view x ≡ tree.number (neg_ℤ (pos n)) → Takes old mid (additive Minus) []
+    → literal_view x ≡ Number (neg_ℤ (pos n)) → Takes old mid (additive Minus) []
     → Takes mid new (number n) [] → ReadsLit old new (Ok x)
 read_negated old mid new x n is minus t = (
   negative_literal n,
@@ -40,7 +33,7 @@ read_negated old mid new x n is minus t = (
       refl,
 )
 
-pub read_whole : (old mid new : Spot) (x : Literal) (n : ℕ) → literal_view x ≡ tree.number (pos n)
+pub read_whole : (old mid new : Spot) (x : Literal) (n : ℕ) → literal_view x ≡ Number (pos n)
     → mid ≡ old → Takes mid new (number n) [] → ReadsLit old new (Ok x)
 read_whole old mid new x n is same t = (
   unsigned_literal n,
@@ -61,7 +54,7 @@ read_quoted old mid new v same t = (
 )
 
 -- comparisons
-abbrev compared_with : tree.Comparison tree.Name tree.Literal → tree.Condition tree.Test
+abbrev compared_with : tree.Comparison tree.Name Value → tree.Condition tree.Test
 compared_with c = tree.test (tree.comparison c)
 
 pub read_between : (old a b new : Spot) (i : Name) (l m : Literal) → ReadsLit old a (Ok l)
@@ -152,16 +145,15 @@ no_unit h (keyword k.Not) a b c = absurd (b refl)
 no_unit h (sign s.Open) a b c = absurd (c refl)
 no_unit h _ a b c = refl
 
-pub bad_comparison : (old new : Spot) (answer : Result (Condition Test) ParseError) (e : ParseError)
-    → answer ≡ Err e → No (keyword k.Not) old → No (sign s.Open) old
-    → ReadsName (part.Comparison ∷ []) old new (Err e) → ReadsNamed unit_wanted old new answer
-bad_comparison old new answer e same no_not no_open b =
-    refused condition_view unit_tree (λ h. unit_depth h ≤ 32) unit_wanted give_unit old new answer e
-    same (λ h deep. bad_name (part.Comparison ∷ []) (unit_depth h) (unit_wanted h) old new e
-    deep (λ t p. (unit_named h (record { text = t; place = p }), refl))
-    (λ none. stuck old (unit_wanted h) refl
+pub bad_comparison : (old new : Spot) (e : ParseError) → No (keyword k.Not) old
+    → No (sign s.Open) old → ReadsName (part.Comparison ∷ []) old new (Err e)
+    → ReadsNamed unit_wanted old new (Err e)
+bad_comparison old new e no_not no_open b =
+    λ h deep. bad_name (part.Comparison ∷ []) (unit_depth h) (unit_wanted h) old new e deep
+    (λ t p. (unit_named h (record { text = t; place = p }), refl))
+    (λ none. stuck old (unit_wanted h) (λ e. refl)
     (λ x head. no_unit h x (head_no_name old.left x head none) (λ q. no_not (head ∙ ap Some q))
-    (λ q. no_open (head ∙ ap Some q)))) b)
+    (λ q. no_open (head ∙ ap Some q)))) b
 
 -- conditions
 pub read_not : (old mid new : Spot) (d : ℕ) (x y : Condition Test)

@@ -1,20 +1,11 @@
 -- A text that means a tree has no fault.
-use Rattle.std.proofs.Common.{◌≡◌, ◌≢◌, ◌∙◌, ℕ, ◌+◌, ◌<◌, ◌≤◌, ◌⊎◌, inl, inr, List, [], ◌∷◌, ◌++◌, Result, Ok, refl, sym, ap, subst, arith, append_assoc, append-nil, length}
+use Rattle.std.proofs.Common.{◌≡◌, ◌≢◌, ◌∙◌, ℕ, ◌<◌, ◌≤◌, ◌⊎◌, inl, inr, List, [], ◌∷◌, ◌++◌, refl, sym, ap, subst, arith, append_assoc, append-nil}
 use Rattle.std.specs.List.{AllByRecursion}
-use Rattle.star_query.specs.declared.counts.Part.{Part}
-use Rattle.star_query.specs.declared.fault.Fault.{Fault}
-use Rattle.star_query.specs.declared.fault.Fault.TheVariants.{Unexpected, TooDeep, TooMany}
-use Rattle.star_query.specs.declared.fault.QueryFault.{QueryFault}
+use Rattle.star_query.specs.declared.{counts.Part.Part, fault.Fault.Fault, fault.Fault.TheVariants.Unexpected, fault.Fault.TheVariants.TooDeep, fault.Fault.TheVariants.TooMany, fault.QueryFault.QueryFault}
 use Rattle.star_query.specs.declared.fault.QueryFault.TheVariants as faults
-use Rattle.star_query.specs.Symbols.{Symbol, Placed, name, symbols}
-use Rattle.star_query.specs.Private.Cut.{cut_of}
-use Rattle.star_query.specs.Tokens.{AreTokens, IsStopped}
-use Rattle.star_query.specs.Tree.{Tree}
-use Rattle.star_query.specs.Grammar.{Mark, IsQuery}
-use Rattle.star_query.specs.Maxima.{limit}
+use Rattle.star_query.specs.{Symbols.Symbol, Symbols.Placed, Symbols.name, Symbols.symbols, Tokens.IsStopped, Tree.Tree, Grammar.Mark, Grammar.IsQuery, Maxima.limit}
 use Rattle.star_query.specs.Derives.{count_begun, IsShortName, IsLongName, Derives, symbols_at, BeginsQuery, Breaks, IsTooDeep, IsTooMany, FirstQueryFault, StopsAt, IsFirstQueryFault, Means}
-use Rattle.star_query.proofs.Cuts.{tokens_make_text, stop_cuts}
-use Rattle.star_query.proofs.Verdicts.{count_of-append, one_front}
+use Rattle.star_query.proofs.{Cuts.one_cut, Cuts.tokens_make_text, Cuts.stop_cuts, Verdicts.count_of-append, Verdicts.one_front}
 
 -- ---- the marks of a query, where a token breaks a limit
 
@@ -92,21 +83,12 @@ never_stops xs left tree TooMany d f = never_many xs tree f.front left d f.cut f
 
 -- ---- texts
 
-same_tokens : (bytes : List ℕ) (a b : List Placed) → AreTokens (length bytes) [] 0 bytes a
-    → AreTokens (length bytes) [] 0 bytes b → a ≡ b
-same_tokens bytes a b s t =
-    let same : the_ok a ≡ the_ok b =
-    sym ((tokens_make_text bytes a).1 s) ∙ (tokens_make_text bytes b).1 t in cc
-  where
-    the_ok : List Placed → Result (List Placed) QueryFault
-    the_ok ts = Ok ts
-
 never_left : (bytes : List ℕ) (tree : Tree) (fault : Fault) (left : List Placed) → Means bytes tree
     → StopsAt bytes fault left → ⊥
 never_left bytes tree fault left m s =
     never_stops (symbols (s.front ++ left)) (symbols left) tree fault
     (subst (λ ts. Derives (symbols ts) tree)
-    (same_tokens bytes m.tokens (s.front ++ left) m.cut s.cut) m.derives) s.first
+    (one_cut bytes m.tokens (s.front ++ left) m.cut s.cut) m.derives) s.first
 
 never_cut : (bytes : List ℕ) (tree : Tree) (fault : QueryFault) → Means bytes tree
     → IsStopped bytes fault → ⊥

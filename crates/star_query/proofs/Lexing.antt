@@ -1,24 +1,12 @@
 -- The readers of the lexer read what begins at a place.
 use Rattle.std.proofs.Common.{None, ◌≡◌, ◌∙◌, ◌↔◌, ℕ, Bool, true, false, List, [], ◌∷◌, IsTrue, nat_eq, refl, sym, ap, subst, ◌+◌, ◌<◌, ◌≤◌, ◌-◌, arith, length, drop, take, zero, suc, Result, Ok, Err, ◌++◌, append_assoc, append-nil, drop-drop}
-use Rattle.std.specs.Cmp.Lexicographic.{pointwise, same_text}
-use Rattle.std.proofs.lemmas.Bool.{and_from, eq-eqb, le-leb, lt-ltb, ltb-false, ltb-true, or_right}
-use Rattle.star_query.specs.declared.token.Word.{Word}
-use Rattle.star_query.specs.declared.token.Word.TheVariants.{Keyword, Fold, Count}
-use Rattle.star_query.specs.declared.token.Keyword.TheVariants.{Select}
-use Rattle.star_query.specs.declared.token.Fold.TheVariants.{Sum}
-use Rattle.star_query.specs.Symbols.{Symbol, Placed, spelling, lowered}
+use Rattle.std.specs.{Cmp.Lexicographic.bytes_decides, Cmp.Lexicographic.pointwise, Cmp.Lexicographic.same_text, Char.is_ascii_digit, List.list_all, List.prefix_len, Prelude.nat_lt}
+use Rattle.std.proofs.lemmas.Bool.{and_from, le-leb, lt-ltb, ltb-false, ltb-true, or_right}
+use Rattle.star_query.specs.declared.{token.Word.Word, token.Word.TheVariants.Keyword, token.Word.TheVariants.Fold, token.Word.TheVariants.Count, token.Keyword.TheVariants.Select, token.Fold.TheVariants.Sum, fault.QueryFault.TheVariants.BadNumber, fault.QueryFault.TheVariants.OutOfMemory, fault.QueryFault.TheVariants.TooLong, fault.QueryFault.QueryFault}
+use Rattle.star_query.specs.{Symbols.Symbol, Symbols.Placed, Symbols.spelling, Symbols.lowered, Tokens.begins_with_letter, Tokens.is_word_byte, Private.Lexed.front_piece, Private.Lexed.with_tokens, Private.Lexed.begins_with_digit, Private.Lexed.IsCutFault}
 use Rattle.star_query.specs.Private.Cut.{is_spelled, blank, token, bad, cut_from, cut_of, put_in_front, number_piece}
-use Rattle.star_query.specs.Tokens.{begins_with_letter, is_word_byte}
-use Rattle.star_query.specs.declared.fault.QueryFault.TheVariants.{BadNumber, OutOfMemory, TooLong}
-use Rattle.star_query.specs.declared.fault.QueryFault.{QueryFault}
-use Rattle.std.specs.Char.{is_ascii_digit}
-use Rattle.std.proofs.lemmas.List.{drop_all}
-use Rattle.star_query.specs.Private.Lexed.{front_piece, with_tokens, begins_with_digit, IsCutFault}
-use Rattle.std.specs.List.{list_all, prefix_len}
-use Rattle.std.specs.Prelude.{nat_lt}
+use Rattle.std.proofs.lemmas.List.{drop_all, Sums.prefix_len-le-length, Folds.length-prefix_len}
 use Rattle.star_common.specs.Numerals.{is_numeral, numeral_of}
-use Rattle.std.proofs.lemmas.List.Sums.{prefix_len-le-length}
-use Rattle.std.proofs.lemmas.List.Folds.{length-prefix_len}
 
 lowered-spelling : (w : Word) → lowered (spelling w) ≡ spelling w
 unfolding spelling
@@ -27,14 +15,9 @@ lowered-spelling (Fold Sum) = refl
 lowered-spelling Count = refl
 lowered-spelling _ = refl
 
-pointwise_self : (xs : List ℕ) → pointwise nat_eq xs xs ≡ true
-pointwise_self [] = refl
-pointwise_self (x ∷ xs) = rw (eq-eqb x x refl) (pointwise_self xs)
-
 -- a test of equal texts is the test by bytes
 by_bytes : (b : Bool) (xs ys : List ℕ) → (IsTrue b ↔ (xs ≡ ys)) → b ≡ pointwise nat_eq xs ys
-by_bytes true xs ys e = sym
-    (subst (λ zs. pointwise nat_eq xs zs ≡ true) (e.0 refl) (pointwise_self xs))
+by_bytes true xs ys e = sym ((bytes_decides xs ys).1 (e.0 refl))
 by_bytes false xs ys e = by_test (pointwise nat_eq xs ys) refl
   where
     by_test : (c : Bool) → pointwise nat_eq xs ys ≡ c → false ≡ pointwise nat_eq xs ys
@@ -147,17 +130,16 @@ number_some (b ∷ bs) e = rw e (omega arith)
 
 -- ---- numbers
 
--- the digits at the front are a numeral, unless there are more than 19
-front_numeral : (bytes : List ℕ) → begins_with_digit bytes ≡ true
-    → prefix_len is_ascii_digit bytes ≤ 19
-    → is_numeral 19 (take (prefix_len is_ascii_digit bytes) bytes) ≡ true
-front_numeral bytes begins few =
+-- the digits at the front, at most `places`, are a numeral of these places
+pub numeral_front : (places : ℕ) (bytes : List ℕ) → 1 ≤ prefix_len is_ascii_digit bytes
+    → prefix_len is_ascii_digit bytes ≤ places
+    → is_numeral places (take (prefix_len is_ascii_digit bytes) bytes) ≡ true
+numeral_front places bytes some few =
     let digits = take (prefix_len is_ascii_digit bytes) bytes in
     let many : length digits ≡ prefix_len is_ascii_digit bytes =
     length-prefix_len is_ascii_digit bytes in
-    let some = number_some bytes begins in
     and_from _ _ (and_from _ _ (le-leb 1 (length digits) (omega (arith, many, some)))
-    (le-leb (length digits) 19 (omega (arith, many, few))))
+    (le-leb (length digits) places (omega (arith, many, few))))
     (prefix_passes is_ascii_digit bytes)
 
 pub number_long : (place : ℕ) (bytes : List ℕ) → 18 < prefix_len is_ascii_digit bytes
@@ -181,7 +163,8 @@ number_too_long place bytes begins none = go (nat_lt 18 (prefix_len is_ascii_dig
     go true long = number_long place bytes (ltb-true 18 (prefix_len is_ascii_digit bytes) long)
     go false short =
         let few = ltb-false 18 (prefix_len is_ascii_digit bytes) short in
-        absurd (let wrong = rw (front_numeral bytes begins (omega (arith, few))) at none in cc)
+        absurd (let wrong = rw (numeral_front 19 bytes (number_some bytes begins) (omega (arith, few)))
+        at none in cc)
 
 pub fault_of_cut : (bytes : List ℕ) (fault : QueryFault) → cut_of bytes ≡ Err fault
     → IsCutFault bytes fault

@@ -1,12 +1,8 @@
 -- What some text means is within the limits, and spelled as the grammar wants.
 use Rattle.std.proofs.Math.Logic.{∥∥₁_elim}
 use Rattle.std.proofs.Props.{props}
-use Rattle.star_query.specs.Limits.{IsQueryWithinLimits}
-use Rattle.star_query.specs.Meant.{IsMeant}
-use Rattle.star_query.specs.Spelled.{IsSpelledQuery}
-use Rattle.star_query.specs.Tree.{Tree}
-use Rattle.star_query.proofs.Spelled.{meant_spelled}
-use Rattle.star_query.proofs.Within.{derived_within}
+use Rattle.star_query.specs.{Limits.IsQueryWithinLimits, Meant.IsMeant, Spelled.IsSpelledQuery, Tree.Tree}
+use Rattle.star_query.proofs.{Spelled.meant_spelled, Within.derived_within}
 
 limits_prop : (t : Tree) → IsProp (IsQueryWithinLimits t)
 limits_prop t = hlevel props

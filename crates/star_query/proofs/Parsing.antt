@@ -1,27 +1,16 @@
 -- A query from its tokens and from its text.
-use Rattle.std.proofs.Common.{◌≡◌, ◌∙◌, ℕ, ◌-◌, ◌≤◌, List, [], ◌∷◌, ◌++◌, zero, suc, map, length, take, drop, Result, Ok, Err, refl, sym, ap, subst, arith, length-append}
-use Rattle.std.proofs.lemmas.List.{length-map}
-use Rattle.star_query.specs.declared.token.Token.{Token}
-use Rattle.star_query.specs.declared.fault.Fault.{Fault}
-use Rattle.star_query.specs.declared.fault.Fault.TheVariants.{Unexpected, TooDeep, TooMany}
-use Rattle.star_query.specs.declared.fault.ParseError.{ParseError}
+use Rattle.std.proofs.Common.{◌≡◌, ◌∙◌, ℕ, ◌-◌, ◌≤◌, List, [], ◌∷◌, ◌++◌, map, length, take, drop, Ok, Err, refl, sym, ap, subst, arith, length-append}
+use Rattle.std.specs.List.{drop-map}
+use Rattle.std.proofs.Math.Seq.{drop-append_seam}
+use Rattle.std.proofs.lemmas.List.{length-map, take-append-drop}
+use Rattle.star_query.specs.declared.{token.Token.Token, fault.Fault.Fault, fault.Fault.TheVariants.Unexpected, fault.Fault.TheVariants.TooDeep, fault.Fault.TheVariants.TooMany, fault.ParseError.ParseError, fault.QueryFault.QueryFault, tree.Tree.Tree, counts.Counts.Counts}
 use Rattle.star_query.specs.declared.fault.ParseError.TheVariants as errors
-use Rattle.star_query.specs.declared.fault.QueryFault.{QueryFault}
 use Rattle.star_query.specs.declared.fault.QueryFault.TheVariants as faults
-use Rattle.star_query.specs.declared.tree.Tree.{Tree}
-use Rattle.star_query.specs.Symbols.{Symbol, Placed, symbols}
-use Rattle.star_query.specs.Private.Lexed.{placed, symbol_of, IsCutFault, IsLexical}
-use Rattle.star_query.specs.Private.Cut.{cut_of}
+use Rattle.star_query.specs.{Symbols.Symbol, Symbols.Placed, Symbols.symbols, Private.Lexed.placed, Private.Lexed.symbol_of, Private.Lexed.IsCutFault, Private.Lexed.IsLexical, Private.Cut.cut_of, Tokens.AreTokens, Private.Machine.Bad, Private.Machine.begin, Private.Machine.nothing_counted, Private.Machine.run, Views.tree_view, Private.Reads.Spot, Private.Reads.EndsBad, Private.Clauses.ReadsQuery}
 use Rattle.star_query.specs.Tree as tree
-use Rattle.star_query.specs.Tokens.{AreTokens}
 use Rattle.star_query.specs.Derives.{symbols_at, Derives, FirstQueryFault, Means, StopsAt, IsFirstQueryFault, first_place}
-use Rattle.star_query.specs.declared.counts.Counts.{Counts}
-use Rattle.star_query.specs.Private.Machine.{Bad, begin, nothing_counted, run}
-use Rattle.star_query.specs.Views.{tree_view}
-use Rattle.star_query.specs.Private.Reads.{Spot, EndsBad}
-use Rattle.star_query.specs.Private.Clauses.{ReadsQuery}
 use Rattle.star_query.specs.Private.TokenFaults.{TokensStopAt, IsTokenFault, refusal_of, query_fault, IsTreeRead}
-use Rattle.star_query.proofs.Cuts.{tokens_make_text, stop_cuts}
+use Rattle.star_query.proofs.Cuts.{one_cut, tokens_make_text, stop_cuts}
 use Rattle.star_query.proofs.Verdicts.{verdict_of, derives, one_tree, first_fault, refuses}
 
 pub spot_symbols : (ts : List Token)
@@ -29,31 +18,17 @@ pub spot_symbols : (ts : List Token)
 spot_symbols [] = refl
 spot_symbols (t ∷ ts) = ap (λ l. symbol_of t.kind t.place ∷ l) (spot_symbols ts)
 
-take_drop : {A : Type 0} (n : ℕ) (xs : List A) → xs ≡ take n xs ++ drop n xs
-take_drop zero xs = refl
-take_drop (suc n) [] = refl
-take_drop (suc n) (x ∷ xs) = ap (λ l. x ∷ l) (take_drop n xs)
-
-map_drop : {A B : Type 0} (f : A → B) (n : ℕ) (xs : List A) → map f (drop n xs) ≡ drop n (map f xs)
-map_drop f zero xs = refl
-map_drop f (suc n) [] = refl
-map_drop f (suc n) (x ∷ xs) = map_drop f n xs
-
-drop_front : {A : Type 0} (xs ys : List A) → drop (length xs) (xs ++ ys) ≡ ys
-drop_front [] ys = refl
-drop_front (x ∷ xs) ys = drop_front xs ys
-
 -- what is left has its place by its length
 left_over : (tokens : List Placed) (front left : List Symbol) → symbols tokens ≡ front ++ left
     → symbols (drop (length tokens - length left) tokens) ≡ left
 left_over tokens front left e =
     let count : length tokens - length left ≡ length front =
     omega (arith, ap length e, length-map tokens (λ t. t.symbol), length-append front left) in
-    map_drop (λ t. t.symbol) (length tokens - length left) tokens
+    sym (drop-map (λ t. t.symbol) (length tokens - length left) tokens)
     ∙ ap (drop (length tokens - length left)) e ∙ ap (λ n. drop n (front ++ left)) count
-    ∙ drop_front front left
+    ∙ drop-append_seam front left
 
-stops_at : (tokens : List Placed) (f : Fault) (left : List Symbol)
+pub stops_at : (tokens : List Placed) (f : Fault) (left : List Symbol)
     → verdict_of (symbols tokens) ≡ Bad f left
     → TokensStopAt tokens f (drop (length tokens - length left) tokens)
 stops_at tokens f left e =
@@ -61,7 +36,7 @@ stops_at tokens f left e =
     let n = length tokens - length left in
     record {
       front = take n tokens;
-      cut = take_drop n tokens;
+      cut = sym (take-append-drop n tokens);
       first = subst (FirstQueryFault (symbols tokens) f)
           (sym (left_over tokens (symbols_at first.front) left first.cut)) first;
     }
@@ -83,19 +58,12 @@ no_tree xs Unexpected left place t e d = refuses xs Unexpected left t e d
 no_tree xs TooDeep left place t e d = refuses xs TooDeep left t e d
 no_tree xs TooMany left place t e d = refuses xs TooMany left t e d
 
-cut_is_cut : (a b : List Placed) (c : Result (List Placed) QueryFault) → c ≡ Ok a → c ≡ Ok b → a ≡ b
-cut_is_cut a b c e f = let same : the_ok a ≡ the_ok b = sym e ∙ f in cc
-  where
-    the_ok : List Placed → Result (List Placed) QueryFault
-    the_ok ts = Ok ts
-
 -- the text means a tree of its tokens
 pub meant : (bytes : List ℕ) (tokens : List Placed) (t : tree.Tree) → cut_of bytes ≡ Ok tokens
     → Means bytes t → Derives (symbols tokens) t
 meant bytes tokens t cut m =
-    subst (λ ts. Derives (symbols ts) t) (cut_is_cut m.tokens tokens (cut_of bytes)
-    ((tokens_make_text bytes m.tokens).1 m.cut) cut)
-    m.derives
+    subst (λ ts. Derives (symbols ts) t)
+    (one_cut bytes m.tokens tokens m.cut ((tokens_make_text bytes tokens).0 cut)) m.derives
 
 fresh : (ts : List Token) (n : Counts) → n ≡ nothing_counted
     → run (map (λ t. symbol_of t.kind t.place) ts) begin n ≡ verdict_of (symbols (map placed ts))
@@ -171,7 +139,7 @@ error_no_tree ts left n m (errors.Fault f) place u e bad d =
     tokens_no_tree ts left n f place u e bad d
 
 -- the first fault of the tokens is the text's
-stopped : (bytes : List ℕ) (tokens left : List Placed) (fault : Fault) → length bytes ≤ 65536
+pub stopped : (bytes : List ℕ) (tokens left : List Placed) (fault : Fault) → length bytes ≤ 65536
     → cut_of bytes ≡ Ok tokens → TokensStopAt tokens fault left → StopsAt bytes fault left
 stopped bytes tokens left fault short cut s = record {
   short = short;

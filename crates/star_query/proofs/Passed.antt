@@ -1,16 +1,14 @@
 -- What was read on the way to a state, and that each step reads one symbol more.
-use Rattle.std.proofs.Common.{◌≡◌, ◌∙◌, ℕ, ◌+◌, List, [], ◌∷◌, Option, Some, None, refl, ap, subst}
+use Rattle.std.proofs.Common.{◌≡◌, ◌∙◌, ◌+◌, List, [], ◌∷◌, Option, Some, None, refl, ap, subst}
 use Rattle.star_query.specs.declared.token.Keyword.TheVariants as k
 use Rattle.star_query.specs.declared.token.Sign.TheVariants as s
-use Rattle.star_query.specs.declared.token.Additive.TheVariants.{Minus}
-use Rattle.star_query.specs.declared.token.Relation.{Relation}
+use Rattle.star_query.specs.declared.token.{Additive.TheVariants.Minus, Relation.Relation}
 use Rattle.star_query.specs.declared.token.Relation.TheVariants as r
 use Rattle.star_query.specs.declared.counts.Part.TheVariants as part
 use Rattle.star_query.specs.Symbols.{Symbol, keyword, fold, count, relation, sign, additive, name, number, text}
-use Rattle.star_query.specs.Tree.{Name}
-use Rattle.star_query.specs.Grammar.{Mark}
-use Rattle.star_query.specs.Private.Phrases.{Several, Expr, Term, Factor, parens, Lit, Cond, Conj, Unary, not_unit, group, compare, between, Agg, Item, aggregate, Key, unmarked, ascending, descending, ungrouped, grouped, at, first, ident, function, expr_marks, term_marks, factor_marks, lit_marks, cond_marks, conj_marks, unit_marks, agg_marks, item_marks, table_marks, column_marks, key_marks, several_marks, where_marks, groups_marks, keys_marks, Hiding, hiding_word}
-use Rattle.star_query.specs.Private.Machine.{extended, ExprHole, in_fold, in_parens, TermHole, first_term, next_term, FactorHole, first_factor, next_factor, CondHole, in_where, in_group, ConjHole, first_conj, next_conj, UnitHole, first_unit, next_unit, under_not, LitHole, compared, low, high, Filtered, Grouped, filtered_by, grouped_by, expr_depth, term_depth, factor_depth, cond_depth, conj_depth, unit_depth, lit_depth, ParserState, begin, item_wanted, fold_named, count_named, count_opened, count_starred, factor_wanted, factor_negative, term_had, agg_had, alias_wanted, items_had, table_wanted, tables_had, unit_wanted, unit_named, equal_had, lit_wanted, lit_negative, low_had, conj_had, filtered_had, group_had, by_had, hiding_had, column_wanted, columns_had, grouped_had, order_had, key_wanted, key_named, keys_had, done, ended, Step, give_factor, joined_expr, around_term, give_unit, joined_cond, around_conj, give_lit, behind_relation, closed_expr, on_begin, on_item, on_fold, on_count, on_count_opened, on_count_starred, on_factor, on_negative, on_term, on_items, on_agg, on_alias, on_table, on_done, on_grouped, on_filtered, on_tables, on_unit, on_named, on_lit, on_equal, on_lit_negative, on_low, closed_cond, on_cond, on_conj, on_group, on_column, on_by, on_hiding, on_hidden, on_columns, on_order, on_key, on_keys, on_key_named, next_step}
+use Rattle.star_query.specs.{Tree.Name, Grammar.Mark}
+use Rattle.star_query.specs.Private.Phrases.{Several, Expr, Term, Factor, parens, Lit, Cond, Conj, Unary, not_unit, group, compare, between, Item, aggregate, Key, unmarked, ascending, descending, ungrouped, grouped, at, first, ident, function, expr_marks, term_marks, factor_marks, lit_marks, cond_marks, conj_marks, unit_marks, agg_marks, item_marks, table_marks, column_marks, key_marks, several_marks, where_marks, groups_marks, keys_marks, Hiding, hiding_word}
+use Rattle.star_query.specs.Private.Machine.{extended, ExprHole, in_fold, in_parens, TermHole, first_term, next_term, FactorHole, first_factor, next_factor, CondHole, in_where, in_group, ConjHole, first_conj, next_conj, UnitHole, first_unit, next_unit, under_not, LitHole, compared, low, high, Filtered, Grouped, filtered_by, grouped_by, expr_depth, term_depth, factor_depth, cond_depth, conj_depth, unit_depth, lit_depth, ParserState, begin, item_wanted, fold_named, count_named, count_opened, count_starred, factor_wanted, factor_negative, term_had, agg_had, alias_wanted, items_had, table_wanted, tables_had, unit_wanted, unit_named, equal_had, lit_wanted, lit_negative, low_had, conj_had, filtered_had, group_had, by_had, hiding_had, column_wanted, columns_had, grouped_had, order_had, key_wanted, key_named, keys_had, done, ended, Step, give_factor, joined_expr, around_term, give_unit, joined_cond, around_conj, give_lit, behind_relation, closed_expr, on_items, on_done, on_grouped, on_filtered, on_lit, closed_cond, on_cond, on_column, on_keys, next_step}
 
 abbrev pub before_marks : {A : Type 0} → (A → List Mark → List Mark) → Option (Several A)
     → List Mark → List Mark
@@ -190,51 +188,6 @@ give_lit_passed (compared h i q) l rest = give_unit_passed h (compare i q l) res
 give_lit_passed (low h i) l rest = refl
 give_lit_passed (high h i m) l rest = give_unit_passed h (between i m l) rest
 
-begin_moves : (x : Symbol) → IfStep (on_begin x) (Moves begin x)
-begin_moves (keyword k.Select) = moves _ _ _ _ refl (λ rest. refl)
-begin_moves _ = tt
-
-item_moves : (b : Option (Several Item)) (x : Symbol)
-    → IfStep (on_item b x) (Moves (item_wanted b) x)
-item_moves b (name t p) =
-    moves _ _ _ _ refl (λ rest.
-    ap (λ l. at 0 (keyword k.Select) ∷ l) (several-extended item_marks b _ rest))
-item_moves b (fold f p) = moves _ _ _ _ refl (λ rest. refl)
-item_moves b (count p) = moves _ _ _ _ refl (λ rest. refl)
-item_moves b _ = tt
-
-fold_moves : (b : Option (Several Item)) (f : _) (p : ℕ) (x : Symbol)
-    → IfStep (on_fold b f p x) (Moves (fold_named b f p) x)
-fold_moves b f p (sign s.Open) = moves _ _ _ _ refl (λ rest. refl)
-fold_moves b f p _ = tt
-
-count_moves : (b : Option (Several Item)) (p : ℕ) (x : Symbol)
-    → IfStep (on_count b p x) (Moves (count_named b p) x)
-count_moves b p (sign s.Open) = moves _ _ _ _ refl (λ rest. refl)
-count_moves b p _ = tt
-
-opened_moves : (b : Option (Several Item)) (p : ℕ) (x : Symbol)
-    → IfStep (on_count_opened b p x) (Moves (count_opened b p) x)
-opened_moves b p (sign s.Star) = moves _ _ _ _ refl (λ rest. refl)
-opened_moves b p _ = tt
-
-starred_moves : (b : Option (Several Item)) (p : ℕ) (x : Symbol)
-    → IfStep (on_count_starred b p x) (Moves (count_starred b p) x)
-starred_moves b p (sign s.Close) = moves _ _ _ _ refl (λ rest. refl)
-starred_moves b p _ = tt
-
-factor_moves : (h : FactorHole) (x : Symbol) → IfStep (on_factor h x) (Moves (factor_wanted h) x)
-factor_moves h (name t p) = moves _ _ _ _ refl (give_factor_passed h _)
-factor_moves h (number n) = moves _ _ _ _ refl (give_factor_passed h _)
-factor_moves h (additive Minus) = moves _ _ _ _ refl (λ rest. refl)
-factor_moves h (sign s.Open) = moves _ _ _ _ refl (λ rest. refl)
-factor_moves h _ = tt
-
-negative_moves : (h : FactorHole) (x : Symbol)
-    → IfStep (on_negative h x) (Moves (factor_negative h) x)
-negative_moves h (number n) = moves _ _ _ _ refl (give_factor_passed h _)
-negative_moves h _ = tt
-
 close_moves : (t : Term) (h : TermHole) (e : Expr) (o : ExprHole)
     → ((rest : List Mark) → expr_passed o (expr_marks (expr_depth o) e rest)
     ≡ term_passed h (term_marks (term_depth h) t rest))
@@ -245,44 +198,10 @@ close_moves t h e (in_parens o) same =
     moves _ _ _ _ refl (λ rest.
     give_factor_passed o (parens e) rest ∙ same (at (factor_depth o + 1) (sign s.Close) ∷ rest))
 
-term_moves : (t : Term) (h : TermHole) (x : Symbol)
-    → IfStep (on_term t h x) (Moves (term_had t h) x)
-term_moves t h (sign s.Star) = moves _ _ _ _ refl (λ rest. refl)
-term_moves t h (additive q) =
-    moves _ _ _ _ refl (λ rest.
-    ap (λ d. expr_passed (around_term h)
-    (expr_marks (expr_depth (around_term h)) (joined_expr t h) (at d (additive q) ∷ rest)))
-    (same_depth h) ∙ joined_expr_passed h t (at (term_depth h) (additive q) ∷ rest))
-term_moves t h (sign s.Close) =
-    close_moves t h (joined_expr t h) (around_term h) (joined_expr_passed h t)
-term_moves t h _ = tt
-
 items_moves : (is : Several Item) (x : Symbol) → IfStep (on_items is x) (Moves (items_had is) x)
 items_moves is (sign s.Comma) = moves _ _ _ _ refl (λ rest. refl)
 items_moves is (keyword k.From) = moves _ _ _ _ refl (λ rest. refl)
 items_moves is _ = tt
-
-agg_moves : (b : Option (Several Item)) (a : Agg) (x : Symbol)
-    → IfStep (on_agg b a x) (Moves (agg_had b a) x)
-agg_moves b a (keyword k.As) = moves _ _ _ _ refl (λ rest. refl)
-agg_moves b a x =
-    moves_along (agg_had b a) (items_had (extended b (aggregate a None))) x (on_agg b a x)
-    (λ rest. ap (λ l. at 0 (keyword k.Select) ∷ l) (several-extended item_marks b _ rest))
-    (items_moves (extended b (aggregate a None)) x)
-
-alias_moves : (b : Option (Several Item)) (a : Agg) (x : Symbol)
-    → IfStep (on_alias b a x) (Moves (alias_wanted b a) x)
-alias_moves b a (name t p) =
-    moves _ _ _ _ refl (λ rest.
-    ap (λ l. at 0 (keyword k.Select) ∷ l) (several-extended item_marks b _ rest))
-alias_moves b a _ = tt
-
-table_moves : (is : Several Item) (b : Option (Several Name)) (x : Symbol)
-    → IfStep (on_table is b x) (Moves (table_wanted is b) x)
-table_moves is b (name t p) =
-    moves _ _ _ _ refl (λ rest.
-    ap (λ l. items_passed is (at 0 (keyword k.From) ∷ l)) (several-extended table_marks b _ rest))
-table_moves is b _ = tt
 
 done_moves : (g : Grouped) (ks : Option (Several Key)) (x : Symbol)
     → IfStep (on_done g ks x) (Moves (done g ks) x)
@@ -300,53 +219,16 @@ filtered_moves f x =
     moves_along (filtered_had f) (grouped_had (grouped_by f ungrouped)) x (on_filtered f x)
     (λ rest. refl) (grouped_moves (grouped_by f ungrouped) x)
 
-tables_moves : (is : Several Item) (ts : Several Name) (x : Symbol)
-    → IfStep (on_tables is ts x) (Moves (tables_had is ts) x)
-tables_moves is ts (sign s.Comma) = moves _ _ _ _ refl (λ rest. refl)
-tables_moves is ts (keyword k.Where) = moves _ _ _ _ refl (λ rest. refl)
-tables_moves is ts x =
-    moves_along (tables_had is ts) (filtered_had (filtered_by is ts None)) x (on_tables is ts x)
-    (λ rest. refl) (filtered_moves (filtered_by is ts None) x)
-
-unit_moves : (h : UnitHole) (x : Symbol) → IfStep (on_unit h x) (Moves (unit_wanted h) x)
-unit_moves h (name t p) = moves _ _ _ _ refl (λ rest. refl)
-unit_moves h (keyword k.Not) = moves _ _ _ _ refl (λ rest. refl)
-unit_moves h (sign s.Open) = moves _ _ _ _ refl (λ rest. refl)
-unit_moves h _ = tt
-
 relation_passed : (h : UnitHole) (i : Name) (q : Relation) (rest : List Mark)
     → passed (behind_relation h i q) rest ≡ lit_passed (compared h i q) rest
 relation_passed h i r.Equal rest = refl
 relation_passed h i _ rest = refl
-
-named_moves : (h : UnitHole) (i : Name) (x : Symbol)
-    → IfStep (on_named h i x) (Moves (unit_named h i) x)
-named_moves h i (relation q) = moves _ _ _ _ refl (relation_passed h i q)
-named_moves h i (keyword k.Between) = moves _ _ _ _ refl (λ rest. refl)
-named_moves h i _ = tt
 
 lit_moves : (h : LitHole) (x : Symbol) → IfStep (on_lit h x) (Moves (lit_wanted h) x)
 lit_moves h (number n) = moves _ _ _ _ refl (give_lit_passed h _)
 lit_moves h (text t) = moves _ _ _ _ refl (give_lit_passed h _)
 lit_moves h (additive Minus) = moves _ _ _ _ refl (λ rest. refl)
 lit_moves h _ = tt
-
-equal_moves : (h : UnitHole) (i : Name) (x : Symbol)
-    → IfStep (on_equal h i x) (Moves (equal_had h i) x)
-equal_moves h i (name t p) = moves _ _ _ _ refl (give_unit_passed h _)
-equal_moves h i x =
-    moves_along (equal_had h i) (lit_wanted (compared h i r.Equal)) x (on_equal h i x)
-    (λ rest. refl) (lit_moves (compared h i r.Equal) x)
-
-lit_negative_moves : (h : LitHole) (x : Symbol)
-    → IfStep (on_lit_negative h x) (Moves (lit_negative h) x)
-lit_negative_moves h (number n) = moves _ _ _ _ refl (give_lit_passed h _)
-lit_negative_moves h _ = tt
-
-low_moves : (h : UnitHole) (i : Name) (l : Lit) (x : Symbol)
-    → IfStep (on_low h i l x) (Moves (low_had h i l) x)
-low_moves h i l (keyword k.And) = moves _ _ _ _ refl (λ rest. refl)
-low_moves h i l _ = tt
 
 closed_moves : (from : ParserState) (a : Cond) (h : UnitHole) (x : Symbol)
     → ((rest : List Mark) → cond_passed (in_group h) (cond_marks (unit_depth h + 1) a rest)
@@ -369,21 +251,6 @@ conj_depth_around : (h : ConjHole) → cond_depth (around_conj h) ≡ conj_depth
 conj_depth_around (first_conj h) = refl
 conj_depth_around (next_conj a h) = refl
 
-conj_moves : (c : Conj) (h : ConjHole) (x : Symbol)
-    → IfStep (on_conj c h x) (Moves (conj_had c h) x)
-conj_moves c h (keyword k.And) = moves _ _ _ _ refl (λ rest. refl)
-conj_moves c h (keyword k.Or) =
-    moves _ _ _ _ refl (λ rest.
-    ap (λ d. cond_passed (around_conj h)
-    (cond_marks (cond_depth (around_conj h)) (joined_cond c h) (at d (keyword k.Or) ∷ rest)))
-    (conj_depth_around h) ∙ joined_cond_passed h c (at (conj_depth h) (keyword k.Or) ∷ rest))
-conj_moves c h x = cond_moves (conj_had c h) (joined_cond c h) (around_conj h) x
-    (joined_cond_passed h c)
-
-group_moves : (f : Filtered) (x : Symbol) → IfStep (on_group f x) (Moves (group_had f) x)
-group_moves f (keyword k.By) = moves _ _ _ _ refl (λ rest. refl)
-group_moves f _ = tt
-
 column_moves : (f : Filtered) (h : Option Hiding) (b : Option (Several Name)) (x : Symbol)
     → IfStep (on_column f h b x) (Moves (column_wanted f h b) x)
 column_moves f h b (name t p) =
@@ -391,90 +258,121 @@ column_moves f h b (name t p) =
     ap (λ l. by_passed f (hiding_passed h l)) (several-extended column_marks b _ rest))
 column_moves f h b _ = tt
 
-by_moves : (f : Filtered) (x : Symbol) → IfStep (on_by f x) (Moves (by_had f) x)
-by_moves f (keyword k.Cube) = moves _ _ _ _ refl (λ rest. refl)
-by_moves f (keyword k.Rollup) = moves _ _ _ _ refl (λ rest. refl)
-by_moves f x = moves_along (by_had f) (column_wanted f None None) x (on_by f x) (λ rest. refl)
-    (column_moves f None None x)
-
-hiding_moves : (f : Filtered) (h : Hiding) (x : Symbol)
-    → IfStep (on_hiding f h x) (Moves (hiding_had f h) x)
-hiding_moves f h (sign s.Open) = moves _ _ _ _ refl (λ rest. refl)
-hiding_moves f h _ = tt
-
-hidden_moves : (f : Filtered) (h : Hiding) (is : Several Name) (x : Symbol)
-    → IfStep (on_hidden f h is x) (Moves (columns_had f (Some h) is) x)
-hidden_moves f h is (sign s.Close) = moves _ _ _ _ refl (λ rest. refl)
-hidden_moves f h is _ = tt
-
-columns_moves : (f : Filtered) (h : Option Hiding) (is : Several Name) (x : Symbol)
-    → IfStep (on_columns f h is x) (Moves (columns_had f h is) x)
-columns_moves f h is (sign s.Comma) = moves _ _ _ _ refl (λ rest. refl)
-columns_moves f (Some h) is x = hidden_moves f h is x
-columns_moves f None is x =
-    moves_along (columns_had f None is) (grouped_had (grouped_by f (grouped is))) x
-    (on_columns f None is x) (λ rest. refl) (grouped_moves (grouped_by f (grouped is)) x)
-
-order_moves : (g : Grouped) (x : Symbol) → IfStep (on_order g x) (Moves (order_had g) x)
-order_moves g (keyword k.By) = moves _ _ _ _ refl (λ rest. refl)
-order_moves g _ = tt
-
-key_moves : (g : Grouped) (b : Option (Several Key)) (x : Symbol)
-    → IfStep (on_key g b x) (Moves (key_wanted g b) x)
-key_moves g b (name t p) = moves _ _ _ _ refl (λ rest. refl)
-key_moves g b _ = tt
-
 keys_moves : (g : Grouped) (ks : Several Key) (x : Symbol)
     → IfStep (on_keys g ks x) (Moves (keys_had g ks) x)
 keys_moves g ks (sign s.Comma) = moves _ _ _ _ refl (λ rest. refl)
 keys_moves g ks x = moves_along (keys_had g ks) (done g (Some ks)) x (on_keys g ks x) (λ rest. refl)
     (done_moves g (Some ks) x)
 
-key_named_moves : (g : Grouped) (b : Option (Several Key)) (i : Name) (x : Symbol)
-    → IfStep (on_key_named g b i x) (Moves (key_named g b i) x)
-key_named_moves g b i (keyword k.Asc) =
+all_moves : (from : ParserState) (x : Symbol) → IfStep (next_step from x) (Moves from x)
+all_moves begin (keyword k.Select) = moves _ _ _ _ refl (λ rest. refl)
+all_moves begin _ = tt
+all_moves (item_wanted b) (name t p) =
+    moves _ _ _ _ refl (λ rest.
+    ap (λ l. at 0 (keyword k.Select) ∷ l) (several-extended item_marks b _ rest))
+all_moves (item_wanted b) (fold f p) = moves _ _ _ _ refl (λ rest. refl)
+all_moves (item_wanted b) (count p) = moves _ _ _ _ refl (λ rest. refl)
+all_moves (item_wanted b) _ = tt
+all_moves (fold_named b f p) (sign s.Open) = moves _ _ _ _ refl (λ rest. refl)
+all_moves (fold_named b f p) _ = tt
+all_moves (count_named b p) (sign s.Open) = moves _ _ _ _ refl (λ rest. refl)
+all_moves (count_named b p) _ = tt
+all_moves (count_opened b p) (sign s.Star) = moves _ _ _ _ refl (λ rest. refl)
+all_moves (count_opened b p) _ = tt
+all_moves (count_starred b p) (sign s.Close) = moves _ _ _ _ refl (λ rest. refl)
+all_moves (count_starred b p) _ = tt
+all_moves (factor_wanted h) (name t p) = moves _ _ _ _ refl (give_factor_passed h _)
+all_moves (factor_wanted h) (number n) = moves _ _ _ _ refl (give_factor_passed h _)
+all_moves (factor_wanted h) (additive Minus) = moves _ _ _ _ refl (λ rest. refl)
+all_moves (factor_wanted h) (sign s.Open) = moves _ _ _ _ refl (λ rest. refl)
+all_moves (factor_wanted h) _ = tt
+all_moves (factor_negative h) (number n) = moves _ _ _ _ refl (give_factor_passed h _)
+all_moves (factor_negative h) _ = tt
+all_moves (term_had t h) (sign s.Star) = moves _ _ _ _ refl (λ rest. refl)
+all_moves (term_had t h) (additive q) =
+    moves _ _ _ _ refl (λ rest.
+    ap (λ d. expr_passed (around_term h)
+    (expr_marks (expr_depth (around_term h)) (joined_expr t h) (at d (additive q) ∷ rest)))
+    (same_depth h) ∙ joined_expr_passed h t (at (term_depth h) (additive q) ∷ rest))
+all_moves (term_had t h) (sign s.Close) =
+    close_moves t h (joined_expr t h) (around_term h) (joined_expr_passed h t)
+all_moves (term_had t h) _ = tt
+all_moves (agg_had b a) (keyword k.As) = moves _ _ _ _ refl (λ rest. refl)
+all_moves (agg_had b a) x =
+    moves_along (agg_had b a) (items_had (extended b (aggregate a None))) x
+    (next_step (agg_had b a) x)
+    (λ rest. ap (λ l. at 0 (keyword k.Select) ∷ l) (several-extended item_marks b _ rest))
+    (items_moves (extended b (aggregate a None)) x)
+all_moves (alias_wanted b a) (name t p) =
+    moves _ _ _ _ refl (λ rest.
+    ap (λ l. at 0 (keyword k.Select) ∷ l) (several-extended item_marks b _ rest))
+all_moves (alias_wanted b a) _ = tt
+all_moves (items_had is) x = items_moves is x
+all_moves (table_wanted is b) (name t p) =
+    moves _ _ _ _ refl (λ rest.
+    ap (λ l. items_passed is (at 0 (keyword k.From) ∷ l)) (several-extended table_marks b _ rest))
+all_moves (table_wanted is b) _ = tt
+all_moves (tables_had is ts) (sign s.Comma) = moves _ _ _ _ refl (λ rest. refl)
+all_moves (tables_had is ts) (keyword k.Where) = moves _ _ _ _ refl (λ rest. refl)
+all_moves (tables_had is ts) x =
+    moves_along (tables_had is ts) (filtered_had (filtered_by is ts None)) x
+    (next_step (tables_had is ts) x) (λ rest. refl) (filtered_moves (filtered_by is ts None) x)
+all_moves (unit_wanted h) (name t p) = moves _ _ _ _ refl (λ rest. refl)
+all_moves (unit_wanted h) (keyword k.Not) = moves _ _ _ _ refl (λ rest. refl)
+all_moves (unit_wanted h) (sign s.Open) = moves _ _ _ _ refl (λ rest. refl)
+all_moves (unit_wanted h) _ = tt
+all_moves (unit_named h i) (relation q) = moves _ _ _ _ refl (relation_passed h i q)
+all_moves (unit_named h i) (keyword k.Between) = moves _ _ _ _ refl (λ rest. refl)
+all_moves (unit_named h i) _ = tt
+all_moves (equal_had h i) (name t p) = moves _ _ _ _ refl (give_unit_passed h _)
+all_moves (equal_had h i) x =
+    moves_along (equal_had h i) (lit_wanted (compared h i r.Equal)) x (next_step (equal_had h i) x)
+    (λ rest. refl) (lit_moves (compared h i r.Equal) x)
+all_moves (lit_wanted h) x = lit_moves h x
+all_moves (lit_negative h) (number n) = moves _ _ _ _ refl (give_lit_passed h _)
+all_moves (lit_negative h) _ = tt
+all_moves (low_had h i l) (keyword k.And) = moves _ _ _ _ refl (λ rest. refl)
+all_moves (low_had h i l) _ = tt
+all_moves (conj_had c h) (keyword k.And) = moves _ _ _ _ refl (λ rest. refl)
+all_moves (conj_had c h) (keyword k.Or) =
+    moves _ _ _ _ refl (λ rest.
+    ap (λ d. cond_passed (around_conj h)
+    (cond_marks (cond_depth (around_conj h)) (joined_cond c h) (at d (keyword k.Or) ∷ rest)))
+    (conj_depth_around h) ∙ joined_cond_passed h c (at (conj_depth h) (keyword k.Or) ∷ rest))
+all_moves (conj_had c h) x = cond_moves (conj_had c h) (joined_cond c h) (around_conj h) x
+    (joined_cond_passed h c)
+all_moves (filtered_had f) x = filtered_moves f x
+all_moves (group_had f) (keyword k.By) = moves _ _ _ _ refl (λ rest. refl)
+all_moves (group_had f) _ = tt
+all_moves (by_had f) (keyword k.Cube) = moves _ _ _ _ refl (λ rest. refl)
+all_moves (by_had f) (keyword k.Rollup) = moves _ _ _ _ refl (λ rest. refl)
+all_moves (by_had f) x = moves_along (by_had f) (column_wanted f None None) x
+    (next_step (by_had f) x) (λ rest. refl) (column_moves f None None x)
+all_moves (hiding_had f h) (sign s.Open) = moves _ _ _ _ refl (λ rest. refl)
+all_moves (hiding_had f h) _ = tt
+all_moves (column_wanted f h b) x = column_moves f h b x
+all_moves (columns_had f h is) (sign s.Comma) = moves _ _ _ _ refl (λ rest. refl)
+all_moves (columns_had f (Some h) is) (sign s.Close) = moves _ _ _ _ refl (λ rest. refl)
+all_moves (columns_had f (Some h) is) _ = tt
+all_moves (columns_had f None is) x =
+    moves_along (columns_had f None is) (grouped_had (grouped_by f (grouped is))) x
+    (next_step (columns_had f None is) x) (λ rest. refl) (grouped_moves (grouped_by f (grouped is)) x)
+all_moves (grouped_had g) x = grouped_moves g x
+all_moves (order_had g) (keyword k.By) = moves _ _ _ _ refl (λ rest. refl)
+all_moves (order_had g) _ = tt
+all_moves (key_wanted g b) (name t p) = moves _ _ _ _ refl (λ rest. refl)
+all_moves (key_wanted g b) _ = tt
+all_moves (key_named g b i) (keyword k.Asc) =
     moves _ _ _ _ refl (λ rest.
     ap (order_passed g) (several-extended key_marks b (ascending i) rest))
-key_named_moves g b i (keyword k.Desc) =
+all_moves (key_named g b i) (keyword k.Desc) =
     moves _ _ _ _ refl (λ rest.
     ap (order_passed g) (several-extended key_marks b (descending i) rest))
-key_named_moves g b i x =
-    moves_along (key_named g b i) (keys_had g (extended b (unmarked i))) x (on_key_named g b i x)
+all_moves (key_named g b i) x =
+    moves_along (key_named g b i) (keys_had g (extended b (unmarked i))) x
+    (next_step (key_named g b i) x)
     (λ rest. ap (order_passed g) (several-extended key_marks b (unmarked i) rest))
     (keys_moves g (extended b (unmarked i)) x)
-
-all_moves : (from : ParserState) (x : Symbol) → IfStep (next_step from x) (Moves from x)
-all_moves begin x = begin_moves x
-all_moves (item_wanted b) x = item_moves b x
-all_moves (fold_named b f p) x = fold_moves b f p x
-all_moves (count_named b p) x = count_moves b p x
-all_moves (count_opened b p) x = opened_moves b p x
-all_moves (count_starred b p) x = starred_moves b p x
-all_moves (factor_wanted h) x = factor_moves h x
-all_moves (factor_negative h) x = negative_moves h x
-all_moves (term_had t h) x = term_moves t h x
-all_moves (agg_had b a) x = agg_moves b a x
-all_moves (alias_wanted b a) x = alias_moves b a x
-all_moves (items_had is) x = items_moves is x
-all_moves (table_wanted is b) x = table_moves is b x
-all_moves (tables_had is ts) x = tables_moves is ts x
-all_moves (unit_wanted h) x = unit_moves h x
-all_moves (unit_named h i) x = named_moves h i x
-all_moves (equal_had h i) x = equal_moves h i x
-all_moves (lit_wanted h) x = lit_moves h x
-all_moves (lit_negative h) x = lit_negative_moves h x
-all_moves (low_had h i l) x = low_moves h i l x
-all_moves (conj_had c h) x = conj_moves c h x
-all_moves (filtered_had f) x = filtered_moves f x
-all_moves (group_had f) x = group_moves f x
-all_moves (by_had f) x = by_moves f x
-all_moves (hiding_had f h) x = hiding_moves f h x
-all_moves (column_wanted f h b) x = column_moves f h b x
-all_moves (columns_had f h is) x = columns_moves f h is x
-all_moves (grouped_had g) x = grouped_moves g x
-all_moves (order_had g) x = order_moves g x
-all_moves (key_wanted g b) x = key_moves g b x
-all_moves (key_named g b i) x = key_named_moves g b i x
 all_moves (keys_had g ks) x = keys_moves g ks x
 all_moves (done g ks) x = done_moves g ks x
 all_moves (ended g ks) x = tt

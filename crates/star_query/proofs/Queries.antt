@@ -1,46 +1,26 @@
 -- The parser's functions on the clauses of a query go with the machine.
 use Rattle.std.proofs.Common.{◌≡◌, ◌∙◌, ℕ, ◌<◌, ◌≤◌, Bool, true, false, List, [], ◌∷◌, map, length, Option, Some, None, Result, Ok, Err, refl, sym, ap, subst, arith}
-use Rattle.std.specs.Prelude.{option_map, OnOk, ◌==◌}
+use Rattle.std.specs.Prelude.{OnOk, ◌==◌}
 use Rattle.std.specs.Bool.{OnTrue, OnFalse}
-use Rattle.std.specs.declared.alloc.Global.{Global}
-use Rattle.std.specs.declared.vec.Vec.{Vec}
-use Rattle.star_query.specs.declared.token.Fold.{Fold}
+use Rattle.std.specs.declared.{alloc.Global.Global, vec.Vec.Vec}
+use Rattle.star_query.specs.declared.{token.Fold.Fold, fault.Fault.TheVariants.Unexpected, fault.ParseError.ParseError, clauses.Function.Function, parser.Parser.Parser, token.Token.Token, tree.Name.Name, tree.Expression.Expression, tree.Test.Test, tree.Condition.Condition, tree.Measure.Measure, tree.Grouping.Grouping, tree.SortKey.SortKey, tree.Tree.Tree}
 use Rattle.star_query.specs.declared.token.Keyword.TheVariants as k
 use Rattle.star_query.specs.declared.token.Sign.TheVariants as s
 use Rattle.star_query.specs.declared.counts.Part.TheVariants as part
-use Rattle.star_query.specs.declared.fault.Fault.TheVariants.{Unexpected}
-use Rattle.star_query.specs.declared.fault.ParseError.{ParseError}
 use Rattle.star_query.specs.declared.fault.ParseError.TheVariants as errors
-use Rattle.star_query.specs.declared.clauses.Function.{Function}
-use Rattle.star_query.specs.declared.parser.Parser.{Parser}
-use Rattle.star_query.specs.declared.token.Token.{Token}
-use Rattle.star_query.specs.Private.Lexed.{symbol_of}
-use Rattle.star_query.specs.declared.tree.Name.{Name}
-use Rattle.star_query.specs.declared.tree.Expression.{Expression}
-use Rattle.star_query.specs.declared.tree.Test.{Test}
-use Rattle.star_query.specs.declared.tree.Condition.{Condition}
-use Rattle.star_query.specs.declared.tree.Measure.{Measure}
+use Rattle.star_query.specs.{Private.Lexed.symbol_of, Symbols.Symbol, Symbols.keyword, Symbols.sign, Symbols.name, Private.Lists.PassesComma, Private.Lists.bad_along}
 use Rattle.star_query.specs.declared.tree.Measure.TheVariants as measures
-use Rattle.star_query.specs.declared.tree.Aggregate.{Aggregate}
-use Rattle.star_query.specs.declared.tree.Item.{Item}
 use Rattle.star_query.specs.declared.tree.Item.TheVariants as items
-use Rattle.star_query.specs.declared.tree.Grouping.{Grouping}
-use Rattle.star_schema.specs.declared.group.Shape.{Shape}
-use Rattle.star_schema.specs.declared.group.Shape.TheVariants.{Plain}
-use Rattle.star_query.specs.declared.tree.SortKey.{SortKey}
-use Rattle.star_schema.specs.declared.group.Direction.TheVariants.{Ascending, Descending}
-use Rattle.star_query.specs.declared.tree.Tree.{Tree}
-use Rattle.star_query.specs.Symbols.{Symbol, keyword, sign, name}
+use Rattle.star_schema.specs.declared.group.{Shape.Shape, Shape.TheVariants.Plain, Direction.TheVariants.Ascending, Direction.TheVariants.Descending}
 use Rattle.star_query.specs.Tree as tree
 use Rattle.star_query.specs.Private.Phrases as grammar
 use Rattle.star_query.specs.Private.Phrases.{Several, Agg, folded, counted, Cond, lone_conj, or_conj, Key, unmarked, ascending, descending, grouped, hiding, Query, at, first, ident, cond_tree, agg_tree, item_tree, names, groups_tree, Hiding, cube, rollup, hiding_word, shape_of}
-use Rattle.star_query.specs.Private.Machine.{extended, in_fold, in_where, first_factor, first_term, first_unit, first_conj, Filtered, Grouped, filtered_by, grouped_by, query_of, ParserState, begin, item_wanted, fold_named, count_named, count_opened, count_starred, factor_wanted, expr_had, cond_had, agg_had, alias_wanted, items_had, table_wanted, tables_had, unit_wanted, filtered_had, by_had, hiding_had, column_wanted, columns_had, grouped_had, order_had, key_wanted, key_named, keys_had, done, ended, to, next_step, query_at_end, Whole, Bad, verdict_after, ends, run}
-use Rattle.star_query.specs.Views.{name_view, condition_view, measure_view, aggregate_view, item_view, grouping_view}
+use Rattle.star_query.specs.Private.Machine.{extended, in_fold, in_where, first_factor, first_term, first_unit, first_conj, Filtered, Grouped, filtered_by, grouped_by, query_of, ParserState, begin, item_wanted, fold_named, count_named, count_opened, count_starred, factor_wanted, expr_had, cond_had, agg_had, alias_wanted, items_had, table_wanted, tables_had, unit_wanted, filtered_had, by_had, hiding_had, column_wanted, columns_had, grouped_had, order_had, key_wanted, key_named, keys_had, done, ended, to, next_step, query_at_end, Bad}
+use Rattle.star_query.specs.Views.{name_view, measure_view}
 use Rattle.star_query.specs.Private.Reads.{Spot, spot_of, head_of, No, verdict, EndsBad, Takes, NoName, ReadsName, ReadsExpr, ReadsCond, NoLogic}
 use Rattle.star_query.specs.Private.Clauses.{function_symbol, function_named, function_parts, ReadsFolded, ReadsCounted, ReadsMeasure, ReadsAlias, ReadsAggregate, ReadsItem, NoComma, ReadsItems, ReadsTable, ReadsTables, ReadsFilter, ReadsColumn, ReadsColumns, ReadsHidden, ReadsGroups, ReadsGrouping, ReadsKey, ReadsKeyList, ReadsKeys, ReadsEnd, ReadsQuery}
-use Rattle.star_query.specs.Private.Lists.{PassesComma, bad_along}
 use Rattle.star_query.proofs.Accepting.{fold_closes}
-use Rattle.star_query.proofs.Descent.{takes, stuck, bad_name, refused, same_from, head_no_name}
+use Rattle.star_query.proofs.Descent.{takes, stuck, bad_name, same_from, head_no_name}
 
 zero_deep : 0 ≤ 32
 zero_deep = omega arith
@@ -55,7 +35,7 @@ pub not_next : (x : Symbol) (old new : Spot) (from : ParserState) (e : ParseErro
     → (e ≡ errors.Fault Unexpected) × No x old × (new ≡ old) → EndsBad e new (verdict old from)
 not_next x old new from e no_end others b =
     subst (λ f. EndsBad f new (verdict old from)) (sym b.0)
-    (stuck old from no_end (λ y head. others y head (λ q. b.1 (head ∙ ap Some q)))
+    (stuck old from (λ e. no_end) (λ y head. others y head (λ q. b.1 (head ∙ ap Some q)))
     ∙ ap (λ s. Bad Unexpected s.left) (sym b.2))
 
 -- aggregates
@@ -143,22 +123,15 @@ only_alias : (b : Option (Several grammar.Item)) (a : Agg) (x : Symbol) → NoNa
 only_alias b a (name t p) none = absurd none
 only_alias b a _ none = refl
 
-pub bad_alias : (old mid new : Spot) (r : Result (Option Name) ParseError) (e : ParseError)
-    → r ≡ Err e → Takes old mid (keyword k.As) [] → ReadsName [] mid new (Err e)
-    → ReadsAlias old new r
-bad_alias old mid new r e same t b =
-    refused (option_map name_view) (λ (p : Option tree.Name). p) (λ h. Unit {0})
-    (λ h. agg_had h.0 h.1) (λ p h. items_had (extended h.0 (grammar.aggregate h.1 p))) old new r
-    e same (λ h u. bad_along e new _ _
+pub bad_alias : (old mid new : Spot) (e : ParseError) → Takes old mid (keyword k.As) []
+    → ReadsName [] mid new (Err e) → ReadsAlias old new (Err e)
+bad_alias old mid new e t b =
+    λ h u. bad_along e new _ _
     (takes old mid _ [] 0 (agg_had h.0 h.1) (alias_wanted h.0 h.1) t zero_deep refl)
     (bad_name [] 0 (alias_wanted h.0 h.1) mid new e zero_deep
-    (λ w p. (
-      items_had (extended h.0
-          (grammar.aggregate h.1 (Some (record { text = w; place = p })))),
-      refl,
-    ))
-    (λ none. stuck mid (alias_wanted h.0 h.1) refl
-    (λ x head. only_alias h.0 h.1 x (head_no_name mid.left x head none))) b))
+    (λ w p. (_, refl))
+    (λ none. stuck mid (alias_wanted h.0 h.1) (λ e. refl)
+    (λ x head. only_alias h.0 h.1 x (head_no_name mid.left x head none))) b)
 
 abbrev with_name : Option tree.Name → tree.Aggregate → tree.Aggregate
 with_name p x = record x { name = p }
@@ -210,7 +183,7 @@ bad_table : (is : Several grammar.Item) (b : Option (Several tree.Name)) (old ne
 bad_table is b old new e reads =
     bad_name [] 0 (table_wanted is b) old new e zero_deep
     (λ t p. (tables_had is (extended b (record { text = t; place = p })), refl))
-    (λ none. stuck old (table_wanted is b) refl
+    (λ none. stuck old (table_wanted is b) (λ e. refl)
     (λ x head. only_table is b x (head_no_name old.left x head none))) reads
 
 pub read_table : (old new : Spot) (r : Result Name ParseError) → ReadsName [] old new r
@@ -256,17 +229,13 @@ read_filter old mid new c t reads none = (
       (λ q. none.1 (head ∙ ap Some q))),
 )
 
-pub bad_filter : (old mid new : Spot) (r : Result (Option (Condition Test)) ParseError)
-    (e : ParseError) → r ≡ Err e → Takes old mid (keyword k.Where) [] → ReadsCond 0 mid new (Err e)
-    → ReadsFilter old new r
-bad_filter old mid new r e same t b =
-    refused (option_map condition_view) (option_map cond_tree) (λ h. Unit {0})
-    (λ (h : Several grammar.Item × Several tree.Name). tables_had h.0 h.1)
-    (λ c h. filtered_had (filtered_by h.0 h.1 c)) old new r e same
-    (λ h u. bad_along e new _ _
+pub bad_filter : (old mid new : Spot) (e : ParseError) → Takes old mid (keyword k.Where) []
+    → ReadsCond 0 mid new (Err e) → ReadsFilter old new (Err e)
+bad_filter old mid new e t b =
+    λ h u. bad_along e new _ _
     (takes old mid _ [] 0 (tables_had h.0 h.1)
     (unit_wanted (first_unit (first_conj (in_where h.0 h.1)))) t zero_deep refl)
-    (b (in_where h.0 h.1) refl))
+    (b (in_where h.0 h.1) refl)
 
 tables_step : (is : Several grammar.Item) (ts : Several tree.Name) (x : Symbol)
     → (x ≡ sign s.Comma → ⊥) → (x ≡ keyword k.Where → ⊥)
@@ -298,7 +267,7 @@ bad_column_name : (f : Filtered) (h : Option Hiding) (b : Option (Several tree.N
 bad_column_name f h b old new e reads =
     bad_name (part.GroupColumn ∷ []) 0 (column_wanted f h b) old new e zero_deep
     (λ t p. (columns_had f h (extended b (record { text = t; place = p })), refl))
-    (λ none. stuck old (column_wanted f h b) refl
+    (λ none. stuck old (column_wanted f h b) (λ e. refl)
     (λ x head. only_column f h b x (head_no_name old.left x head none))) reads
 
 pub read_column : (old new : Spot) (r : Result Name ParseError)
@@ -336,30 +305,20 @@ read_hidden shape old a b new v opened reads closed = (
       (grouped_had (grouped_by h.0 (hiding h.1 reads.0))) closed zero_deep refl,
 )
 
-bad_hidden : (shape : Shape) (old new : Spot) (r : Result Grouping ParseError) (e : ParseError)
-    → r ≡ Err e → ((f : Filtered) (h : Hiding) → EndsBad e new (verdict old (hiding_had f h)))
-    → ReadsHidden shape old new r
-bad_hidden shape old new r e is bad =
-    refused grouping_view (λ is. record { shape = shape; columns = names is }) (λ h. Unit {0})
-    (λ (h : Filtered × Hiding). hiding_had h.0 h.1)
-    (λ is h. grouped_had (grouped_by h.0 (hiding h.1 is))) old new r e is (λ h u. bad h.0 h.1)
+pub bad_hidden_columns : (shape : Shape) (old a new : Spot) (e : ParseError)
+    → Takes old a (sign s.Open) [] → ReadsColumns a new (Err e)
+    → ReadsHidden shape old new (Err e)
+bad_hidden_columns shape old a new e opened bad =
+    λ h u. bad_along e new _ _ (opens old a h.0 h.1 opened) (bad (h.0, Some h.1) tt)
 
-pub bad_hidden_columns :
-    (shape : Shape) (old a new : Spot) (r : Result Grouping ParseError) (e : ParseError) → r ≡ Err e
-    → Takes old a (sign s.Open) [] → ReadsColumns a new (Err e) → ReadsHidden shape old new r
-bad_hidden_columns shape old a new r e is opened bad =
-    bad_hidden shape old new r e is
-    (λ f h. bad_along e new _ _ (opens old a f h opened) (bad (f, Some h) tt))
-
-pub bad_hidden_close : (shape : Shape) (old a b new : Spot) (v : _) (r : Result Grouping ParseError)
-    (e : ParseError) → r ≡ Err e → Takes old a (sign s.Open) [] → ReadsColumns a b (Ok v)
-    → NoComma b → (e ≡ errors.Fault Unexpected) × No (sign s.Close) b × (new ≡ b)
-    → ReadsHidden shape old new r
-bad_hidden_close shape old a b new v r e is opened reads no_comma bad =
-    bad_hidden shape old new r e is
-    (λ f h. bad_along e new _ _ (opens old a f h opened ∙ reads.2 (f, Some h) tt)
-    (not_next (sign s.Close) b new (columns_had f (Some h) reads.0) e refl
-    (λ y head other. hidden_ends f h reads.0 y (λ q. no_comma (head ∙ ap Some q)) other) bad))
+pub bad_hidden_close : (shape : Shape) (old a b new : Spot) (v : _) (e : ParseError)
+    → Takes old a (sign s.Open) [] → ReadsColumns a b (Ok v) → NoComma b
+    → (e ≡ errors.Fault Unexpected) × No (sign s.Close) b × (new ≡ b)
+    → ReadsHidden shape old new (Err e)
+bad_hidden_close shape old a b new v e opened reads no_comma bad =
+    λ h u. bad_along e new _ _ (opens old a h.0 h.1 opened ∙ reads.2 (h.0, Some h.1) tt)
+    (not_next (sign s.Close) b new (columns_had h.0 (Some h.1) reads.0) e refl
+    (λ y head other. hidden_ends h.0 h.1 reads.0 y (λ q. no_comma (head ∙ ap Some q)) other) bad)
 
 on_word : (f : Filtered) (h : Hiding)
     → next_step (by_had f) (keyword (hiding_word h))
@@ -415,13 +374,11 @@ read_plain old mid here new v no_cube no_rollup reads no_comma = (
       refl (λ x head. plain_step f reads.0 x (λ q. no_comma (head ∙ ap Some q))),
 )
 
-pub bad_plain : (old mid here new : Spot) (r : Result Grouping ParseError) (e : ParseError)
-    → r ≡ Err e → No (keyword k.Cube) old × (mid ≡ old) → No (keyword k.Rollup) mid × (here ≡ mid)
-    → ReadsColumns here new (Err e) → ReadsGroups old new r
-bad_plain old mid here new r e is no_cube no_rollup b =
-    refused grouping_view groups_tree (λ h. Unit {0}) by_had (λ g f. grouped_had (grouped_by f g))
-    old new r e is (λ f u. bad_along e new _ _ (by_columns old mid here f no_cube no_rollup)
-    (b (f, None) tt))
+pub bad_plain : (old mid here new : Spot) (e : ParseError)
+    → No (keyword k.Cube) old × (mid ≡ old) → No (keyword k.Rollup) mid × (here ≡ mid)
+    → ReadsColumns here new (Err e) → ReadsGroups old new (Err e)
+bad_plain old mid here new e no_cube no_rollup b =
+    λ f u. bad_along e new _ _ (by_columns old mid here f no_cube no_rollup) (b (f, None) tt)
 
 -- sort keys
 key_step : (g : Grouped) (b : Option (Several Key)) (i : tree.Name) (x : Symbol)
@@ -501,37 +458,22 @@ read_keys old a b new (Ok v) order by reads none = (
 read_keys old a b new (Err e) order by bad none =
     λ g u. bad_along e new _ _ (order_by_passed old a b g order by) (bad g tt)
 
-past_nothing : (here : Spot) (from : ParserState) → 0 < length here.left
-    → ((x : Symbol) → head_of here.left ≡ Some x → next_step from x ≡ None)
-    → verdict here from ≡ Bad Unexpected here.left
-past_nothing here from some none = by_left here.left some none
-  where
-    by_left : (left : List Symbol) → 0 < length left
-        → ((x : Symbol) → head_of left ≡ Some x → next_step from x ≡ None)
-        → run left from here.counts ≡ Bad Unexpected left
-    by_left [] some none = absurd (omega arith)
-    by_left (x ∷ xs) some none =
-        ap (λ o. verdict_after o here.counts (x ∷ xs) (run xs)) (none x refl)
-
 only_semicolon : (g : Grouped) (ks : Option (Several Key)) (x : Symbol) → (x ≡ sign s.Semicolon → ⊥)
     → next_step (done g ks) x ≡ None
 only_semicolon g ks (sign s.Semicolon) other = absurd (other refl)
 only_semicolon g ks _ other = refl
 
-pub bad_end : {A : Type 0} (old new : Spot) (b : Bool) (r : Result A ParseError)
-    → r ≡ Err (errors.Fault Unexpected) → (OnTrue b (Takes old new (sign s.Semicolon) []))
+pub bad_end : (old new : Spot) (b : Bool) → (OnTrue b (Takes old new (sign s.Semicolon) []))
     → (OnFalse b (No (sign s.Semicolon) old × (new ≡ old))) → 0 < length new.left
-    → ReadsEnd old new r
-bad_end {A} old new true r is t f some =
-    subst (ReadsEnd {A = A} old new) (sym is)
-    (λ g ks. takes old new _ [] 0 (done g ks) (ended g ks) t zero_deep refl
-    ∙ past_nothing new (ended g ks) some (λ x head. refl))
-bad_end {A} old new false r is t f some =
-    subst (ReadsEnd {A = A} old new) (sym is)
-    (λ g ks. ap (λ s. verdict s (done g ks)) (sym f.1)
-    ∙ past_nothing new (done g ks) some
+    → ReadsEnd {A = Unit {0}} old new (Err (errors.Fault Unexpected))
+bad_end old new true t f some =
+    λ g ks. takes old new _ [] 0 (done g ks) (ended g ks) t zero_deep refl
+    ∙ stuck new (ended g ks) (λ e. absurd (omega (arith, ap length e))) (λ x head. refl)
+bad_end old new false t f some =
+    λ g ks. ap (λ s. verdict s (done g ks)) (sym f.1)
+    ∙ stuck new (done g ks) (λ e. absurd (omega (arith, ap length e)))
     (λ x head. only_semicolon g ks x
-    (λ q. f.0 (ap (λ s. head_of s.left) (sym f.1) ∙ head ∙ ap Some q))))
+    (λ q. f.0 (ap (λ s. head_of s.left) (sym f.1) ∙ head ∙ ap Some q)))
 
 some_left : (f : Token → Symbol) (ts : List Token) (b : Bool) → b ≡ (length ts == 0) → b ≡ false
     → 0 < length (map f ts)
@@ -543,23 +485,18 @@ pub left_over : (parser : Parser) (b : Bool) → b ≡ (length parser.left.now =
 left_over parser b e none = some_left (λ t. symbol_of t.kind t.place) parser.left.now b e none
 
 -- what was refused in a list
-pub bad_aggregate : (f : Function) (old mid new : Spot) (m : Measure Name)
-    (r : Result Aggregate ParseError) (e : ParseError) → r ≡ Err e → ReadsMeasure f old mid (Ok m)
-    → ReadsAlias mid new (Err e) → ReadsAggregate f old new r
-bad_aggregate f old mid new m r e is measure b =
-    refused (λ a. tree.aggregate (aggregate_view a)) item_tree (λ h. Unit {0})
-    (λ b. function_named b f) (λ i b. items_had (extended b i)) old new r e is
-    (λ h u. bad_along e new _ _ (measure.2 h tt) (b (h, measure.0) tt))
+pub bad_aggregate : (f : Function) (old mid new : Spot) (m : Measure Name) (e : ParseError)
+    → ReadsMeasure f old mid (Ok m) → ReadsAlias mid new (Err e) → ReadsAggregate f old new (Err e)
+bad_aggregate f old mid new m e measure b =
+    λ h u. bad_along e new _ _ (measure.2 h tt) (b (h, measure.0) tt)
 
-pub bad_item_aggregate :
-    (old mid new : Spot) (f : Function) (r : Result Item ParseError) (e : ParseError) → r ≡ Err e
+pub bad_item_aggregate : (old mid new : Spot) (f : Function) (e : ParseError)
     → Takes old mid (function_symbol f) function_parts → ReadsAggregate f mid new (Err e)
-    → ReadsItem old new r
-bad_item_aggregate old mid new f r e is t b =
-    refused item_view item_tree (λ h. Unit {0}) item_wanted (λ i b. items_had (extended b i)) old
-    new r e is (λ h u. bad_along e new _ _
+    → ReadsItem old new (Err e)
+bad_item_aggregate old mid new f e t b =
+    λ h u. bad_along e new _ _
     (takes old mid _ function_parts 0 (item_wanted h) (function_named h f) t zero_deep
-    (function_step h f.fold f.place)) (b h tt))
+    (function_step h f.fold f.place)) (b h tt)
 
 -- a query
 pub past_select : (old a : Spot) → Takes old a (keyword k.Select) []
@@ -575,13 +512,6 @@ items_end : (is : Several grammar.Item) (x : Symbol) → (x ≡ sign s.Comma →
 items_end is (sign s.Comma) f g = absurd (f refl)
 items_end is (keyword k.From) f g = absurd (g refl)
 items_end is _ f g = refl
-
--- what was refused behind a front of the query
-pub bad_query : (old mid new : Spot) (from : ParserState) (r : Result Tree ParseError)
-    (e : ParseError) → r ≡ Err e → verdict old begin ≡ verdict mid from
-    → EndsBad e new (verdict mid from) → ReadsQuery old new r
-bad_query old mid new from r e is way b =
-    subst (ReadsQuery old new) (sym is) (bad_along e new _ _ way b)
 
 pub bad_from : (b new : Spot) (is : Several grammar.Item) (e : ParseError) → NoComma b
     → (e ≡ errors.Fault Unexpected) × No (keyword k.From) b × (new ≡ b)

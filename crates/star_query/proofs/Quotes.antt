@@ -1,16 +1,12 @@
 -- What is read of a text in quotes is what the lexer finds, and what `quoted` writes.
-use Rattle.std.proofs.Common.{◌≡◌, ◌∙◌, refl, sym, ap, subst, ℕ, zero, suc, ◌+◌, ◌-◌, Bool, true, false, List, [], ◌∷◌, ◌++◌, length, take, arith, Result, Ok, Err, length-append, append_assoc}
+use Rattle.std.proofs.Common.{◌≡◌, ◌∙◌, refl, sym, ap, ℕ, zero, suc, ◌+◌, ◌-◌, Bool, true, false, List, [], ◌∷◌, ◌++◌, length, take, arith, Result, Ok, Err, length-append, append_assoc}
 use Rattle.std.specs.Prelude.{◌==◌}
 use Rattle.std.specs.List.{flat_map, list_all}
 use Rattle.std.proofs.lemmas.Bool.{and_from, and_parts, eqb-true}
-use Rattle.star_common.specs.Quotes.{doubled}
-use Rattle.star_common.specs.Printable.{is_printable}
-use Rattle.star_query.specs.declared.fault.QueryFault.{QueryFault}
-use Rattle.star_query.specs.declared.fault.QueryFault.TheVariants.{BadCharacter, OpenText}
-use Rattle.star_query.specs.Private.Cut.{put_in_front, text_said}
+use Rattle.star_common.specs.{Quotes.doubled, Printable.is_printable}
+use Rattle.star_query.specs.declared.fault.QueryFault.{QueryFault, TheVariants.BadCharacter, TheVariants.OpenText}
+use Rattle.star_query.specs.{Private.Cut.put_in_front, Private.Cut.text_said, Symbols.text, Tokens.HasBadByte, Tokens.IsOpen, Tokens.is_whole}
 use Rattle.star_query.specs.Private.Cut as cut
-use Rattle.star_query.specs.Symbols.{text}
-use Rattle.star_query.specs.Tokens.{HasBadByte, IsOpen, is_whole}
 use Rattle.star_query.specs.Private.Quoted.{Ending, closed, stopped, open_ended, farther, ending_after, unquoted_after, text_by_bytes}
 use Rattle.star_query.proofs.Counting.{by_bool}
 

@@ -1,14 +1,11 @@
 -- The sign that the bytes begin with is told by the first byte and the next, and it is the longest.
 use Rattle.std.proofs.Common.{◌≡◌, ◌∙◌, refl, sym, subst, ℕ, true, false, List, [], ◌∷◌, Some}
 use Rattle.std.specs.Prelude.{◌==◌}
-use Rattle.std.specs.List.{slice_get}
+use Rattle.std.specs.{List.slice_get, Char.is_ascii_digit}
 use Rattle.std.proofs.lemmas.Bool.{eq-eqb, eqb-true}
-use Rattle.std.specs.Char.{is_ascii_digit}
 use Rattle.star_common.specs.WhiteSpace.{is_blank}
 use Rattle.star_query.specs.Private.Cut as cut
-use Rattle.star_query.specs.Tokens.{is_letter}
-use Rattle.star_query.specs.Private.Lexed.{front_piece}
-use Rattle.star_query.specs.Private.Quoted.{sign_by_bytes}
+use Rattle.star_query.specs.{Tokens.is_letter, Private.Lexed.front_piece, Private.Quoted.sign_by_bytes}
 use Rattle.star_query.proofs.Counting.{by_bool}
 
 -- a byte that a sign begins with, or any other

@@ -1,21 +1,17 @@
 -- What a text means is spelled as the grammar wants.
-use Rattle.std.proofs.Common.{◌≡◌, ◌∙◌, ◌^◌, ◌≤◌, ℕ, zero, suc, true, Bool, ◌&&◌, List, [], ◌∷◌, ◌++◌, length, Option, refl, sym, subst, if◌then◌else◌}
-use Rattle.std.specs.Prelude.{nat_lt, neg_ℤ, pos}
-use Rattle.std.specs.List.{AllByRecursion, list_all}
-use Rattle.std.proofs.lemmas.Bool.{and_from, and_parts, le-leb}
-use Rattle.std.proofs.lemmas.List.Folds.{list_all-append}
-use Rattle.star_query.specs.declared.counts.Part.{Part}
+use Rattle.std.proofs.Common.{◌≡◌, ◌∙◌, ◌^◌, ℕ, zero, suc, true, Bool, List, [], ◌∷◌, ◌++◌, length, Option, refl, sym, subst, if◌then◌else◌}
+use Rattle.std.specs.{Prelude.nat_lt, Prelude.neg_ℤ, Prelude.pos, List.AllByRecursion, List.list_all}
+use Rattle.std.proofs.lemmas.{Bool.and_from, Bool.and_parts, Bool.le-leb, List.Folds.list_all-append}
+use Rattle.star_query.specs.declared.{counts.Part.Part, token.Additive.TheVariants.Plus, token.Additive.TheVariants.Minus}
 use Rattle.star_query.specs.declared.token.Keyword.TheVariants as k
 use Rattle.star_query.specs.declared.token.Sign.TheVariants as s
-use Rattle.star_query.specs.declared.token.Additive.TheVariants.{Plus, Minus}
-use Rattle.star_query.specs.declared.token.Relation.TheVariants as r
-use Rattle.star_query.specs.Symbols.{Symbol, symbols, additive, keyword, relation, sign, name}
-use Rattle.star_query.specs.Tokens.{begins_with_letter, is_word_byte}
-use Rattle.star_query.specs.Tree.{Name, Literal, Expression, Condition, Test, Measure, Item, Grouping, SortKey, Tree}
+use Rattle.star_query.specs.Symbols.{additive, keyword, sign, name}
+use Rattle.star_query.specs.{Tokens.begins_with_letter, Tokens.is_word_byte, Derives.IsShortName, Derives.symbols_at, Derives.Means}
+use Rattle.star_schema.specs.Tables.{Value}
+use Rattle.star_query.specs.Tree.{Name, Expression, Condition, Test, Measure, Grouping, SortKey, Tree}
 use Rattle.star_query.specs.Grammar as w
 use Rattle.star_query.specs.Grammar.{Mark, Several, IsExpr, IsTerm, IsFactor, IsLiteral, IsCond, IsConj, IsUnit, IsMeasure, IsItem, IsKey, IsName, IsWhere, IsGrouping, IsOrder, IsQuery, nested, bracketed}
-use Rattle.star_query.specs.Derives.{IsShortName, symbols_at, Means}
-use Rattle.star_query.specs.Spelled.{is_name, has_few_digits, literal_is_spelled, expression_is_spelled, condition_is_spelled, where_is_spelled, measure_is_spelled, item_is_spelled, IsSpelledQuery}
+use Rattle.star_query.specs.Spelled.{is_name, has_few_digits, value_is_spelled, expression_is_spelled, condition_is_spelled, where_is_spelled, measure_is_spelled, item_is_spelled, IsSpelledQuery}
 use Rattle.star_query.proofs.Spelling.{token_is_spelled, tokens_spelled}
 
 abbrev IsGood : Mark → Type 0
@@ -62,7 +58,7 @@ unfolding has_few_digits
 negative_good zero e = e
 negative_good (suc n) e = e
 
-lit_good : {ms : List Mark} {l : Literal} → IsLiteral ms l → Good ms → literal_is_spelled l ≡ true
+lit_good : {ms : List Mark} {l : Value} → IsLiteral ms l → Good ms → value_is_spelled l ≡ true
 lit_good (w.positive {n}) all = positive_good n all.0.0
 lit_good (w.negative {n}) all = negative_good n all.1.0.0
 lit_good w.quoted all = all.0.0

@@ -1,11 +1,7 @@
 -- The names, numbers and texts of tokens are spelled as the grammar wants.
 use Rattle.std.proofs.Common.{◌≡◌, subst, sym, refl, ℕ, ◌+◌, ◌^◌, ◌<◌, ◌≤◌, Bool, true, ◌&&◌, List, [], ◌∷◌, length, Some, arith}
-use Rattle.std.specs.Prelude.{nat_lt}
-use Rattle.std.specs.List.{list_all}
-use Rattle.std.specs.Char.{to_ascii_lowercase}
-use Rattle.std.specs.Int.{is_in_range}
+use Rattle.std.specs.{Prelude.nat_lt, List.list_all, Char.to_ascii_lowercase, Int.is_in_range, Str.Parse.digits_value}
 use Rattle.std.proofs.lemmas.Bool.{and_from, and_parts, le-leb, lt-ltb, ltb-true, ltb-false, or_left, or_right}
-use Rattle.std.specs.Str.Parse.{digits_value}
 use Rattle.std.proofs.lemmas.Int.Digits.{digits_value-lt}
 use Rattle.star_common.specs.Numerals.{numeral_of}
 use Rattle.star_common.proofs.NumeralLemmas.{all_digits, below_power}
@@ -14,8 +10,7 @@ use Rattle.star_query.specs.declared.token.Word.TheVariants as words
 use Rattle.star_query.specs.Symbols.{Symbol, Placed, name, number, text, symbols, word_symbol, lowered}
 use Rattle.star_query.specs.Tokens.{is_letter, is_word_byte, begins_with_letter, IsToken, a_word, a_name, a_number, a_text, a_sign, AreTokens, no_more, white_space, a_token}
 use Rattle.star_query.specs.Spelled.{is_printable_text}
-use Rattle.star_query.proofs.Counting.{by_bool}
-use Rattle.star_query.proofs.Cuts.{each_sign, numeral_parts}
+use Rattle.star_query.proofs.{Counting.by_bool, Cuts.each_sign, Cuts.numeral_parts}
 
 -- as the token is spelled; a name's length is asked for elsewhere
 abbrev pub token_is_spelled : Symbol → Bool

@@ -1,18 +1,10 @@
 -- The parser's readers of single tokens.
 use Rattle.std.proofs.Common.{◌≡◌, ◌∙◌, ℕ, ◌+◌, ◌<◌, ◌≤◌, Bool, true, false, List, [], ◌∷◌, ◌++◌, Result, Ok, Err, length, map, drop, get_or, refl, sym, ap, subst, arith, append_assoc}
 use Rattle.std.proofs.lemmas.List.{drop_more, length-map}
-use Rattle.star_query.specs.declared.parser.Parser.{Parser}
-use Rattle.star_query.specs.Private.Lexed.{symbol_of}
+use Rattle.star_query.specs.declared.{parser.Parser.Parser, counts.Part.Part, counts.Counts.Counts, fault.ParseError.ParseError, fault.Fault.TheVariants.Unexpected, fault.Fault.TheVariants.TooDeep, fault.Fault.TheVariants.TooMany}
+use Rattle.star_query.specs.{Private.Lexed.symbol_of, Symbols.Symbol, Symbols.name, Symbols.number, Private.Quoted.undoubled, Private.Quoted.unquoted_after, Maxima.limit, Private.Machine.count_of_part, Private.Machine.bump}
 use Rattle.std.specs.Prelude.{◌==◌}
-use Rattle.star_query.specs.declared.counts.Part.{Part}
-use Rattle.star_query.specs.declared.counts.Counts.{Counts}
-use Rattle.star_query.specs.declared.fault.ParseError.{ParseError}
 use Rattle.star_query.specs.declared.fault.ParseError.TheVariants as errors
-use Rattle.star_query.specs.declared.fault.Fault.TheVariants.{Unexpected, TooDeep, TooMany}
-use Rattle.star_query.specs.Symbols.{Symbol, name, number}
-use Rattle.star_query.specs.Private.Quoted.{undoubled, unquoted_after}
-use Rattle.star_query.specs.Maxima.{limit}
-use Rattle.star_query.specs.Private.Machine.{count_of_part, bump}
 use Rattle.star_query.specs.Private.Reads.{Spot, spot_of, Takes, IsName, IsNumber, NoName, NoNumber, IsBeyond, ReadsToken}
 use Rattle.star_query.proofs.Counting.{one_too_many, one_allowed}
 
@@ -95,11 +87,11 @@ token_counted symbol NoMemory Is IsNo apart p old mid new (Err (errors.Fault Too
 
 pub token_not_counted : {A : Type 0} (symbol : A → Symbol) (NoMemory : Type 0)
     (Is IsNo : List Symbol → Type 0) → (Is [] → ⊥)
-    → (p : Part) (old new : Spot) (r : Result A ParseError) (e : ParseError) → r ≡ Err e
-    → Is old.left → (e ≡ errors.Fault TooMany) × (limit p ≤ count_of_part old.counts p)
-    × (new ≡ old) → ReadsToken symbol NoMemory Is IsNo (p ∷ []) old new r
-token_not_counted symbol NoMemory Is IsNo there p old new r e same is c =
-    subst (ReadsToken symbol NoMemory Is IsNo (p ∷ []) old new) (sym (same ∙ ap Err c.0))
+    → (p : Part) (old new : Spot) (e : ParseError) → Is old.left
+    → (e ≡ errors.Fault TooMany) × (limit p ≤ count_of_part old.counts p) × (new ≡ old)
+    → ReadsToken symbol NoMemory Is IsNo (p ∷ []) old new (Err e)
+token_not_counted symbol NoMemory Is IsNo there p old new e is c =
+    subst (λ f. ReadsToken symbol NoMemory Is IsNo (p ∷ []) old new (Err f)) (sym c.0)
     (beyond_token Is there p old.counts old.left is c.1, ap (λ s. s.left) c.2, is)
 
 f_length : {A B : Type 0} (f : A → B) (old new : List A) (x : B) → map f old ≡ x ∷ map f new

@@ -1,22 +1,11 @@
 -- What a text means, or its first fault, by computing.
-use Rattle.std.proofs.Common.{◌≡◌, ◌∙◌, ℕ, ◌-◌, ◌≤◌, List, ◌++◌, Option, Some, None, Result, Ok, Err, if◌then◌else◌, drop, length, take, arith, ap, refl, subst, sym}
+use Rattle.std.proofs.Common.{◌≡◌, ℕ, ◌-◌, ◌≤◌, List, Result, Ok, Err, if◌then◌else◌, drop, length, arith, refl}
 use Rattle.std.specs.Prelude.{Bool, false, true, nat_lt}
-use Rattle.std.proofs.lemmas.List.{drop-map, length-map, take-append-drop}
-use Rattle.std.proofs.Math.ListN.{length-append}
-use Rattle.std.proofs.Math.Seq.{drop-append_seam}
-use Rattle.star_query.specs.declared.fault.Fault.{Fault}
-use Rattle.star_query.specs.declared.fault.Fault.TheVariants.{Unexpected, TooDeep, TooMany}
-use Rattle.star_query.specs.declared.fault.QueryFault.{QueryFault}
+use Rattle.star_query.specs.declared.fault.{Fault.Fault, Fault.TheVariants.Unexpected, Fault.TheVariants.TooDeep, Fault.TheVariants.TooMany, QueryFault.QueryFault}
 use Rattle.star_query.specs.declared.fault.QueryFault.TheVariants as faults
-use Rattle.star_query.specs.Symbols.{Placed, Symbol, symbols}
-use Rattle.star_query.specs.Maxima.{most_bytes}
-use Rattle.star_query.specs.Private.Cut.{cut_of}
-use Rattle.star_query.specs.Private.Phrases.{query_tree}
-use Rattle.star_query.specs.Derives.{FirstQueryFault, IsFirstQueryFault, Means, StopsAt, first_place, symbols_at}
-use Rattle.star_query.specs.Tree.{Tree}
-use Rattle.star_query.specs.Private.Machine.{Verdict, Whole, Bad}
-use Rattle.star_query.proofs.Cuts.{stop_cuts, tokens_make_text}
-use Rattle.star_query.proofs.Verdicts.{derives, first_fault, verdict_of}
+use Rattle.star_query.specs.{Symbols.Placed, Symbols.Symbol, Symbols.symbols, Maxima.most_bytes, Private.Cut.cut_of, Private.Phrases.query_tree, Tree.Tree, Private.Machine.Verdict, Private.Machine.Whole, Private.Machine.Bad}
+use Rattle.star_query.specs.Derives.{IsFirstQueryFault, Means, StopsAt, first_place}
+use Rattle.star_query.proofs.{Cuts.stop_cuts, Parsing.means_tokens, Parsing.stopped, Parsing.stops_at, Verdicts.derives, Verdicts.verdict_of}
 
 -- ---- what is said of a text
 
@@ -58,39 +47,11 @@ module _ (bytes : List ℕ) (tokens : List Placed) (short : length bytes ≤ mos
     (cut : cut_of bytes ≡ Ok tokens) where
   stops : (f : Fault) (left : List Symbol) → verdict_of (symbols tokens) ≡ Bad f left
       → StopsAt bytes f (left_of tokens left)
-  stops f left e =
-      let first = first_fault (symbols tokens) f left e in
-      let behind : length tokens - length left ≡ length (symbols_at first.front) =
-      omega (
-        arith,
-        length-map tokens (λ (t : Placed). t.symbol),
-        ap length first.cut,
-        length-append (symbols_at first.front) left,
-      ) in
-      let same : left ≡ symbols (left_of tokens left) =
-      sym (drop-append_seam (symbols_at first.front) left)
-      ∙ ap (λ n. drop n (symbols_at first.front ++ left)) (sym behind)
-      ∙ ap (drop (length tokens - length left)) (sym first.cut)
-      ∙ drop-map (λ (t : Placed). t.symbol) (length tokens - length left) tokens in
-      let whole = take-append-drop (length tokens - length left) tokens in
-      record {
-        short = short;
-        front = take (length tokens - length left) tokens;
-        cut = (tokens_make_text bytes _).0 (cut ∙ ap Ok (sym whole));
-        first = subst (λ l. FirstQueryFault
-            (symbols (take (length tokens - length left) tokens ++ left_of tokens left)) f l) same
-            (subst (λ ts. FirstQueryFault (symbols ts) f left) (sym whole) first);
-      }
+  stops f left e = stopped bytes tokens _ f short cut (stops_at tokens f left e)
 
   verdict_holds : (v : Verdict) → verdict_of (symbols tokens) ≡ v
       → Says bytes (told_of (length bytes) tokens v)
-  verdict_holds (Whole q) e =
-      record {
-        short = short;
-        tokens = tokens;
-        cut = (tokens_make_text bytes tokens).0 cut;
-        derives = derives _ _ e;
-      }
+  verdict_holds (Whole q) e = means_tokens bytes tokens _ short cut (derives _ _ e)
   verdict_holds (Bad Unexpected left) e =
       (left_of tokens left, stops Unexpected left e, refl)
   verdict_holds (Bad TooDeep left) e = (left_of tokens left, stops TooDeep left e)

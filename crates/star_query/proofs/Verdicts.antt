@@ -1,27 +1,14 @@
 -- The machine's verdict is the grammar's.
-use Rattle.std.proofs.Common.{◌≡◌, ◌∙◌, ℕ, ◌+◌, ◌<◌, ◌≤◌, ◌⊎◌, inl, inr, Bool, true, false, ◌||◌, List, [], ◌∷◌, ◌++◌, Option, Some, None, Result, Ok, cond, refl, sym, ap, subst, arith, append-nil}
-use Rattle.std.specs.Prelude.{nat_lt}
-use Rattle.std.specs.List.{AllByRecursion}
+use Rattle.std.proofs.Common.{◌≡◌, ◌∙◌, ℕ, ◌+◌, ◌<◌, ◌≤◌, ◌⊎◌, inl, inr, Bool, true, false, ◌||◌, List, [], ◌∷◌, ◌++◌, Option, Some, None, cond, refl, sym, ap, subst, arith, append-nil}
+use Rattle.std.specs.{Prelude.nat_lt, List.AllByRecursion}
 use Rattle.std.proofs.lemmas.Bool.{ltb-true, ltb-false}
-use Rattle.star_query.specs.declared.counts.Part.{Part}
+use Rattle.star_query.specs.declared.{counts.Part.Part, counts.Counts.Counts, fault.Fault.Fault, fault.Fault.TheVariants.Unexpected, fault.Fault.TheVariants.TooDeep, fault.Fault.TheVariants.TooMany}
 use Rattle.star_query.specs.declared.counts.Part.TheVariants.{Item, Aggregate, GroupColumn, SortKey, Comparison, Operand}
-use Rattle.star_query.specs.declared.counts.Counts.{Counts}
-use Rattle.star_query.specs.declared.fault.Fault.{Fault}
-use Rattle.star_query.specs.declared.fault.Fault.TheVariants.{Unexpected, TooDeep, TooMany}
-use Rattle.star_query.specs.declared.fault.QueryFault.{QueryFault}
-use Rattle.star_query.specs.Symbols.{Symbol, Placed, symbols}
-use Rattle.star_query.specs.Tree.{Tree}
-use Rattle.star_query.specs.Private.Phrases.{Query, query_marks, query_tree}
-use Rattle.star_query.specs.Maxima.{limit}
+use Rattle.star_query.specs.{Symbols.Symbol, Symbols.symbols, Tree.Tree, Private.Phrases.Query, Private.Phrases.query_marks, Private.Phrases.query_tree, Maxima.limit, Grammar.Mark, Grammar.IsQuery}
 use Rattle.star_query.specs.Derives.{count_begun, IsShortName, IsLongName, AreWithinLimits, symbols_at, Derives, BeginsQuery, NoQueryGoesOn, Breaks, IsTooDeep, IsTooMany, QueryFails, FirstQueryFault, Means}
 use Rattle.star_query.specs.Private.Machine.{ParserState, begin, Step, to, next_step, query_at_end, Verdict, Whole, Bad, count_of_part, plus, is_over, is_long, checked, verdict_after, ends, run, nothing_counted}
-use Rattle.star_query.proofs.Cuts.{tokens_make_text}
+use Rattle.star_query.proofs.{Cuts.one_cut, Accepting.Accepts, Accepting.query_goes, Passed.passed, Passed.step_moves, Phrased.is_query, Phrased.query_is, Phrased.phrased, Phrased.begun, Finishes.state_finishes, Finishes.end_passed}
 use Rattle.star_query.proofs.Counting.{not_below, number-plus, not_over, over_some, fits_after, short_name, long_name, not_long}
-use Rattle.star_query.proofs.Accepting.{Accepts, query_goes}
-use Rattle.star_query.proofs.Passed.{passed, step_moves}
-use Rattle.star_query.proofs.Phrased.{is_query, query_is, phrased, begun}
-use Rattle.star_query.specs.Grammar.{Mark, IsQuery}
-use Rattle.star_query.proofs.Finishes.{state_finishes, end_passed}
 
 -- from one state to another through these marks
 abbrev pub Goes : ParserState → List Mark → ParserState → Type 0
@@ -442,15 +429,8 @@ one_front a b begins_a begins_b e =
     (subst (λ ms. Accepts begin ms f.phrase) f.written (query_goes f.phrase))
     (subst (λ ms. Accepts begin ms g.phrase) g.written (query_goes g.phrase)) e
 
-abbrev the_ok : List Placed → Result (List Placed) QueryFault
-the_ok ts = Ok ts
-
-same_tokens : (a b : List Placed) → the_ok a ≡ the_ok b → a ≡ b
-same_tokens a b e = cc
-
 -- no text means two trees
 pub one_meaning : (bytes : List ℕ) (a b : Tree) → Means bytes a → Means bytes b → a ≡ b
 one_meaning bytes a b m n =
-    let same = same_tokens n.tokens m.tokens
-    (sym ((tokens_make_text bytes n.tokens).1 n.cut) ∙ (tokens_make_text bytes m.tokens).1 m.cut) in
+    let same = one_cut bytes n.tokens m.tokens n.cut m.cut in
     one_tree (symbols m.tokens) a b m.derives (subst (λ ts. Derives (symbols ts) b) same n.derives)

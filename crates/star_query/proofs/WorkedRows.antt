@@ -1,16 +1,12 @@
 -- How texts are cut into tokens, and a query's first fault, by computation.
-use Rattle.std.proofs.Common.{◌≡◌, ℕ, List, [], ◌∷◌, ◌++◌, Result, Ok, Err, refl}
+use Rattle.std.proofs.Common.{ℕ, [], ◌∷◌, ◌++◌, Ok, Err, refl}
 use Rattle.std.specs.Prelude.{codes}
 use Rattle.star_common.proofs.Tables.{Gives}
-use Rattle.star_query.specs.declared.fault.Fault.TheVariants.{Unexpected}
-use Rattle.star_query.specs.declared.fault.QueryFault.TheVariants.{BadCharacter, BadNumber, OpenText}
-use Rattle.star_query.specs.declared.token.Additive.TheVariants.{Plus, Minus}
+use Rattle.star_query.specs.declared.{fault.Fault.TheVariants.Unexpected, fault.QueryFault.TheVariants.BadCharacter, fault.QueryFault.TheVariants.BadNumber, fault.QueryFault.TheVariants.OpenText, token.Additive.TheVariants.Plus, token.Additive.TheVariants.Minus, token.Keyword.TheVariants.Select, token.Keyword.TheVariants.From, token.Keyword.TheVariants.Rollup}
 use Rattle.star_query.specs.declared.token.Relation.TheVariants.{Equal, Unequal, Less, AtMost, Greater, AtLeast}
-use Rattle.star_query.specs.declared.token.Keyword.TheVariants.{Select, From, Rollup}
 use Rattle.star_query.specs.declared.token.Sign.TheVariants.{Comma, Open, Close, Star, Semicolon}
 use Rattle.star_query.specs.Symbols.{Symbol, Placed, spelling, keyword, count, additive, relation, sign, name, number, text}
-use Rattle.star_query.specs.Private.Cut.{cut_of, cut_from, reserved, reserved_words}
-use Rattle.star_query.specs.Derives.{FirstQueryFault}
+use Rattle.star_query.specs.{Private.Cut.cut_of, Private.Cut.cut_from, Private.Cut.reserved, Private.Cut.reserved_words, Derives.FirstQueryFault}
 use Rattle.star_query.proofs.Verdicts.{first_fault}
 
 -- a symbol, and where its token begins

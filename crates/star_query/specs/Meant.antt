@@ -1,7 +1,6 @@
 -- Which trees a query may have.
 use Rattle.std.specs.Prelude.{ℕ, List}
-use Rattle.star_query.specs.Derives.{Means}
-use Rattle.star_query.specs.Tree.{Tree}
+use Rattle.star_query.specs.{Derives.Means, Tree.Tree}
 
 -- some text means it, so it is within all limits, and its names, numbers and texts are spelled as the grammar wants
 abbrev pub IsMeant : Tree → Type 0

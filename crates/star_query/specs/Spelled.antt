@@ -2,10 +2,9 @@
 use Rattle.std.specs.Prelude.{◌≡◌, ℕ, ℤ, ◌^◌, unsigned_abs, Bool, true, ◌&&◌, nat_le, nat_lt, List, length, Option, Some, None}
 use Rattle.std.specs.List.{list_all}
 use Rattle.star_common.specs.Printable.{is_printable}
-use Rattle.star_query.specs.Tokens.{begins_with_letter, is_word_byte}
-use Rattle.star_query.specs.Maxima.{most_digits, most_name_bytes}
-use Rattle.star_query.specs.Leaves.{of_operands, of_tests}
-use Rattle.star_query.specs.Tree.{Name, Literal, number, text, Expression, Comparison, compare, between, Test, pair, comparison, Condition, Measure, fold, count, Item, plain, aggregate, Tree}
+use Rattle.star_schema.specs.Tables.{Value, Number, Text}
+use Rattle.star_query.specs.{Tokens.begins_with_letter, Tokens.is_word_byte, Maxima.most_digits, Maxima.most_name_bytes, Leaves.of_operands, Leaves.of_tests}
+use Rattle.star_query.specs.Tree.{Name, Expression, Comparison, compare, between, Test, pair, comparison, Condition, Measure, fold, count, Item, plain, aggregate, Tree}
 
 -- 1 to 64 letters, digits and _, and no digit first
 unfoldable pub is_name : List ℕ → Bool
@@ -19,9 +18,9 @@ has_few_digits z = nat_lt (unsigned_abs z) (10 ^ most_digits)
 unfoldable pub is_printable_text : List ℕ → Bool
 is_printable_text bytes = list_all is_printable bytes
 
-abbrev pub literal_is_spelled : Literal → Bool
-literal_is_spelled (number z) = has_few_digits z
-literal_is_spelled (text bytes) = is_printable_text bytes
+abbrev pub value_is_spelled : Value → Bool
+value_is_spelled (Number z) = has_few_digits z
+value_is_spelled (Text bytes) = is_printable_text bytes
 
 abbrev pub expression_is_spelled : Expression Name → Bool
 expression_is_spelled e = of_operands (λ n. is_name n.text) has_few_digits ◌&&◌ e
@@ -33,7 +32,7 @@ comparison_is_spelled of_column of_value (between c v w) = of_column c && (of_va
 
 abbrev pub test_is_spelled : Test → Bool
 test_is_spelled (pair m n) = is_name m.text && is_name n.text
-test_is_spelled (comparison c) = comparison_is_spelled (λ n. is_name n.text) literal_is_spelled c
+test_is_spelled (comparison c) = comparison_is_spelled (λ n. is_name n.text) value_is_spelled c
 
 abbrev pub condition_is_spelled : Condition Test → Bool
 condition_is_spelled c = of_tests test_is_spelled (λ b. b) ◌&&◌ c

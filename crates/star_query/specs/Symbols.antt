@@ -1,14 +1,9 @@
 -- The symbols of a query: its tokens; those of names and functions keep their place.
-use Rattle.std.specs.Prelude.{ℕ, List, [], ◌∷◌, codes, map}
+use Rattle.std.specs.Prelude.{ℕ, List, codes, map}
 use Rattle.std.specs.Char.{to_ascii_lowercase}
-use Rattle.star_query.specs.declared.token.Keyword.{Keyword}
+use Rattle.star_query.specs.declared.token.{Keyword.Keyword, Fold.Fold, Relation.Relation, Sign.Sign, Additive.Additive, Word.Word}
 use Rattle.star_query.specs.declared.token.Keyword.TheVariants as k
-use Rattle.star_query.specs.declared.token.Fold.{Fold}
 use Rattle.star_query.specs.declared.token.Fold.TheVariants as folds
-use Rattle.star_query.specs.declared.token.Relation.{Relation}
-use Rattle.star_query.specs.declared.token.Sign.{Sign}
-use Rattle.star_query.specs.declared.token.Additive.{Additive}
-use Rattle.star_query.specs.declared.token.Word.{Word}
 use Rattle.star_query.specs.declared.token.Word.TheVariants as words
 
 pub data Symbol : Type 0 where

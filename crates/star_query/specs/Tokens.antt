@@ -1,19 +1,13 @@
 -- How tokens are written, and what stops a text from being cut (this project's profile of SQL).
 use Rattle.std.specs.Prelude.{◌≡◌, ◌≢◌, ℕ, ◌+◌, ◌<◌, ◌≤◌, ◌⊎◌, Bool, true, false, ◌==◌, ◌||◌, ◌&&◌, not, List, [], ◌∷◌, ◌++◌, codes, length, Contains, Some}
-use Rattle.std.specs.List.{flat_map, list_all}
-use Rattle.std.specs.Char.{is_ascii_alphabetic, is_ascii_digit}
-use Rattle.star_common.specs.Numerals.{numeral_of}
-use Rattle.star_common.specs.Quotes.{doubled, quoted}
-use Rattle.star_common.specs.Printable.{is_printable}
-use Rattle.star_query.specs.declared.token.Word.{Word}
+use Rattle.std.specs.{List.flat_map, List.list_all, Char.is_ascii_alphabetic, Char.is_ascii_digit}
+use Rattle.star_common.specs.{Numerals.numeral_of, Quotes.doubled, Quotes.quoted, Printable.is_printable, WhiteSpace.is_blank}
+use Rattle.star_query.specs.declared.{token.Word.Word, fault.QueryFault.QueryFault, fault.QueryFault.TheVariants.BadCharacter, fault.QueryFault.TheVariants.BadNumber, fault.QueryFault.TheVariants.OpenText}
 use Rattle.star_query.specs.declared.token.Relation.TheVariants as r
 use Rattle.star_query.specs.declared.token.Sign.TheVariants as s
 use Rattle.star_query.specs.declared.token.Additive.TheVariants as q
-use Rattle.star_query.specs.declared.fault.QueryFault.{QueryFault}
-use Rattle.star_query.specs.declared.fault.QueryFault.TheVariants.{BadCharacter, BadNumber, OpenText}
 use Rattle.star_query.specs.Maxima.{most_digits}
 use Rattle.star_query.specs.Symbols.{Symbol, Placed, relation, sign, additive, name, number, text, spelling, word_symbol, lowered}
-use Rattle.star_common.specs.WhiteSpace.{is_blank}
 
 -- ---- tokens
 

@@ -1,17 +1,12 @@
 -- The tree of a query, without where it lies in memory.
 use Rattle.std.specs.Prelude.{ℕ, ℤ, List, Option}
-use Rattle.star_query.specs.declared.token.Fold.{Fold}
-use Rattle.star_query.specs.declared.token.Relation.{Relation}
-use Rattle.star_schema.specs.declared.group.Shape.{Shape}
-use Rattle.star_schema.specs.declared.group.Direction.{Direction}
+use Rattle.star_schema.specs.Tables.{Value}
+use Rattle.star_query.specs.declared.token.{Fold.Fold, Relation.Relation}
+use Rattle.star_schema.specs.declared.group.{Shape.Shape, Direction.Direction}
 
 pub record Name : Type 0 where
   pub text : List ℕ
   pub place : ℕ
-
-pub data Literal : Type 0 where
-  number : ℤ → Literal
-  text : List ℕ → Literal
 
 -- over columns, by their names or by what they are
 pub data Expression (C : Type 0) : Type 0 where
@@ -19,7 +14,7 @@ pub data Expression (C : Type 0) : Type 0 where
   constant : ℤ → Expression C
   add sub mul : Expression C → Expression C → Expression C
 
--- a column, or one by its name, beside values or the literals that stand for them
+-- a column, or one by its name, compared with values
 pub data Comparison (C V : Type 0) : Type 0 where
   compare : C → Relation → V → Comparison C V
   between : C → V → V → Comparison C V
@@ -27,7 +22,7 @@ pub data Comparison (C V : Type 0) : Type 0 where
 -- what a query's condition tests: that two columns are equal, or a column
 pub data Test : Type 0 where
   pair : Name → Name → Test
-  comparison : Comparison Name Literal → Test
+  comparison : Comparison Name Value → Test
 
 pub data Condition (T : Type 0) : Type 0 where
   or and : Condition T → Condition T → Condition T

@@ -1,32 +1,20 @@
 -- The trees of the code, without where they lie in memory.
 use Rattle.std.specs.Prelude.{map, option_map}
-use Rattle.star_query.specs.declared.tree.Name.{Name}
-use Rattle.star_query.specs.declared.tree.Literal.{Literal}
+use Rattle.star_query.specs.declared.tree.{Name.Name, Literal.Literal, Expression.Expression, Comparison.Comparison, Comparison.TheVariants.Compare, Comparison.TheVariants.Between, Condition.Condition, Condition.TheVariants.Or', Condition.TheVariants.And', Condition.TheVariants.Not', Condition.TheVariants.Test, Measure.Measure, Measure.TheVariants.Fold, Measure.TheVariants.Count, Aggregate.Aggregate, Item.Item, Grouping.Grouping, SortKey.SortKey, Tree.Tree}
 use Rattle.star_query.specs.declared.tree.Literal.TheVariants as literals
-use Rattle.star_query.specs.declared.tree.Expression.{Expression}
 use Rattle.star_query.specs.declared.tree.Expression.TheVariants.{Column, Number, Add', Sub', Mul'}
-use Rattle.star_query.specs.declared.tree.Comparison.{Comparison}
-use Rattle.star_query.specs.declared.tree.Comparison.TheVariants.{Compare, Between}
 use Rattle.star_query.specs.declared.tree.Test as of_test
 use Rattle.star_query.specs.declared.tree.Test.TheVariants as tests
-use Rattle.star_query.specs.declared.tree.Condition.{Condition}
-use Rattle.star_query.specs.declared.tree.Condition.TheVariants.{Or', And', Not', Test}
-use Rattle.star_query.specs.declared.tree.Measure.{Measure}
-use Rattle.star_query.specs.declared.tree.Measure.TheVariants.{Fold, Count}
-use Rattle.star_query.specs.declared.tree.Aggregate.{Aggregate}
-use Rattle.star_query.specs.declared.tree.Item.{Item}
 use Rattle.star_query.specs.declared.tree.Item.TheVariants as items
-use Rattle.star_query.specs.declared.tree.Grouping.{Grouping}
-use Rattle.star_query.specs.declared.tree.SortKey.{SortKey}
-use Rattle.star_query.specs.declared.tree.Tree.{Tree}
+use Rattle.star_schema.specs.Tables as tables
 use Rattle.star_query.specs.Tree as tree
 
 abbrev pub name_view : Name → tree.Name
 name_view n = record { text = n.text.items; place = n.place }
 
-abbrev pub literal_view : Literal → tree.Literal
-literal_view (literals.Number x) = tree.number x
-literal_view (literals.Text t) = tree.text t.items
+abbrev pub literal_view : Literal → tables.Value
+literal_view (literals.Number x) = tables.Number x
+literal_view (literals.Text t) = tables.Text t.items
 
 -- an expression whose columns are seen so
 abbrev pub expression_by : {C D : Type 0} → (C → D) → Expression C → tree.Expression D

@@ -5,6 +5,7 @@ ghost use Rattle.star_query.specs.Symbols as symbols;
 ghost use Rattle.star_query.specs.Private.Reads.{spot_of, No, ReadsLit, ReadsNamed, ReadsUnit, ReadsConj, ReadsCond, NoAnd, NoLogic};
 ghost use Rattle.star_query.specs.Maxima.{most_nestings};
 ghost use Rattle.star_query.specs.Views.{name_view, condition_view, literal_view};
+ghost use Rattle.star_schema.specs.Tables.{Number};
 ghost use Rattle.star_query.specs.Tree as tree;
 ghost use Rattle.star_query.specs.Private.Machine.{unit_wanted, unit_named, equal_had, lit_wanted, low, compared, behind_relation};
 
@@ -183,13 +184,13 @@ fn or(
 }
 
 fn whole(digits: Digits) -> Literal
-    ensures { literal_view result ≡ tree.number (pos digits.value) }
+    ensures { literal_view result ≡ Number (pos digits.value) }
 {
     Literal::Number(digits.value as i64)
 }
 
 fn negated(digits: Digits) -> Literal
-    ensures { literal_view result ≡ tree.number (neg_ℤ (pos digits.value)) }
+    ensures { literal_view result ≡ Number (neg_ℤ (pos digits.value)) }
 {
     Literal::Number(-(digits.value as i64))
 }

@@ -13,6 +13,7 @@ use crate::counts::MAX_DIGITS;
 use crate::fault::QueryFault;
 use crate::token::{Additive, Digits, Kind, Relation, Sign, Token, WORDS, Word};
 use star_common::{is_printable, numeral_value};
+use star_schema::Named;
 use std::alloc::Global;
 
 // What begins at a place.
@@ -54,7 +55,7 @@ fn is_word_byte(byte: u8) -> bool
 fn is_spelled(reserved: Word, word: &[u8]) -> bool
     ensures { result ≡ spec.is_spelled word.now reserved }
 {
-    let spelling = reserved.spelling().as_bytes();
+    let spelling = reserved.name().as_bytes();
     spelling.eq_ignore_ascii_case(word)
 }
 

@@ -1,8 +1,10 @@
 // The tokens of a query text.
 
-ghost use Rattle.std.specs.Prelude.{◌≡◌, ◌<◌, ◌^◌};
+ghost use Rattle.std.specs.Prelude.{◌<◌, ◌^◌};
 ghost use Rattle.star_query.specs.Maxima.{most_digits};
 ghost use Rattle.star_query.specs.Symbols as spec;
+
+use star_schema::Named;
 
 /// What folds the values of an expression over a group of rows.
 #[derive(Clone, Copy, PartialEq, Eq)]
@@ -91,12 +93,11 @@ pub(crate) static WORDS: [Word; 19] = [
     Word::Count,
 ];
 
-impl Word {
-    // How it is written, in lower case.
+impl Named for Word {
+    ghost name = { spec.spelling };
+
     #[tactic(auto, unfolding(crate::specs::Symbols::spelling))]
-    pub(crate) fn spelling(self) -> &'static str
-        ensures { result.now ≡ spec.spelling self }
-    {
+    fn name(self) -> &'static str {
         match self {
             Word::Keyword(Keyword::Select) => "select",
             Word::Keyword(Keyword::From) => "from",

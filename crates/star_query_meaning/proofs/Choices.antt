@@ -1,22 +1,14 @@
 -- The product of some tables: in which order they stand, and what joins leave of it.
 use Rattle.std.proofs.Common.{◌≡◌, ◌∙◌, Bool, true, false, true≢false, ◌&&◌, ◌||◌, not, if◌then◌else◌, List, [], ◌∷◌, ◌++◌, Option, Some, None, refl, sym, ap, subst, cond, map}
 use Rattle.std.specs.Prelude.{filter}
-use Rattle.std.specs.List.{AllByRecursion, flat_map, list_all, list_any}
-use Rattle.std.specs.List.Sorted.{IsPermutation}
-use Rattle.std.specs.Ordering.{is_eq}
-use Rattle.std.proofs.lemmas.Bool.{and_parts, or_parts, not-true}
-use Rattle.std.proofs.lemmas.List.Elements.{filter-append}
-use Rattle.std.proofs.lemmas.List.Sorted.{IsPermutation-refl, IsPermutation-trans}
-use Rattle.star_schema.specs.declared.table.TableId.{TableId}
-use Rattle.star_schema.specs.declared.table.TableId.TheVariants.{Lineorder}
-use Rattle.star_schema.specs.Order.{value_cmp}
-use Rattle.star_schema.specs.Schema.{is_table, key_of, references, table_of}
-use Rattle.star_schema.proofs.KeyColumns.{foreign_key}
-use Rattle.star_schema.proofs.Same.{table_same, table_itself}
+use Rattle.std.specs.{List.AllByRecursion, List.flat_map, List.list_all, List.list_any, List.Sorted.IsPermutation, Ordering.is_eq}
+use Rattle.std.proofs.lemmas.{Bool.and_parts, Bool.or_parts, Bool.not-true, List.Elements.filter-append, List.Sorted.IsPermutation-refl, List.Sorted.IsPermutation-trans}
+use Rattle.star_schema.specs.declared.table.TableId.{TableId, TheVariants.Lineorder}
+use Rattle.star_schema.specs.{Order.value_cmp, Schema.is_table, Schema.key_of, Schema.references, Schema.table_of}
+use Rattle.star_schema.proofs.{KeyColumns.foreign_key, Same.table_same, Same.table_itself}
 use Rattle.star_plan.specs.declared.tree.Join.{Join}
-use Rattle.star_plan.specs.Joins.{is_foreign, is_lone_key, refers}
+use Rattle.star_plan.specs.{Joins.is_foreign, Joins.is_lone_key, Joins.refers, Sound.are_distinct}
 use Rattle.star_plan.specs.Meaning.{Joined, Row, Tables, joined_rows, matches, only_row, partners, value_in, joined_value, with_row}
-use Rattle.star_plan.specs.Sound.{are_distinct}
 use Rattle.star_query_meaning.specs.Rows.{product, with_choices}
 use Rattle.star_query_meaning.proofs.Reorderings.{crossed, each_reordered, reordered}
 
@@ -126,6 +118,11 @@ beside_turned row s t a b apart = λ i u. at u i
         (λ p q. true≢false (sym (table_itself s)
         ∙ ap (is_table s) (sym (table_same u s q) ∙ table_same u t p) ∙ apart))
 
+pub ors_turned : (a b c : Bool) → (a || (b || c)) ≡ (b || (a || c))
+ors_turned true true c = refl
+ors_turned true false c = refl
+ors_turned false b c = refl
+
 module _ (ts : Tables) where
   abbrev SameChoices : List TableId → List TableId → Type 0
   SameChoices xs ys = ((t : TableId) → is_among t xs ≡ is_among t ys)
@@ -160,11 +157,6 @@ module _ (ts : Tables) where
           (λ chosen. rest.1 (with_row row x chosen)),
     )),
   )
-
-  ors_turned : (a b c : Bool) → (a || (b || c)) ≡ (b || (a || c))
-  ors_turned true true c = refl
-  ors_turned true false c = refl
-  ors_turned false b c = refl
 
   choices_turned : (x y : TableId) (xs : List TableId) → SameChoices (x ∷ y ∷ xs) (y ∷ x ∷ xs)
   choices_turned x y xs = (
@@ -294,7 +286,7 @@ refers_to None t e = absurd (cc)
 refers_to (Some s) t e = ap Some (table_same s t e)
 
 -- lineorder has no lone key
-no_key_of_fact : (j : Join) → is_foreign j.foreign j.key ≡ true
+pub no_key_of_fact : (j : Join) → is_foreign j.foreign j.key ≡ true
     → is_table Lineorder (table_of j.key) ≡ false
 no_key_of_fact j e = by (is_table Lineorder (table_of j.key)) refl
   where

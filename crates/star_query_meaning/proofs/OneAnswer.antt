@@ -1,7 +1,6 @@
 -- A query has one answer over given tables, and so one printed text.
 use Rattle.std.proofs.Common.{◌≡◌, ◌∙◌, ℕ, List, ap, map, subst, sym}
-use Rattle.star_schema.specs.Database.{Database, rows_in}
-use Rattle.star_schema.specs.Order.{row_cmp, value_cmp}
+use Rattle.star_schema.specs.{Database.Database, Database.rows_in, Order.row_cmp, Order.value_cmp}
 use Rattle.star_query.specs.Tree.{Tree}
 use Rattle.star_query.proofs.Verdicts.{one_meaning}
 use Rattle.star_plan.specs.Meaning.{Tables}
@@ -9,9 +8,7 @@ use Rattle.star_program.specs.declared.outcome.Cell.{Cell}
 use Rattle.star_program.specs.RowCells.{cell_of}
 use Rattle.star_report.specs.Report.{report_text}
 use Rattle.star_report.proofs.OneOrder.{one_order, row_turned, same_groups}
-use Rattle.star_query_meaning.specs.Answers.{IsAnswer}
-use Rattle.star_query_meaning.specs.Reports.{IsReport}
-use Rattle.star_query_meaning.specs.Shows.{item_columns, sorts_of}
+use Rattle.star_query_meaning.specs.{Answers.IsAnswer, Reports.IsReport, Shows.item_columns, Shows.sorts_of}
 
 pub one_answer : (ts : Tables) (q : Tree) (names others : List (List ℕ))
     (rows more : List (List Cell)) → IsAnswer ts q names rows → IsAnswer ts q others more

@@ -19,7 +19,7 @@ use Rattle.star_plan.specs.declared.tree.Join.{Join}
 use Rattle.star_plan.specs.Joins.{Pair, is_foreign, join_by, join_of, joins_of, pairs_of, where_pairs}
 use Rattle.star_plan.specs.Meaning as plan
 use Rattle.star_plan.specs.Meaning.{Joined, all_hold, holds, tests, joined_value}
-use Rattle.star_plan.specs.Names.{column_at, literal_value}
+use Rattle.star_plan.specs.Names.{column_at}
 use Rattle.star_plan.specs.Resolved.{conjuncts_of, resolved_condition, resolved_test, where_conjuncts}
 use Rattle.star_plan.proofs.Known.{each_left, each_right}
 use Rattle.star_plan.proofs.Options.{both_gave, first_or_second, mapped_gave}
@@ -53,15 +53,15 @@ condition_same (tree.not a) x row e =
 condition_same (tree.test (tree.pair m n)) x row e = absurd (cc)
 condition_same (tree.test (tree.comparison (tree.compare n s l))) x row e =
     let t = mapped_gave test (resolved_test (tree.comparison (tree.compare n s l))) x e in
-    let g = mapped_gave (λ c. compare c s (literal_value l)) (column_at n) t.0 t.1 in
-    (λ i. tests s (value_cmp (named n g.0 row g.1 i) (literal_value l)))
+    let g = mapped_gave (λ c. compare c s l) (column_at n) t.0 t.1 in
+    (λ i. tests s (value_cmp (named n g.0 row g.1 i) l))
     ∙ ap (λ y. holds (test y) row) g.2 ∙ ap (λ y. holds y row) t.2
 condition_same (tree.test (tree.comparison (tree.between n from upto))) x row e =
     let t = mapped_gave test (resolved_test (tree.comparison (tree.between n from upto))) x e in
-    let g = mapped_gave (λ c. between c (literal_value from) (literal_value upto)) (column_at n) t.0
+    let g = mapped_gave (λ c. between c from upto) (column_at n) t.0
     t.1 in
-    (λ i. is_le (value_cmp (literal_value from) (named n g.0 row g.1 i))
-    && is_le (value_cmp (named n g.0 row g.1 i) (literal_value upto)))
+    (λ i. is_le (value_cmp from (named n g.0 row g.1 i))
+    && is_le (value_cmp (named n g.0 row g.1 i) upto))
     ∙ ap (λ y. holds (test y) row) g.2 ∙ ap (λ y. holds y row) t.2
 
 no_pairs : (q : Condition Test) (x : plan.RowCondition) (b : Bool) → resolved_condition q ≡ Some x

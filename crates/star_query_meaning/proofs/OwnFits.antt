@@ -6,15 +6,11 @@ use Rattle.star_schema.specs.declared.column.ColumnId.{ColumnId}
 use Rattle.star_interval.specs.Range.{corner_range, fits_i64}
 use Rattle.star_query.specs.Tree as tree
 use Rattle.star_query.specs.Tree.{Expression, Item, Measure, Name, Tree, add, column, constant, mul, sub}
-use Rattle.star_plan.specs.Fits.{measure_fits, nodes_fit, expression_range}
-use Rattle.star_plan.specs.Meaning.{Plan, Tables}
-use Rattle.star_plan.specs.Names.{column_at}
+use Rattle.star_plan.specs.{Fits.measure_fits, Fits.nodes_fit, Fits.expression_range, Meaning.Plan, Meaning.Tables, Names.column_at, Resolved.IsResolved, Resolved.resolved_expression, Resolved.resolved_measure}
 use Rattle.star_plan.specs.Resolved as resolved
-use Rattle.star_plan.specs.Resolved.{IsResolved, resolved_expression, resolved_measure}
 use Rattle.star_plan.proofs.Options.{both_gave, mapped_gave}
 use Rattle.star_schema.specs.Columns.{bounds_in}
-use Rattle.star_query_meaning.specs.Fitting.{FitsTables, PlanFitsTables, range_named}
-use Rattle.star_query_meaning.specs.Rows.{measures_of}
+use Rattle.star_query_meaning.specs.{Fitting.FitsTables, Fitting.PlanFitsTables, Fitting.range_named, Rows.measures_of}
 
 module _ (ts : Tables) where
   named : (n : Name) (c : ColumnId) → column_at n ≡ Some c → range_named ts n ≡ bounds_in ts c

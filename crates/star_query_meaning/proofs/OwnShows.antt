@@ -1,14 +1,9 @@
 -- What a query shows by its own words is what its plan shows.
 use Rattle.std.proofs.Common.{◌≡◌, ◌∙◌, ℕ, zero, suc, ◌+◌, ◌<◌, List, [], ◌∷◌, ◌++◌, Some, get_or, length, map, nat_eq, refl, sym, ap, arith}
 use Rattle.std.specs.Prelude.{◌+ℤ◌, ◌-ℤ◌, ◌*ℤ◌}
-use Rattle.std.specs.Cmp.Lexicographic.{pointwise, same_text}
-use Rattle.std.specs.List.{flat_map, position}
-use Rattle.std.specs.Option.{option_to_list}
+use Rattle.std.specs.{Cmp.Lexicographic.pointwise, Cmp.Lexicographic.same_text, List.flat_map, List.position, Option.option_to_list}
 use Rattle.std.proofs.lemmas.List.Quantifiers.{position-Some}
-use Rattle.star_schema.specs.declared.column.ColumnId.{ColumnId}
-use Rattle.star_schema.specs.declared.column.ColumnId.TheVariants.{DDatekey}
-use Rattle.star_schema.specs.declared.column.TheConstants.{COLUMNS}
-use Rattle.star_schema.specs.declared.group.GroupColumn.{GroupColumn}
+use Rattle.star_schema.specs.declared.{column.ColumnId.ColumnId, column.ColumnId.TheVariants.DDatekey, column.TheConstants.COLUMNS, group.GroupColumn.GroupColumn}
 use Rattle.star_schema.specs.declared.group.GroupColumn.TheVariants as group
 use Rattle.star_schema.specs.declared.group.SortKey as sorted
 use Rattle.star_schema.specs.Schema.{column_name}
@@ -18,15 +13,11 @@ use Rattle.star_query.specs.declared.token.Fold.TheVariants as fold
 use Rattle.star_query.specs.Tree as tree
 use Rattle.star_query.specs.Tree.{Expression, Item, Measure, Name, SortKey, Tree, add, column, constant, mul, sub}
 use Rattle.star_plan.specs.Meaning as plan
-use Rattle.star_plan.specs.Meaning.{Joined, Plan, joined_value}
-use Rattle.star_plan.specs.Names.{column_at, column_called}
+use Rattle.star_plan.specs.{Meaning.Joined, Meaning.Plan, Meaning.joined_value, Names.column_at, Names.column_called, Resolved.items_from, Resolved.option_all, Resolved.resolved_expression, Resolved.resolved_measure}
 use Rattle.star_plan.specs.Naming.{name_of_aggregate, aggregate_names, names_from, key_column, resolved_key}
 use Rattle.star_plan.specs.Resolved as resolved
-use Rattle.star_plan.specs.Resolved.{items_from, option_all, resolved_expression, resolved_measure}
 use Rattle.star_plan.proofs.Options.{both_gave, mapped_gave}
-use Rattle.star_query_meaning.specs.Answers.{shown_name}
-use Rattle.star_query_meaning.specs.Rows.{measures_of, value_named}
-use Rattle.star_query_meaning.specs.Shows.{columns_from, item_names_from}
+use Rattle.star_query_meaning.specs.{Answers.shown_name, Rows.measures_of, Rows.value_named, Shows.columns_from, Shows.item_names_from}
 use Rattle.star_query_meaning.proofs.OwnConditions.{named}
 
 -- ---- the values of a row

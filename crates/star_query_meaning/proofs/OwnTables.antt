@@ -1,35 +1,21 @@
 -- FROM names lineorder and the dimensions that are joined, in some order.
 use Rattle.std.proofs.Common.{◌≡◌, ◌∙◌, Bool, true, false, true≢false, ◌||◌, inl, inr, List, [], ◌∷◌, ◌++◌, Option, Some, None, nat_eq, refl, sym, ap, subst}
-use Rattle.std.specs.Cmp.Lexicographic.{pointwise}
-use Rattle.std.specs.List.{AllByRecursion, IsDistinct}
-use Rattle.std.specs.List.Sorted.{IsPermutation}
-use Rattle.std.specs.Option.{option_to_list}
-use Rattle.std.proofs.lemmas.Grind.{flat_map-append}
-use Rattle.std.proofs.lemmas.List.Folds.{list_any-append}
+use Rattle.std.specs.{Cmp.Lexicographic.pointwise, List.AllByRecursion, List.IsDistinct, List.Sorted.IsPermutation, Option.option_to_list}
+use Rattle.std.proofs.lemmas.{Grind.flat_map-append, List.Folds.list_any-append, Bool.or_parts}
 use Rattle.std.proofs.lemmas.List.Sorted.{IsPermutation-refl, IsPermutation-cons, IsPermutation-middle, IsPermutation-sym, IsPermutation-trans}
-use Rattle.std.proofs.lemmas.Bool.{or_parts}
-use Rattle.star_schema.specs.declared.table.TableId.{TableId}
+use Rattle.star_schema.specs.declared.{table.TableId.TableId, table.TheConstants.TABLES, column.ColumnId.ColumnId}
 use Rattle.star_schema.specs.declared.table.TableId.TheVariants.{Date, Customer, Supplier, Part, Lineorder}
-use Rattle.star_schema.specs.declared.table.TheConstants.{TABLES}
-use Rattle.star_schema.specs.declared.column.ColumnId.{ColumnId}
 use Rattle.star_schema.specs.declared.column.ColumnId.TheVariants.{DDatekey, CCustkey, SSuppkey, PPartkey, LoOrderkey}
 use Rattle.star_schema.specs.Schema.{column_of, is_table, table_name, table_of}
-use Rattle.star_schema.proofs.NamesApart.{found_named}
+use Rattle.star_schema.proofs.{NamesApart.found_named, Same.table_same, Same.table_itself}
 use Rattle.star_query.specs.Tree as tree
 use Rattle.star_query.specs.Tree.{Condition, Name, Test}
 use Rattle.star_plan.specs.declared.tree.Join.{Join}
 use Rattle.star_plan.specs.Joins.{Pair, join_by, join_of, joins_of, pairs_of, where_pairs}
-use Rattle.star_plan.specs.Names.{column_at, has_name, table_at, table_called}
-use Rattle.star_plan.specs.Sound.{in_scope, joins_table}
-use Rattle.star_plan.specs.Uses.{where_uses}
-use Rattle.star_plan.specs.Private.Stages.{condition_uses}
-use Rattle.star_plan.specs.WellNamed.{IsThere, is_in_from, same_name}
-use Rattle.star_plan.proofs.Known.{Reaches, each_left, each_right}
-use Rattle.star_plan.proofs.Options.{first_or_second}
+use Rattle.star_plan.specs.{Names.column_at, Names.has_name, Names.table_at, Names.table_called, Sound.in_scope, Sound.joins_table, Uses.where_uses, Private.Stages.condition_uses, WellNamed.IsThere, WellNamed.is_in_from, WellNamed.same_name}
+use Rattle.star_plan.proofs.{Known.Reaches, Known.each_left, Known.each_right, Options.first_or_second}
 use Rattle.star_query_meaning.specs.Rows.{tables_of}
-use Rattle.star_query_meaning.proofs.Choices.{AreApart, dimensions_of, is_among}
-use Rattle.star_schema.proofs.Same.{table_same, table_itself}
-use Rattle.star_query_meaning.proofs.OwnConditions.{join_made}
+use Rattle.star_query_meaning.proofs.{Choices.AreApart, Choices.ors_turned, Choices.dimensions_of, Choices.is_among, OwnConditions.join_made}
 
 -- ---- lists of tables
 
@@ -75,16 +61,11 @@ middle_apart t (u ∷ front) back apart =
     by_test true h no' = absurd (no' h)
     by_test false h no' = h
 
-ors : (a b c : Bool) → (a || (b || c)) ≡ (b || (a || c))
-ors true true c = refl
-ors true false c = refl
-ors false b c = refl
-
 middle_among : (u t : TableId) (front back : List TableId)
     → is_among u (front ++ t ∷ back) ≡ (is_table u t || is_among u (front ++ back))
 middle_among u t front back =
     list_any-append (is_table u) front (t ∷ back)
-    ∙ ors (is_among u front) (is_table u t) (is_among u back)
+    ∙ ors_turned (is_among u front) (is_table u t) (is_among u back)
     ∙ ap (λ b. is_table u t || b) (sym (list_any-append (is_table u) front back))
 
 -- two lists with no table twice, and with the same tables
@@ -179,7 +160,7 @@ named_apart (n ∷ ns) all once =
 
 -- ---- the dimensions that are joined
 
-among_dimensions : (js : List Join) (t : TableId) → joins_table js t ≡ is_among t (dimensions_of js)
+pub among_dimensions : (js : List Join) (t : TableId) → joins_table js t ≡ is_among t (dimensions_of js)
 among_dimensions [] t = refl
 among_dimensions (j ∷ js) t = ap (λ b. is_table t (table_of j.key) || b) (among_dimensions js t)
 

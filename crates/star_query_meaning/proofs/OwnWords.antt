@@ -1,39 +1,21 @@
 -- What a query answers by its own words is what its plan answers.
 use Rattle.std.proofs.Common.{◌≡◌, ◌∙◌, ℕ, ◌+◌, true, arith, get_or, List, [], ◌∷◌, ◌++◌, length, map, sym, ap, subst}
 use Rattle.std.specs.Prelude.{filter}
-use Rattle.std.specs.List.{AllByRecursion}
-use Rattle.std.specs.List.Sorted.{IsPermutation}
+use Rattle.std.specs.List.{AllByRecursion, Sorted.IsPermutation}
 use Rattle.std.proofs.lemmas.List.Sorted.{IsPermutation-map, IsPermutation-sym}
 use Rattle.star_schema.specs.declared.table.TableId.TheVariants.{Lineorder}
-use Rattle.star_schema.specs.Groups.{AreGroups, Entry, GroupRow}
-use Rattle.star_schema.specs.Order.{AreInOrder, value_cmp}
-use Rattle.star_schema.specs.Schema.{table_of}
-use Rattle.star_schema.specs.Tables.{Value}
+use Rattle.star_schema.specs.{Groups.AreGroups, Groups.Entry, Groups.GroupRow, Order.AreInOrder, Order.value_cmp, Schema.table_of, Tables.Value}
 use Rattle.star_query.specs.Tree.{Tree}
-use Rattle.star_plan.specs.Joins.{joins_of, where_pairs}
+use Rattle.star_plan.specs.{Joins.joins_of, Joins.where_pairs, Meaning.Plan, Meaning.Tables, Meaning.all_hold, Meaning.joined_rows, Names.column_at, Resolved.IsResolved, Uses.where_uses, Private.Stages.groups_uses, Private.Stages.items_uses, WellNamed.IsWellNamed, WellNamed.is_in_from}
 use Rattle.star_plan.specs.Meaning as plan
-use Rattle.star_plan.specs.Meaning.{Plan, Tables, all_hold, joined_rows}
-use Rattle.star_plan.specs.Names.{column_at}
-use Rattle.star_plan.specs.Resolved.{IsResolved}
-use Rattle.star_plan.specs.Uses.{where_uses}
-use Rattle.star_plan.specs.Private.Stages.{groups_uses, items_uses}
-use Rattle.star_plan.specs.WellNamed.{IsWellNamed, is_in_from}
-use Rattle.star_plan.proofs.Conditions.{no_fault}
-use Rattle.star_plan.proofs.Known.{each_left, each_right}
-use Rattle.star_plan.proofs.KeptCounts.{all_counted}
-use Rattle.star_plan.proofs.KeptJoins.{where_foreign}
-use Rattle.star_plan.proofs.Whole.{parts}
+use Rattle.star_plan.proofs.{Conditions.no_fault, Known.each_left, Known.each_right, KeptCounts.all_counted, KeptJoins.where_foreign, Whole.parts}
 use Rattle.star_program.specs.declared.outcome.Cell.{Cell}
 use Rattle.star_program.specs.RowCells.{cell_of}
-use Rattle.star_query_meaning.specs.Answers.{IsAnswer, IsPlanAnswer, shown_name}
+use Rattle.star_query_meaning.specs.{Answers.IsAnswer, Answers.IsPlanAnswer, Answers.shown_name, Shows.item_columns, Shows.item_names, Shows.sorts_of}
 use Rattle.star_query_meaning.specs.Rows.{query_entry, measures_of, product, selected, tables_of}
-use Rattle.star_query_meaning.specs.Shows.{item_columns, item_names, sorts_of}
 use Rattle.star_query_meaning.proofs.Choices.{IsStar, all_joined, dimensions_apart, dimensions_of, filter_both, is_star, joined_product, no_fact_among, product_reordered}
-use Rattle.star_query_meaning.proofs.GroupOrders.{groups_reordered}
-use Rattle.star_query_meaning.proofs.OwnConditions.{where_same}
+use Rattle.star_query_meaning.proofs.{GroupOrders.groups_reordered, OwnConditions.where_same, OwnTables.from_tables, OwnTables.named_apart, OwnTables.where_named, Reorderings.filter_reordered}
 use Rattle.star_query_meaning.proofs.OwnShows.{columns_same, functions_same, keys_same, names_same, sorts_same, values_same}
-use Rattle.star_query_meaning.proofs.OwnTables.{from_tables, named_apart, where_named}
-use Rattle.star_query_meaning.proofs.Reorderings.{filter_reordered}
 
 module _ (ts : Tables) (t : Tree) (p : Plan) (named : IsWellNamed t)
     (resolved : IsResolved t p) where
@@ -94,7 +76,7 @@ module _ (ts : Tables) (t : Tree) (p : Plan) (named : IsWellNamed t)
       ∙ ap (λ qs. filter (all_hold cs) (joined_rows ts qs)) (sym resolved.joins)
 
   -- and so are what they add to their groups
-  entries_reordered : IsPermutation (map (query_entry t) (selected ts t))
+  pub entries_reordered : IsPermutation (map (query_entry t) (selected ts t))
       (map (plan.entry_of p) (plan.plan_rows ts p))
   entries_reordered =
       let same : map (query_entry t) (selected ts t) ≡ map (plan.entry_of p) (selected ts t) =
@@ -107,11 +89,11 @@ module _ (ts : Tables) (t : Tree) (p : Plan) (named : IsWellNamed t)
       subst (λ es. IsPermutation es (map (plan.entry_of p) (plan.plan_rows ts p))) (sym same)
       (IsPermutation-map (plan.entry_of p) (selected ts t) (plan.plan_rows ts p) selected_reordered)
 
-  count_same : length t.grouping.columns ≡ length p.keys
+  pub count_same : length t.grouping.columns ≡ length p.keys
   count_same = sym (all_counted column_at t.grouping.columns p.keys resolved.keys)
 
   -- groups by the query's own words, and by the plan
-  own_groups : (entries : List (Entry Value)) (groups : List (GroupRow Value))
+  pub own_groups : (entries : List (Entry Value)) (groups : List (GroupRow Value))
       → AreGroups value_cmp t.grouping.shape (length t.grouping.columns)
       (map plan.aggregate_of (measures_of t.items)) entries groups
       ≡ AreGroups value_cmp p.shape (length p.keys) (map plan.aggregate_of p.measures) entries

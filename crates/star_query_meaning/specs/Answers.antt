@@ -1,19 +1,13 @@
 -- What a query answers over five tables, by its own words and by its plan's.
 use Rattle.std.specs.Prelude.{◌≡◌, ℕ, List, [], length, map, slice_index_or}
-use Rattle.star_schema.specs.declared.column.ColumnId.TheVariants.{DDatekey}
-use Rattle.star_schema.specs.declared.group.GroupColumn.{GroupColumn}
-use Rattle.star_schema.specs.declared.group.GroupColumn.TheVariants.{Key, Aggregate}
-use Rattle.star_schema.specs.Groups.{AreGroups, GroupRow}
-use Rattle.star_schema.specs.Order.{AreInOrder, value_cmp}
-use Rattle.star_schema.specs.Schema.{column_name}
-use Rattle.star_schema.specs.Tables.{Value}
+use Rattle.star_schema.specs.declared.{column.ColumnId.TheVariants.DDatekey, group.GroupColumn.GroupColumn, group.GroupColumn.TheVariants.Key, group.GroupColumn.TheVariants.Aggregate}
+use Rattle.star_schema.specs.{Groups.AreGroups, Groups.GroupRow, Order.AreInOrder, Order.value_cmp, Schema.column_name, Tables.Value}
 use Rattle.star_query.specs.Tree.{Tree}
 use Rattle.star_plan.specs.Meaning as of_plan
 use Rattle.star_plan.specs.Meaning.{Plan, Tables}
 use Rattle.star_program.specs.declared.outcome.Cell.{Cell}
 use Rattle.star_program.specs.RowCells.{cell_of}
-use Rattle.star_query_meaning.specs.Rows.{query_entry, measures_of, selected}
-use Rattle.star_query_meaning.specs.Shows.{item_columns, item_names, sorts_of}
+use Rattle.star_query_meaning.specs.{Rows.query_entry, Rows.measures_of, Rows.selected, Shows.item_columns, Shows.item_names, Shows.sorts_of}
 
 -- a header and rows: the groups of the selected rows with their aggregates, in the query's order,
 -- each cut to the items of SELECT in their order, under their names

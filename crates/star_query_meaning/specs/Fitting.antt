@@ -1,15 +1,12 @@
 -- Which queries fit over five tables: by the bounds of their columns and the number of lineorder's
 -- rows alone.
 use Rattle.std.specs.Prelude.{◌≡◌, ◌≤◌, ℕ, true, length, pos}
-use Rattle.std.specs.List.{list_all}
-use Rattle.std.specs.Option.{option_map_or}
+use Rattle.std.specs.{List.list_all, Option.option_map_or}
 use Rattle.star_schema.specs.declared.table.TableId.TheVariants.{Lineorder}
 use Rattle.star_schema.specs.Columns.{bounds_in}
 use Rattle.star_interval.specs.Range.{Range, only}
 use Rattle.star_query.specs.Tree.{Name, Tree}
-use Rattle.star_plan.specs.Fits.{Fits, measure_fits}
-use Rattle.star_plan.specs.Meaning.{Plan, Tables}
-use Rattle.star_plan.specs.Names.{column_at}
+use Rattle.star_plan.specs.{Fits.Fits, Fits.measure_fits, Meaning.Plan, Meaning.Tables, Names.column_at}
 use Rattle.star_query_meaning.specs.Rows.{measures_of}
 
 -- the bounds of the column with this name; no other name stands in a well named query

@@ -1,8 +1,7 @@
 -- What is printed for the bytes of a query over the rows of five tables.
 use Rattle.std.specs.Prelude.{◌≡◌, ℕ, List}
 use Rattle.star_schema.specs.Database.{Database, rows_in}
-use Rattle.star_query.specs.Derives.{Means}
-use Rattle.star_query.specs.Tree.{Tree}
+use Rattle.star_query.specs.{Derives.Means, Tree.Tree}
 use Rattle.star_plan.specs.WellNamed.{IsWellNamed}
 use Rattle.star_program.specs.declared.outcome.Cell.{Cell}
 use Rattle.star_report.specs.Report.{report_text}

@@ -11,7 +11,7 @@ use Rattle.star_schema.specs.Tables.{Value, Number}
 use Rattle.star_query.specs.Leaves.{is_so}
 use Rattle.star_query.specs.Tree.{Name, Test, pair, comparison, Condition, Measure, Item, plain, aggregate, Tree}
 use Rattle.star_plan.specs.Meaning.{Joined, Tables, comparison_holds, measured, joined_value, with_row}
-use Rattle.star_plan.specs.Names.{column_at, literal_value, table_at}
+use Rattle.star_plan.specs.Names.{column_at, table_at}
 
 -- ---- the product
 
@@ -38,7 +38,7 @@ value_named n row = option_map_or (λ c. joined_value c row) (column_at n) (Numb
 -- numbers compare by value, texts by their bytes
 abbrev pub test_is_true : Joined → Test → Bool
 test_is_true row (pair m n) = is_eq (value_cmp (value_named m row) (value_named n row))
-test_is_true row (comparison c) = comparison_holds (λ n. value_named n row) literal_value c
+test_is_true row (comparison c) = comparison_holds (λ n. value_named n row) (λ v. v) c
 
 abbrev pub is_true : Condition Test → Joined → Bool
 is_true c row = is_so (test_is_true row) c

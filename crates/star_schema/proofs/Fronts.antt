@@ -1,9 +1,7 @@
 -- The front of a list that passes a test.
 use Rattle.std.proofs.Common.{◌≡◌, ℕ, suc, ◌+◌, ◌<◌, ◌≤◌, Bool, true, false, cond, List, [], ◌∷◌, length, get_or, count_by, refl, sym, ap, ◌∙◌, arith, nat_lt, ⊎_elim, true≢false}
-use Rattle.std.specs.List.{prefix_len}
-use Rattle.std.specs.List.Sorted.{IsPartitionedBy}
-use Rattle.std.proofs.lemmas.Bool.{cases_lt}
-use Rattle.std.proofs.lemmas.List.Sums.{sum_by-cons, prefix_len_passes, prefix_len_stops, prefix_len-le-length}
+use Rattle.std.specs.List.{prefix_len, Sorted.IsPartitionedBy}
+use Rattle.std.proofs.lemmas.{Bool.cases_lt, List.Sums.sum_by-cons, List.Sums.prefix_len_passes, List.Sums.prefix_len_stops, List.Sums.prefix_len-le-length}
 
 -- where those that pass a test come first, they are the longest front that passes
 module _ {X : Type 0} (p : X → Bool) where

@@ -3,12 +3,7 @@ use Rattle.std.specs.Prelude.{◌≡◌, Contains, Some, None, slice_get, refl}
 use Rattle.std.proofs.Common.{ap, ◌∙◌, lit≤}
 use Rattle.std.specs.Option.{option_map}
 use Rattle.std.proofs.lemmas.Option.{slice_get-map}
-use Rattle.star_schema.specs.declared.table.TableId.{TableId}
-use Rattle.star_schema.specs.declared.table.TableId.TheVariants.{Lineorder}
-use Rattle.star_schema.specs.declared.table.Key.TheVariants.{One, Two}
-use Rattle.star_schema.specs.declared.column.Kind.{Kind}
-use Rattle.star_schema.specs.declared.column.Kind.TheVariants.{Number}
-use Rattle.star_schema.specs.declared.column.ColumnId.{ColumnId}
+use Rattle.star_schema.specs.declared.{table.TableId.TableId, table.TableId.TheVariants.Lineorder, table.Key.TheVariants.One, table.Key.TheVariants.Two, column.Kind.Kind, column.Kind.TheVariants.Number, column.ColumnId.ColumnId}
 use Rattle.star_schema.specs.declared.column.ColumnId.TheVariants.{LoCustkey, LoPartkey, LoSuppkey, LoOrderdate, LoCommitdate}
 use Rattle.star_schema.specs.Loadable.{foreign_keys}
 use Rattle.star_schema.specs.Schema.{column_of, columns_of, key_of, kind_of, kinds_of, place_of, references, table_of}

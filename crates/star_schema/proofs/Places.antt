@@ -2,11 +2,7 @@
 use Rattle.std.specs.Prelude.{◌≡◌, ◌+◌, ◌≤◌, ℕ, zero, suc, Bool, true, false, List, [], ◌∷◌, IfSome, Some, filter, slice_get, refl}
 use Rattle.std.proofs.Common.{subst, sym, lit≤}
 use Rattle.std.specs.Prelude.{Option}
-use Rattle.star_schema.specs.declared.table.TableId.{TableId}
-use Rattle.star_schema.specs.declared.table.TableId.TheVariants.{Date}
-use Rattle.star_schema.specs.declared.column.ColumnId.{ColumnId}
-use Rattle.star_schema.specs.declared.column.ColumnId.TheVariants.{DDatekey}
-use Rattle.star_schema.specs.declared.column.TheConstants.{COLUMNS}
+use Rattle.star_schema.specs.declared.{table.TableId.TableId, table.TableId.TheVariants.Date, column.ColumnId.ColumnId, column.ColumnId.TheVariants.DDatekey, column.TheConstants.COLUMNS}
 use Rattle.star_schema.specs.Schema.{column_of, columns_of, index_of, is_table, place_of, table_of, width_of}
 use Rattle.star_schema.proofs.Same.{table_same}
 

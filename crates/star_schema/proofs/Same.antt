@@ -1,13 +1,9 @@
 -- Tables and columns that the tests find to be one.
 use Rattle.std.specs.Prelude.{◌≡◌, ◌<◌, true, nat_eq, Some, slice_get, refl}
 use Rattle.std.proofs.Common.{ap, sym, ◌∙◌}
-use Rattle.std.proofs.lemmas.Bool.Decides.{Decides-eqb}
-use Rattle.std.proofs.lemmas.Option.{same_Some, slice_get_within}
-use Rattle.star_schema.specs.declared.table.TableId.{TableId}
+use Rattle.std.proofs.lemmas.{Bool.Decides.Decides-eqb, Option.same_Some, Option.slice_get_within}
+use Rattle.star_schema.specs.declared.{table.TableId.TableId, column.ColumnId.ColumnId, column.ColumnId.TheVariants.DDatekey, column.TheConstants.COLUMNS}
 use Rattle.star_schema.specs.declared.table.TableId.TheVariants.{Date, Customer, Supplier, Part, Lineorder}
-use Rattle.star_schema.specs.declared.column.ColumnId.{ColumnId}
-use Rattle.star_schema.specs.declared.column.ColumnId.TheVariants.{DDatekey}
-use Rattle.star_schema.specs.declared.column.TheConstants.{COLUMNS}
 use Rattle.star_schema.specs.Schema.{index_of, is_table}
 
 pub table_same : (s t : TableId) → is_table s t ≡ true → s ≡ t

@@ -1,19 +1,10 @@
 -- Places in a dictionary: how they compare, and which texts stand there.
 use Rattle.std.proofs.Common.{◌≡◌, ℕ, zero, suc, ◌+◌, ◌<◌, ◌≤◌, true, false, List, [], Some, length, get_or, refl, sym, ap, ◌∙◌, arith, ⊎_elim, nat_lt, nat_cmp}
-use Rattle.std.specs.List.{slice_get, Contains}
-use Rattle.std.specs.List.Sorted.{IsStrictlySortedBy}
-use Rattle.std.specs.Ordering.{is_lt, is_le, ordering_reverse}
+use Rattle.std.specs.{List.slice_get, List.Contains, List.Sorted.IsStrictlySortedBy, Ordering.is_lt, Ordering.is_le, Ordering.ordering_reverse}
 use Rattle.std.specs.declared.cmp.Ordering.TheVariants.{Less, Greater}
-use Rattle.std.proofs.lemmas.Bool.{cases_lt, cases_eq}
-use Rattle.std.proofs.lemmas.Cmp.{nat_list_cmp_total, nat_cmp_total, tied_itself}
-use Rattle.std.proofs.lemmas.Map.Keys.{Less-from_sorted}
-use Rattle.std.proofs.lemmas.Option.{get_or_from_slice_get, slice_get-get_or, slice_get_within}
-use Rattle.std.proofs.lemmas.Bool.Decides.{nat_tests}
-use Rattle.std.proofs.lemmas.List.Sums.{count_by-le-length}
+use Rattle.std.proofs.lemmas.{Bool.cases_lt, Bool.cases_eq, Cmp.nat_list_cmp_total, Cmp.nat_cmp_total, Cmp.tied_itself, Map.Keys.Less-from_sorted, Option.get_or_from_slice_get, Option.slice_get-get_or, Option.slice_get_within, Bool.Decides.nat_tests, List.Sums.count_by-le-length}
 use Rattle.star_schema.specs.Dictionary.{text_cmp, dictionary_of, low_in, high_in}
-use Rattle.star_schema.proofs.Dictionaries.{IsDictionary-dictionary_of}
-use Rattle.star_schema.proofs.Edges.{partitioned}
-use Rattle.star_schema.proofs.Fronts.{nat_lt-count_by}
+use Rattle.star_schema.proofs.{Dictionaries.IsDictionary-dictionary_of, Edges.partitioned, Fronts.nat_lt-count_by}
 
 below : (m n : ℕ) → nat_lt m n ≡ true → m < n
 below m n e = grind (arith, nat_tests)

@@ -5,15 +5,9 @@ use Rattle.std.specs.Prelude.{◌++◌, codes, replicate}
 use Rattle.std.proofs.lemmas.List.Elements.{All-from_recursion, recursion_from_All}
 use Rattle.star_common.proofs.Tables.{Gives, Gives2}
 use Rattle.star_schema.specs.declared.column.Kind.TheVariants as kind
-use Rattle.star_schema.specs.declared.column.ColumnId.TheVariants.{CName}
-use Rattle.star_schema.specs.declared.table.TableId.TheVariants.{Customer}
-use Rattle.star_schema.specs.Bounds.{greatest, least, number_in}
-use Rattle.star_schema.specs.Dictionary.{codes_of, dictionary_of, high_in, low_in}
-use Rattle.star_schema.specs.Most.{most_rows, most_visits}
-use Rattle.star_schema.specs.Records.{fields_of, pieces, records_in, records_of}
-use Rattle.star_schema.specs.Schema.{column_of, columns_of, place_of}
+use Rattle.star_schema.specs.declared.{column.ColumnId.TheVariants.CName, table.TableId.TheVariants.Customer}
+use Rattle.star_schema.specs.{Bounds.greatest, Bounds.least, Bounds.number_in, Dictionary.codes_of, Dictionary.dictionary_of, Dictionary.high_in, Dictionary.low_in, Most.most_rows, Most.most_visits, Records.fields_of, Records.pieces, Records.records_in, Records.records_of, Schema.column_of, Schema.columns_of, Schema.place_of, Texts.text_in, Texts.texts_at, Texts.texts_of}
 use Rattle.star_schema.specs.Tables.{IsRecordOf, IsRowOf, IsTable, Number, Text, Value, are_cells, cells_of, is_cell, number_of, row_of, rows_of, value_at, values_of}
-use Rattle.star_schema.specs.Texts.{text_in, texts_at, texts_of}
 
 limits : (most_rows ≡ 1000000000) × (most_visits ≡ 1000000000000000)
 limits = (refl, refl)

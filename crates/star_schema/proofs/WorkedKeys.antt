@@ -1,27 +1,16 @@
 -- Which keys show a row, which rows a group has, what its aggregates are, how values and rows of
 -- groups compare; and the tables' keys.
 use Rattle.std.proofs.Common.{◌≡◌, ℤ, Bool, true, false, List, [], ◌∷◌, Option, Some, None, inl, inr, pos, negsuc, refl, arith}
-use Rattle.std.specs.Prelude.{Contains, codes, map}
-use Rattle.std.specs.List.Sorted.{IsStrictlySortedBy}
-use Rattle.std.specs.Ordering.{int_cmp}
+use Rattle.std.specs.{Prelude.Contains, Prelude.codes, Prelude.map, List.Sorted.IsStrictlySortedBy, Ordering.int_cmp}
 use Rattle.std.specs.declared.cmp.Ordering.TheVariants.{Less, Equal, Greater}
 use Rattle.star_common.proofs.Tables.{Gives, Gives2}
 use Rattle.star_schema.specs.declared.column.ColumnId.TheVariants.{CCustkey, CName, DDatekey, LoCommitdate, LoCustkey, LoLinenumber, LoOrderdate, LoOrderkey, LoPartkey, LoSuppkey, LoTax, PPartkey, SSuppkey}
-use Rattle.star_schema.specs.declared.group.Aggregate.TheVariants.{Sum, Count, Min, Max}
-use Rattle.star_schema.specs.declared.group.Direction.TheVariants.{Ascending, Descending}
-use Rattle.star_schema.specs.declared.group.GroupColumn.TheVariants.{Key, Aggregate}
-use Rattle.star_schema.specs.declared.group.Shape.{Shape}
-use Rattle.star_schema.specs.declared.group.Shape.TheVariants.{Plain, Cube, Rollup}
-use Rattle.star_schema.specs.declared.table.Key.TheVariants.{One, Two}
+use Rattle.star_schema.specs.declared.{group.Aggregate.TheVariants.Sum, group.Aggregate.TheVariants.Count, group.Aggregate.TheVariants.Min, group.Aggregate.TheVariants.Max, group.Direction.TheVariants.Ascending, group.Direction.TheVariants.Descending, group.GroupColumn.TheVariants.Key, group.GroupColumn.TheVariants.Aggregate, group.Shape.Shape, group.Shape.TheVariants.Plain, group.Shape.TheVariants.Cube, group.Shape.TheVariants.Rollup, table.Key.TheVariants.One, table.Key.TheVariants.Two, sizes.Sizes.Sizes}
 use Rattle.star_schema.specs.declared.table.TableId.TheVariants.{Customer, Date, Lineorder, Part, Supplier}
-use Rattle.star_schema.specs.Database.{Database, rows_in}
+use Rattle.star_schema.specs.{Database.Database, Database.rows_in, Loadable.foreign_keys, Loadable.key_numbers, Sizes.size_of, Tables.Number, Tables.Text, Tables.Value}
 use Rattle.star_schema.specs.Groups.{AreGroups, Entry, GroupRow, IsGroup, IsMasked, aggregate, belongs, is_grouping, members, totals_of}
-use Rattle.star_schema.specs.Loadable.{foreign_keys, key_numbers}
 use Rattle.star_schema.specs.Order.{AreInOrder, column_cmp, key_cmp, row_cmp, value_cmp}
 use Rattle.star_schema.specs.Schema.{columns_of, column_of, key_of, place_of, references, width_of}
-use Rattle.star_schema.specs.declared.sizes.Sizes.{Sizes}
-use Rattle.star_schema.specs.Sizes.{size_of}
-use Rattle.star_schema.specs.Tables.{Number, Text, Value}
 
 -- ---- keys of groups
 

@@ -2,8 +2,7 @@
 use Rattle.std.specs.Prelude.{ℕ, ℤ, List, [], ◌∷◌, Option, Some, fold, map, pos, slice_get}
 use Rattle.std.specs.Int.{int_max, int_min}
 use Rattle.star_schema.specs.declared.column.ColumnId.{ColumnId}
-use Rattle.star_schema.specs.Schema.{place_of}
-use Rattle.star_schema.specs.Tables.{Value, Number}
+use Rattle.star_schema.specs.{Schema.place_of, Tables.Value, Tables.Number}
 
 -- the least of some numbers, 0 where there is none
 unfoldable pub least : List ℤ → ℤ

@@ -1,15 +1,8 @@
 -- What stands in a column of five tables, row by row, and the bounds of the columns of numbers.
 use Rattle.std.specs.Prelude.{◌≡◌, ℕ, ℤ, List}
 use Rattle.star_interval.specs.Range.{FitsI64, Range}
-use Rattle.star_schema.specs.declared.column.ColumnId.{ColumnId}
-use Rattle.star_schema.specs.declared.column.Kind.TheVariants.{Number}
-use Rattle.star_schema.specs.declared.table.TableId.{TableId}
-use Rattle.star_schema.specs.Bounds.{greatest, least, numbers_of}
-use Rattle.star_schema.specs.Database.{Database, rows_in}
-use Rattle.star_schema.specs.Dictionary.{dictionary_of}
-use Rattle.star_schema.specs.Schema.{kind_of, table_of}
-use Rattle.star_schema.specs.Tables.{Value}
-use Rattle.star_schema.specs.Texts.{texts_of}
+use Rattle.star_schema.specs.declared.{column.ColumnId.ColumnId, column.Kind.TheVariants.Number, table.TableId.TableId}
+use Rattle.star_schema.specs.{Bounds.greatest, Bounds.least, Bounds.numbers_of, Database.Database, Database.rows_in, Dictionary.dictionary_of, Schema.kind_of, Schema.table_of, Tables.Value, Texts.texts_of}
 
 -- the numbers of a column of numbers
 abbrev pub column_numbers : Database → ColumnId → List ℤ

@@ -1,8 +1,6 @@
 -- The order of texts, and the dictionary of a column of texts (this project's profile).
 use Rattle.std.specs.Prelude.{◌≡◌, ◌↔◌, ℕ, ℤ, List, [], ◌∷◌, Contains, Some, count_by, map, pos, slice_get}
-use Rattle.std.specs.Cmp.Lexicographic.{slice_cmp}
-use Rattle.std.specs.List.Sorted.{IsStrictlySortedBy}
-use Rattle.std.specs.Ordering.{is_lt, is_le, match_ordering, nat_cmp}
+use Rattle.std.specs.{Cmp.Lexicographic.slice_cmp, List.Sorted.IsStrictlySortedBy, Ordering.is_lt, Ordering.is_le, Ordering.match_ordering, Ordering.nat_cmp}
 use Rattle.std.specs.declared.cmp.Ordering.{Ordering}
 
 -- texts compare by their bytes, and one that another goes on from is less

@@ -1,14 +1,8 @@
 -- Groups of rows and their aggregates, over any kind of keys (Gray et al. 1997, sections 3 and 4).
 use Rattle.std.specs.Prelude.{◌≡◌, ◌⊎◌, ℕ, ◌+◌, ℤ, pos, ◌+ℤ◌, IsTrue, Bool, true, false, ◌&&◌, List, [], ◌∷◌, Contains, length, map, filter, replicate, slice_index_or, Option, Some, None}
-use Rattle.std.specs.Int.{int_min, int_max}
-use Rattle.std.specs.List.{list_all}
-use Rattle.std.specs.Option.{is_none, is_some}
-use Rattle.std.specs.Ordering.{is_eq}
+use Rattle.std.specs.{Int.int_min, Int.int_max, List.list_all, Option.is_none, Option.is_some, Ordering.is_eq}
 use Rattle.std.specs.declared.cmp.Ordering.{Ordering}
-use Rattle.star_schema.specs.declared.group.Shape.{Shape}
-use Rattle.star_schema.specs.declared.group.Shape.TheVariants.{Plain, Cube, Rollup}
-use Rattle.star_schema.specs.declared.group.Aggregate.{Aggregate}
-use Rattle.star_schema.specs.declared.group.Aggregate.TheVariants.{Sum, Count, Min, Max}
+use Rattle.star_schema.specs.declared.group.{Shape.Shape, Shape.TheVariants.Plain, Shape.TheVariants.Cube, Shape.TheVariants.Rollup, Aggregate.Aggregate, Aggregate.TheVariants.Sum, Aggregate.TheVariants.Count, Aggregate.TheVariants.Min, Aggregate.TheVariants.Max}
 
 -- what a row adds to its groups: its keys, and a number for each aggregate, which for COUNT is 1
 pub record Entry (K : Type 0) : Type 0 where

@@ -1,4 +1,5 @@
 pub mod Schema
+pub mod Words
 pub mod Sizes
 pub mod Most
 pub mod Records

@@ -1,18 +1,11 @@
 -- The order of a group's rows (Gray et al. 1997, section 3.3, on the value ALL; that it comes last
 -- is this project's profile).
 use Rattle.std.specs.Prelude.{ℤ, List, [], ◌∷◌, slice_index_or, Option, Some, None}
-use Rattle.std.specs.Cmp.Lexicographic.{slice_cmp}
-use Rattle.std.specs.List.Sorted.{IsStrictlySortedBy}
-use Rattle.std.specs.Ordering.{int_cmp, nat_cmp, ordering_then}
-use Rattle.std.specs.declared.cmp.Ordering.{Ordering}
-use Rattle.std.specs.declared.cmp.Ordering.TheVariants.{Less, Equal, Greater}
-use Rattle.star_schema.specs.declared.group.GroupColumn.{GroupColumn}
+use Rattle.std.specs.{Cmp.Lexicographic.slice_cmp, List.Sorted.IsStrictlySortedBy, Ordering.int_cmp, Ordering.nat_cmp, Ordering.ordering_then}
+use Rattle.std.specs.declared.cmp.Ordering.{Ordering, TheVariants.Less, TheVariants.Equal, TheVariants.Greater}
+use Rattle.star_schema.specs.declared.group.{GroupColumn.GroupColumn, Direction.Direction, Direction.TheVariants.Ascending, Direction.TheVariants.Descending, SortKey.SortKey}
 use Rattle.star_schema.specs.declared.group.GroupColumn.TheVariants as column
-use Rattle.star_schema.specs.declared.group.Direction.{Direction}
-use Rattle.star_schema.specs.declared.group.Direction.TheVariants.{Ascending, Descending}
-use Rattle.star_schema.specs.declared.group.SortKey.{SortKey}
-use Rattle.star_schema.specs.Groups.{GroupRow}
-use Rattle.star_schema.specs.Tables.{Value, Number, Text}
+use Rattle.star_schema.specs.{Groups.GroupRow, Tables.Value, Tables.Number, Tables.Text}
 
 -- numbers compare by value, texts by their bytes
 abbrev pub value_cmp : Value → Value → Ordering

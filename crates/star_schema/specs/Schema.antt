@@ -2,15 +2,10 @@
 -- are this project's profile).
 use Rattle.std.specs.Prelude.{ℕ, List, Bool, true, false, Option, Some, None, codes, filter, length, map, take}
 use denote.Enum.Declared.{tag_of}
-use Rattle.star_schema.specs.declared.table.TableId.{TableId}
+use Rattle.star_schema.specs.declared.{table.TableId.TableId, table.Key.Key, table.Key.TheVariants.One, table.Key.TheVariants.Two, column.Kind.Kind, column.ColumnId.ColumnId, column.TheConstants.COLUMNS}
 use Rattle.star_schema.specs.declared.table.TableId.TheVariants as table
-use Rattle.star_schema.specs.declared.table.Key.{Key}
-use Rattle.star_schema.specs.declared.table.Key.TheVariants.{One, Two}
-use Rattle.star_schema.specs.declared.column.Kind.{Kind}
 use Rattle.star_schema.specs.declared.column.Kind.TheVariants as kind
-use Rattle.star_schema.specs.declared.column.ColumnId.{ColumnId}
 use Rattle.star_schema.specs.declared.column.ColumnId.TheVariants.{DDatekey, DDate, DDayofweek, DMonth, DYear, DYearmonthnum, DYearmonth, DDaynuminweek, DDaynuminmonth, DDaynuminyear, DMonthnuminyear, DWeeknuminyear, DSellingseason, DLastdayinweekfl, DLastdayinmonthfl, DHolidayfl, DWeekdayfl, CCustkey, CName, CAddress, CCity, CNation, CRegion, CPhone, CMktsegment, SSuppkey, SName, SAddress, SCity, SNation, SRegion, SPhone, PPartkey, PName, PMfgr, PCategory, PBrand1, PColor, PType, PSize, PContainer, LoOrderkey, LoLinenumber, LoCustkey, LoPartkey, LoSuppkey, LoOrderdate, LoOrderpriority, LoShippriority, LoQuantity, LoExtendedprice, LoOrdtotalprice, LoDiscount, LoRevenue, LoSupplycost, LoTax, LoCommitdate, LoShipmode}
-use Rattle.star_schema.specs.declared.column.TheConstants.{COLUMNS}
 use Rattle.star_schema.specs.contracts.column.ColumnId.{the_type}
 
 unfoldable pub table_name : TableId → List ℕ

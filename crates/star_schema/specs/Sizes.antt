@@ -1,8 +1,7 @@
 -- How many rows the tables have.
 use Rattle.std.specs.Prelude.{ℕ}
-use Rattle.star_schema.specs.declared.table.TableId.{TableId}
+use Rattle.star_schema.specs.declared.{table.TableId.TableId, sizes.Sizes.Sizes}
 use Rattle.star_schema.specs.declared.table.TableId.TheVariants.{Date, Customer, Supplier, Part, Lineorder}
-use Rattle.star_schema.specs.declared.sizes.Sizes.{Sizes}
 
 abbrev pub size_of : Sizes → TableId → ℕ
 size_of sizes Date = sizes.date

@@ -1,8 +1,7 @@
 -- The texts of a column of texts.
 use Rattle.std.specs.Prelude.{ℕ, List, [], Option, Some, map, slice_get}
 use Rattle.star_schema.specs.declared.column.ColumnId.{ColumnId}
-use Rattle.star_schema.specs.Schema.{place_of}
-use Rattle.star_schema.specs.Tables.{Value, Text}
+use Rattle.star_schema.specs.{Schema.place_of, Tables.Value, Tables.Text}
 
 abbrev pub text_in : Option Value → List ℕ
 text_in (Some (Text bytes)) = bytes

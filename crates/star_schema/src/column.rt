@@ -5,6 +5,8 @@
 ghost use Rattle.std.specs.Prelude.{◌≡◌, ◌↔◌, ◌-◌, ◌<◌, Some, IsTrue, slice_get};
 ghost use Rattle.star_schema.specs.declared.column.ColumnId.{ColumnId};
 ghost use Rattle.star_schema.specs.Schema as spec;
+ghost use Rattle.star_schema.specs.Words.{named};
+ghost use Rattle.star_schema.specs.declared.column.TheConstants.{COLUMNS};
 ghost use Rattle.star_schema.specs.Private.Describes.{Describes};
 
 use crate::name::{Named, first_named};
@@ -295,7 +297,8 @@ impl fmt::Display for ColumnId {
 
 /// The column with a name, if there is one. Names are lower case.
 pub fn column_named(name: &[u8]) -> Option<ColumnId>
-    ensures { (column : ColumnId) → (result ≡ Some column) ↔ (spec.column_name column ≡ name.now) }
+    ensures first { result ≡ named spec.column_name COLUMNS name.now }
+    ensures exactly { (column : ColumnId) → (result ≡ Some column) ↔ (spec.column_name column ≡ name.now) }
 {
     first_named(&COLUMNS, name)
 }

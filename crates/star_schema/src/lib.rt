@@ -15,9 +15,11 @@ mod table;
 pub use column::{
     COLUMNS, ColumnId, Kind, column_named, is_text, kind_of, place_of, references, table_of,
 };
-pub use group::{Aggregate, Direction, GroupColumn, Shape, SortKey};
+pub use group::{
+    AGGREGATES, Aggregate, DIRECTIONS, Direction, GroupColumn, SHAPES, Shape, SortKey,
+};
 pub use limits::{Limits, MOST_ROWS, MOST_VISITS};
-pub use name::{Named, name_of};
+pub use name::{Named, first_named, name_of};
 pub use sizes::Sizes;
 pub use star_common::{Out, Sink, SinkFault};
 pub use table::{Key, TABLES, TableId, column_at, columns, is_table, key_of, table_named, width};

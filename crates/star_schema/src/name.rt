@@ -1,9 +1,9 @@
-// The names of tables and columns.
+// The names of tables and columns, and the fixed words of programs and queries.
 
-ghost use Rattle.std.specs.Prelude.{◌≡◌, ℕ, List, find, nat_eq};
-ghost use Rattle.std.specs.Cmp.Lexicographic.{pointwise};
+ghost use Rattle.std.specs.Prelude.{◌≡◌, ℕ, List};
+ghost use Rattle.star_schema.specs.Words.{named as named_in};
 
-/// What the schema gives a name: a table or a column.
+/// What has a name of its own: a table, a column or a fixed word.
 pub trait Named: Copy {
     ghost name: { Self → List ℕ };
 
@@ -12,7 +12,7 @@ pub trait Named: Copy {
         ensures { result.now ≡ name self };
 }
 
-/// The name of a table or a column, in lower case, as queries and programs write it.
+/// The name of a table, a column or a fixed word, in lower case, as queries and programs write it.
 pub fn name_of<N: Named>(named: N) -> &'static str
     ensures { result.now ≡ N.name named }
 {
@@ -20,8 +20,8 @@ pub fn name_of<N: Named>(named: N) -> &'static str
 }
 
 /// The first of these with a name.
-pub(crate) fn first_named<N: Named + Drop>(all: &[N], name: &[u8]) -> Option<N>
-    ensures { result ≡ find (λ named. pointwise nat_eq (N.name named) name.now) all.now }
+pub fn first_named<N: Named + Drop>(all: &[N], name: &[u8]) -> Option<N>
+    ensures { result ≡ named_in N.name all.now name.now }
 {
     all.iter()
         .copied()

@@ -3,6 +3,8 @@
 ghost use Rattle.std.specs.Prelude.{◌≡◌, ◌≤◌, ◌<◌, ◌↔◌, Some, length, slice_get};
 ghost use Rattle.star_schema.specs.declared.table.TableId.{TableId};
 ghost use Rattle.star_schema.specs.Schema as spec;
+ghost use Rattle.star_schema.specs.Words.{named};
+ghost use Rattle.star_schema.specs.declared.table.TheConstants.{TABLES};
 
 use crate::column::{COLUMNS, ColumnId};
 use crate::name::{Named, first_named};
@@ -60,7 +62,8 @@ impl fmt::Display for TableId {
 
 /// The table with a name, if there is one. Names are lower case.
 pub fn table_named(name: &[u8]) -> Option<TableId>
-    ensures { (table : TableId) → (result ≡ Some table) ↔ (spec.table_name table ≡ name.now) }
+    ensures first { result ≡ named spec.table_name TABLES name.now }
+    ensures exactly { (table : TableId) → (result ≡ Some table) ↔ (spec.table_name table ≡ name.now) }
 {
     first_named(&TABLES, name)
 }

@@ -1,12 +1,8 @@
 -- The first place of a key is each place that it has, where no two are one.
 use Rattle.std.proofs.Common.{◌≡◌, ◌≢◌, ◌<◌, ◌+◌, ◌↔◌, ℕ, zero, suc, ℤ, Bool, true, false, true≢false, cond, List, [], ◌∷◌, Some, None, Option, length, arith, ap, sym, subst, ◌∙◌, refl, slice_get, ⊎_elim}
 use Rattle.std.specs.Prelude.{◌&&◌, AllPairs, IfSome}
-use Rattle.std.specs.List.{position_from}
-use Rattle.std.specs.Ordering.{int_eq}
-use Rattle.std.proofs.lemmas.Bool.{cases_lt}
-use Rattle.std.proofs.lemmas.Bool.Decides.{Decides-int_eq}
-use Rattle.std.proofs.lemmas.Cmp.{int_eq_equiv}
-use Rattle.std.proofs.lemmas.Option.{get_or_from_slice_get, same_Some, slice_get_within}
+use Rattle.std.specs.{List.position_from, Ordering.int_eq}
+use Rattle.std.proofs.lemmas.{Bool.cases_lt, Bool.Decides.Decides-int_eq, Cmp.int_eq_equiv, Option.get_or_from_slice_get, Option.same_Some, Option.slice_get_within}
 use Rattle.star_world.specs.WorldOf.{is_key}
 
 itself : (n : ℤ) → is_key n (n ∷ []) ≡ true

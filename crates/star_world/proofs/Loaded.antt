@@ -1,26 +1,12 @@
 -- The world of sound rows is loaded.
 use Rattle.std.proofs.Common.{◌≡◌, ◌<◌, ◌≤◌, ℕ, ℤ, List, [], ◌∷◌, Some, None, Option, length, arith, ap, ◌∙◌, get_or}
-use Rattle.std.specs.Prelude.{Contains, pos}
-use Rattle.std.specs.Ordering.{is_lt, is_le}
-use Rattle.std.proofs.lemmas.List.{length-map}
-use Rattle.std.proofs.lemmas.List.Elements.{Contains-get_or}
-use Rattle.std.proofs.lemmas.List.Sums.{count_by-le-length}
-use Rattle.std.proofs.lemmas.Option.{slice_get-get_or, slice_get_within}
-use Rattle.star_schema.specs.Bounds.{numbers_of, numbers_at}
-use Rattle.star_schema.specs.Database.{Database, rows_in}
-use Rattle.star_schema.specs.Dictionary.{text_cmp}
-use Rattle.star_schema.specs.Loadable.{IsSound, keys_of}
-use Rattle.star_schema.specs.Schema.{table_of}
-use Rattle.star_schema.specs.Tables.{Value}
-use Rattle.star_schema.specs.Texts.{texts_of, texts_at}
-use Rattle.star_schema.specs.declared.column.ColumnId.{ColumnId}
-use Rattle.star_schema.specs.declared.table.TableId.{TableId}
-use Rattle.star_schema.proofs.Extremes.{least_below, greatest_above}
-use Rattle.star_schema.proofs.TextPlaces.{code_within}
-use Rattle.star_program.specs.declared.op.Edge.{Edge}
-use Rattle.star_program.specs.declared.op.Edge.TheVariants.{Low, High}
+use Rattle.std.specs.{Prelude.Contains, Prelude.pos, Ordering.is_lt, Ordering.is_le}
+use Rattle.std.proofs.lemmas.{List.length-map, List.Elements.Contains-get_or, List.Sums.count_by-le-length, Option.slice_get-get_or, Option.slice_get_within}
+use Rattle.star_schema.specs.{Bounds.numbers_of, Bounds.numbers_at, Database.Database, Database.rows_in, Dictionary.text_cmp, Loadable.IsSound, Loadable.keys_of, Schema.table_of, Tables.Value, Texts.texts_of, Texts.texts_at, Columns.column_dictionary, Columns.column_numbers, Columns.column_texts}
+use Rattle.star_schema.specs.declared.{column.ColumnId.ColumnId, table.TableId.TableId}
+use Rattle.star_schema.proofs.{Extremes.least_below, Extremes.greatest_above, TextPlaces.code_within}
+use Rattle.star_program.specs.declared.op.Edge.{Edge, TheVariants.Low, TheVariants.High}
 use Rattle.star_program.specs.World.{World, IsLoaded, IsRowNumberOf, edge_of}
-use Rattle.star_schema.specs.Columns.{column_dictionary, column_numbers, column_texts}
 use Rattle.star_world.specs.WorldOf.{world_of}
 use Rattle.star_world.proofs.Found.{IsFound, found_from}
 

@@ -3,21 +3,11 @@ use Rattle.std.proofs.Common.{◌≡◌, ◌≢◌, ◌↔◌, ℕ, ℤ, pos, Li
 use Rattle.std.specs.Prelude.{AllPairs, Contains, nat_lt, slice_get, slice_index_or}
 use Rattle.std.specs.Option.{option_map}
 use Rattle.std.proofs.lemmas.Option.{get_or_from_slice_get, slice_get-map, slice_get_within}
-use Rattle.star_schema.specs.Bounds.{numbers_at, numbers_of}
-use Rattle.star_schema.specs.Database.{Database, rows_in}
-use Rattle.star_schema.specs.Dictionary.{low_in, high_in}
-use Rattle.star_schema.specs.Loadable.{IsSound, key_numbers, keys_of, number_at}
-use Rattle.star_schema.specs.Schema.{key_of, table_of}
-use Rattle.star_schema.specs.Tables.{Value}
-use Rattle.star_schema.specs.declared.column.ColumnId.{ColumnId}
-use Rattle.star_schema.specs.declared.table.Key.TheVariants.{One}
-use Rattle.star_schema.proofs.Dictionaries.{IsDictionary-dictionary_of}
-use Rattle.star_schema.proofs.TextPlaces.{has_code, nat_lt-low_in, nat_lt-high_in}
-use Rattle.star_world.specs.RowsSeen.{HasNumber, HasText, IsCodeOf, IsWorldOf}
-use Rattle.star_schema.specs.Columns.{column_dictionary, column_numbers, column_texts}
-use Rattle.star_world.specs.WorldOf.{world_of}
-use Rattle.star_world.proofs.Found.{IsFound, found_from, one_place}
-use Rattle.star_world.proofs.Loaded.{loaded}
+use Rattle.star_schema.specs.{Bounds.numbers_at, Bounds.numbers_of, Database.Database, Database.rows_in, Dictionary.low_in, Dictionary.high_in, Loadable.IsSound, Loadable.key_numbers, Loadable.keys_of, Loadable.number_at, Schema.key_of, Schema.table_of, Tables.Value, Columns.column_dictionary, Columns.column_numbers, Columns.column_texts}
+use Rattle.star_schema.specs.declared.{column.ColumnId.ColumnId, table.Key.TheVariants.One}
+use Rattle.star_schema.proofs.{Dictionaries.IsDictionary-dictionary_of, TextPlaces.has_code, TextPlaces.nat_lt-low_in, TextPlaces.nat_lt-high_in}
+use Rattle.star_world.specs.{RowsSeen.HasNumber, RowsSeen.HasText, RowsSeen.IsCodeOf, RowsSeen.IsWorldOf, WorldOf.world_of}
+use Rattle.star_world.proofs.{Found.IsFound, Found.found_from, Found.one_place, Loaded.loaded}
 
 -- ---- codes
 

@@ -1,23 +1,12 @@
 -- The world of a few rows, and what shows rows.
 use Rattle.std.proofs.Common.{◌≡◌, ◌↔◌, ◌<◌, ℕ, ℤ, List, [], ◌∷◌, Some, None, true, false, length, map, pos, refl}
-use Rattle.std.specs.Prelude.{codes, nat_lt}
-use Rattle.std.specs.Ordering.{is_le, is_lt}
-use Rattle.star_schema.specs.declared.column.ColumnId.{ColumnId}
-use Rattle.star_schema.specs.declared.column.ColumnId.TheVariants.{CCustkey, CName, PSize}
-use Rattle.star_schema.specs.declared.table.Key.TheVariants.{One}
-use Rattle.star_schema.specs.declared.table.TableId.{TableId}
-use Rattle.star_schema.specs.declared.table.TableId.TheVariants.{Customer}
-use Rattle.star_schema.specs.Bounds.{greatest, least, numbers_at}
-use Rattle.star_schema.specs.Database.{Database, rows_in}
-use Rattle.star_schema.specs.Dictionary.{dictionary_of, text_cmp}
-use Rattle.star_schema.specs.Loadable.{keys_of}
+use Rattle.std.specs.{Prelude.codes, Prelude.nat_lt, Ordering.is_le, Ordering.is_lt}
+use Rattle.star_schema.specs.declared.{column.ColumnId.ColumnId, column.ColumnId.TheVariants.CCustkey, column.ColumnId.TheVariants.CName, column.ColumnId.TheVariants.PSize, table.Key.TheVariants.One, table.TableId.TableId, table.TableId.TheVariants.Customer}
+use Rattle.star_schema.specs.{Bounds.greatest, Bounds.least, Bounds.numbers_at, Database.Database, Database.rows_in, Dictionary.dictionary_of, Dictionary.text_cmp, Loadable.keys_of, Tables.Number, Tables.Text, Texts.texts_at}
 use Rattle.star_schema.specs.Schema.{column_of, key_of, place_of, references, table_of}
-use Rattle.star_schema.specs.Tables.{Number, Text}
-use Rattle.star_schema.specs.Texts.{texts_at}
 use Rattle.star_interval.specs.Range.{only}
 use Rattle.star_program.specs.World.{IsRowNumberOf, World, is_text}
-use Rattle.star_world.specs.RowsSeen.{HasNumber, HasText, IsCodeOf, IsWorldOf}
-use Rattle.star_world.specs.WorldOf.{world_of}
+use Rattle.star_world.specs.{RowsSeen.HasNumber, RowsSeen.HasText, RowsSeen.IsCodeOf, RowsSeen.IsWorldOf, WorldOf.world_of}
 
 -- customers, as far as their names
 abbrev few : Database

@@ -1,14 +1,9 @@
 -- What a program sees of some rows, column by column.
 use Rattle.std.specs.Prelude.{◌≡◌, ◌↔◌, ◌<◌, ℕ, ℤ, List, true, false, Some, length, nat_lt, slice_get}
 use Rattle.std.specs.Ordering.{is_le, is_lt}
-use Rattle.star_schema.specs.declared.column.ColumnId.{ColumnId}
-use Rattle.star_schema.specs.declared.table.Key.TheVariants.{One}
-use Rattle.star_schema.specs.declared.table.TableId.{TableId}
-use Rattle.star_schema.specs.Database.{Database, rows_in}
-use Rattle.star_schema.specs.Dictionary.{text_cmp}
-use Rattle.star_schema.specs.Schema.{key_of, references, table_of}
+use Rattle.star_schema.specs.declared.{column.ColumnId.ColumnId, table.Key.TheVariants.One, table.TableId.TableId}
+use Rattle.star_schema.specs.{Database.Database, Database.rows_in, Dictionary.text_cmp, Schema.key_of, Schema.references, Schema.table_of, Columns.column_numbers, Columns.column_texts}
 use Rattle.star_program.specs.World.{World, IsRowNumberOf, is_text}
-use Rattle.star_schema.specs.Columns.{column_numbers, column_texts}
 
 -- a row has this number, or this text, in a column
 abbrev pub HasNumber : Database → ColumnId → ℕ → ℤ → Type 0

@@ -1,12 +1,7 @@
 -- The world that programs see of the rows of five tables.
 use Rattle.std.specs.Prelude.{ℤ, pos, List, [], ◌∷◌, Bool, length, slice_index_or}
-use Rattle.std.specs.Cmp.Lexicographic.{pointwise}
-use Rattle.std.specs.List.{position_from}
-use Rattle.std.specs.Ordering.{int_eq}
-use Rattle.star_schema.specs.Columns.{bounds_in, column_dictionary, column_numbers, column_texts}
-use Rattle.star_schema.specs.Database.{Database, rows_in}
-use Rattle.star_schema.specs.Dictionary.{low_in, high_in}
-use Rattle.star_schema.specs.Loadable.{keys_of}
+use Rattle.std.specs.{Cmp.Lexicographic.pointwise, List.position_from, Ordering.int_eq}
+use Rattle.star_schema.specs.{Columns.bounds_in, Columns.column_dictionary, Columns.column_numbers, Columns.column_texts, Database.Database, Database.rows_in, Dictionary.low_in, Dictionary.high_in, Loadable.keys_of}
 use Rattle.star_program.specs.World.{World}
 
 -- whether a key is this one number

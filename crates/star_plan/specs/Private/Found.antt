@@ -2,8 +2,7 @@
 use Rattle.std.specs.Prelude.{List, map}
 use Rattle.star_plan.specs.declared.joins.Pair as of_joins
 use Rattle.star_plan.specs.declared.uses.Use as of_uses
-use Rattle.star_plan.specs.Joins.{Pair}
-use Rattle.star_plan.specs.Uses.{Use}
+use Rattle.star_plan.specs.{Joins.Pair, Uses.Use}
 
 abbrev pub pair_view : of_joins.Pair → Pair
 pair_view p = record { join = p.join; at = p.at }

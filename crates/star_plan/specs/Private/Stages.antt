@@ -1,19 +1,14 @@
 -- The parts of a query's uses and of its first fault, as the planner goes through them.
 use Rattle.std.specs.Prelude.{ℕ, ◌+◌, ◌||◌, ◌&&◌, ◌++◌, true, List, length, map, Option, Some, None, if◌then◌else◌}
-use Rattle.std.specs.List.{flat_map}
-use Rattle.std.specs.Option.{option_or}
+use Rattle.std.specs.{List.flat_map, Option.option_or}
 use Rattle.star_common.specs.First.{first_answer}
 use Rattle.star_schema.specs.declared.column.Kind.{Kind}
 use Rattle.star_query.specs.Leaves.{of_tests}
-use Rattle.star_query.specs.Tree.{Aggregate, Condition, Item, Literal, Name, SortKey, Test}
-use Rattle.star_plan.specs.declared.fault.PlanFault.{PlanFault}
-use Rattle.star_plan.specs.declared.fault.PlanFault.TheVariants.{DuplicateAlias}
-use Rattle.star_plan.specs.First.{first_beside}
+use Rattle.star_schema.specs.Tables.{Value, kind_of_value}
+use Rattle.star_query.specs.Tree.{Aggregate, Condition, Item, Name, SortKey, Test}
+use Rattle.star_plan.specs.declared.fault.PlanFault.{PlanFault, TheVariants.DuplicateAlias}
+use Rattle.star_plan.specs.{First.first_beside, Joins.Pair, Names.has_name, Names.is_of, Naming.aggregate_names, Naming.has_text, Naming.name_of_aggregate, Naming.name_place, Uses.Use, Uses.item_uses, Uses.test_uses, Uses.use_when}
 use Rattle.star_plan.specs.Faults.{aggregates_fault, fact_fault, from_table_fault, group_fault, item_fault, key_fault, missing_fault, pair_fault, scope_fault, use_kind_fault}
-use Rattle.star_plan.specs.Joins.{Pair}
-use Rattle.star_plan.specs.Names.{has_name, is_of}
-use Rattle.star_plan.specs.Naming.{aggregate_names, has_text, name_of_aggregate, name_place}
-use Rattle.star_plan.specs.Uses.{Use, item_uses, kind_of_literal, test_uses, use_when}
 
 -- ---- the columns that a query names
 
@@ -24,8 +19,8 @@ any_use n = use_when (λ c. true) n
 abbrev pub use_as : Kind → Name → Use
 use_as k n = use_when (is_of k) n
 
-abbrev pub use_between : Literal → Literal → Name → Use
-use_between a b n = use_when (λ c. is_of (kind_of_literal a) c && is_of (kind_of_literal b) c) n
+abbrev pub use_between : Value → Value → Name → Use
+use_between a b n = use_when (λ c. is_of (kind_of_value a) c && is_of (kind_of_value b) c) n
 
 abbrev pub condition_uses : Condition Test → List Use
 condition_uses c = of_tests test_uses (λ us. us) ◌++◌ c

@@ -3,11 +3,8 @@ use Rattle.std.proofs.Common.{◌≡◌, ◌≤◌, ◌+◌, ℕ, List, Some, dr
 use Rattle.std.specs.Prelude.{nat_lt, if◌then◌else◌}
 use Rattle.std.specs.List.{slice_get}
 use Rattle.star_common.proofs.Lists.{drop_at_place}
-use Rattle.star_program.specs.Code.{Code, code_size, scan_depth}
-use Rattle.star_program.specs.CodeOfSteps.{before, code_of_steps}
-use Rattle.star_program.specs.Private.Followed.{code_of_step}
-use Rattle.star_program.specs.declared.body.Step.{Step}
-use Rattle.star_program.specs.declared.body.Step.TheVariants.{Act, Scan}
+use Rattle.star_program.specs.{Code.Code, Code.code_size, Code.scan_depth, CodeOfSteps.before, CodeOfSteps.code_of_steps, Private.Followed.code_of_step}
+use Rattle.star_program.specs.declared.body.Step.{Step, TheVariants.Act, TheVariants.Scan}
 
 at_least : (a b : ℕ) → b ≤ (if nat_lt a b then b else a)
 at_least a b = grind arith

@@ -2,12 +2,9 @@
 use Rattle.std.specs.Prelude.{nat_le}
 use Rattle.std.proofs.Common.{◌≡◌, ◌+◌, ◌&&◌, ◌∷◌, [], ℕ, true, false, List, Some, Ok, Err, refl, lit≤}
 use Rattle.std.proofs.lemmas.Bool.{and_parts, leb-true}
-use Rattle.star_program.specs.Text.Lines.{is_blank_line, lines_of}
-use Rattle.star_program.specs.Private.Within.{IsWithinLargest}
+use Rattle.star_program.specs.{Text.Lines.is_blank_line, Text.Lines.lines_of, Private.Within.IsWithinLargest}
 use Rattle.star_program.specs.Text.FirstFaults.{advance, end_in, is_within, lines_fault, program_text_fault, start}
-use Rattle.star_program.specs.declared.spelling.fault.TextFault.{TextFault}
-use Rattle.star_program.specs.declared.spelling.place.Place.{Place}
-use Rattle.star_program.specs.declared.spelling.place.Stage.{Stage}
+use Rattle.star_program.specs.declared.spelling.{fault.TextFault.TextFault, place.Place.Place, place.Stage.Stage}
 
 -- a place by its parts
 abbrev pub place : Stage → ℕ → ℕ → ℕ → ℕ → ℕ → Place

@@ -1,21 +1,11 @@
 -- The parser refuses no line of a text exactly where it spells a program within the limits.
 use Rattle.std.proofs.Common.{◌≡◌, ◌↔◌, ◌+◌, ◌∙◌, ◌∷◌, ◌++◌, [], ℕ, false, List, Option, Some, None, Result, Ok, Err, append-nil, map, refl, sym, inl, inr}
 use Rattle.std.proofs.lemmas.Bool.{cases_Bool}
-use Rattle.star_program.specs.Private.Drafts.{IsAt, finished, nothing_read, told}
-use Rattle.star_program.specs.Limits.{IsWithinLimits}
-use Rattle.star_program.specs.Text.Lines.{is_blank_line, lines_of}
+use Rattle.star_program.specs.{Private.Drafts.IsAt, Private.Drafts.finished, Private.Drafts.nothing_read, Private.Drafts.told, Limits.IsWithinLimits, Text.Lines.is_blank_line, Text.Lines.lines_of, Text.Said.said, Text.Said.said_in, Text.Spelling.Spells}
 use Rattle.star_program.specs.Text.FirstFaults.{FirstTextFault, advance, end_in, lines_fault, program_text_fault, reached_by, start}
-use Rattle.star_program.specs.Text.Said.{said, said_in}
-use Rattle.star_program.specs.Text.Spelling.{Spells}
-use Rattle.star_program.specs.declared.program.Parts.{Parts}
-use Rattle.star_program.specs.declared.spelling.draft.Draft.{Draft}
-use Rattle.star_program.specs.declared.spelling.fault.TextFault.{TextFault}
-use Rattle.star_program.specs.declared.spelling.place.Place.{Place}
-use Rattle.star_program.specs.declared.spelling.statement.Statement.{Statement}
-use Rattle.star_program.proofs.Text.Takes.{takes}
+use Rattle.star_program.specs.declared.{program.Parts.Parts, spelling.draft.Draft.Draft, spelling.fault.TextFault.TextFault, spelling.place.Place.Place, spelling.statement.Statement.Statement}
+use Rattle.star_program.proofs.Text.{Takes.takes, FaultLemmas.ended, FaultLemmas.refused, FaultLemmas.text_fault_is, NoFault.no_fault}
 use Rattle.star_program.proofs.Text.PassedLines.{blank_passed, end_opened, end_spelled, end_within, line_passed, nothing_at_start, nothing_told, opens_report}
-use Rattle.star_program.proofs.Text.FaultLemmas.{ended, refused, text_fault_is}
-use Rattle.star_program.proofs.Text.NoFault.{no_fault}
 
 reached_says : (p : Place) (line : ℕ) (o : Option Statement) (q : Place)
     → reached_by p line o ≡ Ok q → (s : Statement) × (o ≡ Some s)

@@ -3,8 +3,7 @@ use Rattle.std.proofs.Common.{◌≡◌, ◌==◌, ◌<◌, ◌&&◌, ◌∙◌,
 use Rattle.std.proofs.lemmas.Bool.{cases_Bool, and_parts, and_right, both_ways, eqb-true}
 use Rattle.std.specs.Prelude.{if◌then◌else◌}
 use Rattle.star_schema.specs.Records.{with_first}
-use Rattle.star_program.specs.Text.Lines.{begins_with, lines_of}
-use Rattle.star_program.specs.Private.Returns.{without_return}
+use Rattle.star_program.specs.{Text.Lines.begins_with, Text.Lines.lines_of, Private.Returns.without_return}
 
 -- a last byte that isn't a carriage return stays
 pub without_return-push : (front : List ℕ) (b : ℕ)

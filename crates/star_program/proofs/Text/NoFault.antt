@@ -1,36 +1,19 @@
 -- A text that spells a program within the limits has no fault.
-use Rattle.std.specs.Prelude.{codes, filter, nat_lt, not}
-use Rattle.std.proofs.Common.{◌≡◌, ◌==◌, ◌&&◌, ◌≤◌, ◌+◌, ◌-◌, ◌⊎◌, ◌∙◌, ◌∷◌, ◌++◌, [], ℕ, Bool, true, false, List, Option, Some, None, Ok, All, append_assoc, length, map, arith, ap, refl, sym, subst, inl, inr, lit≤}
-use Rattle.std.specs.Cmp.Lexicographic.{bytes_decides}
-use Rattle.std.specs.List.{list_all}
-use Rattle.std.specs.Option.{option_map}
+use Rattle.std.specs.{Prelude.codes, Prelude.filter, Prelude.nat_lt, Prelude.not, Cmp.Lexicographic.bytes_decides, List.list_all, Option.option_map}
+use Rattle.std.proofs.Common.{◌≡◌, ◌==◌, ◌&&◌, ◌≤◌, ◌+◌, ◌-◌, ◌∙◌, ◌∷◌, ◌++◌, [], ℕ, Bool, true, false, List, Option, Some, None, Ok, All, append_assoc, length, map, arith, ap, refl, sym, subst, inl, inr, lit≤}
 use Rattle.std.proofs.lemmas.Bool.{cases_Bool, eqb-true, eq-eqb, le-leb, ne_eqb}
 use Rattle.std.proofs.lemmas.List.Elements.{All-head, All-tail}
 use Rattle.star_common.specs.Printable.{is_printable}
 use Rattle.star_program.specs.Code.{Code, Stop, Then, Each, code_size, scan_depth}
-use Rattle.star_program.specs.Private.Drafts.{code_says, groups_say}
-use Rattle.star_program.specs.Text.Keywords.{keyword_name, keyword_of, same}
-use Rattle.star_program.specs.Limits.{IsSmall, IsWithinLimits}
-use Rattle.star_program.specs.Text.Lines.{is_blank_line, lines_of, words_of}
-use Rattle.star_program.specs.Text.Numerals.{count_of}
+use Rattle.star_program.specs.{Private.Drafts.code_says, Private.Drafts.groups_say, Text.Keywords.keyword_name, Text.Keywords.keyword_of, Text.Keywords.same, Limits.IsSmall, Limits.IsWithinLimits, Text.Lines.is_blank_line, Text.Lines.lines_of, Text.Lines.words_of, Text.Numerals.count_of, Text.Said.by_keyword, Text.Said.by_words, Text.Said.from_one_word, Text.Said.said, Text.Spelling.Spells, Text.Spelling.program_statements}
 use Rattle.star_program.specs.Text.FirstFaults.{advance, after_in, begins_report, end_in, is_small, is_within, lines_fault, place_after, place_after_step, program_text_fault, start}
-use Rattle.star_program.specs.Text.Said.{by_keyword, by_words, from_one_word, said}
-use Rattle.star_program.specs.Text.Spelling.{Spells, program_statements}
-use Rattle.star_program.specs.declared.group.GroupDecl.{GroupDecl}
-use Rattle.star_program.specs.declared.op.Op.{Op}
-use Rattle.star_program.specs.declared.program.Parts.{Parts}
-use Rattle.star_program.specs.declared.program.Show.{Show}
+use Rattle.star_program.specs.declared.{group.GroupDecl.GroupDecl, op.Op.Op, program.Parts.Parts, program.Show.Show, spelling.place.Place.Place, spelling.place.Stage.Stage, spelling.statement.Statement.Statement}
 use Rattle.star_program.specs.declared.spelling.keyword.Keyword.TheVariants as keyword
-use Rattle.star_program.specs.declared.spelling.place.Place.{Place}
-use Rattle.star_program.specs.declared.spelling.place.Stage.{Stage}
 use Rattle.star_program.specs.declared.spelling.place.Stage.TheVariants as stage
-use Rattle.star_program.specs.declared.spelling.statement.Statement.{Statement}
 use Rattle.star_program.specs.declared.spelling.statement.Statement.TheVariants as says
-use Rattle.star_schema.specs.declared.group.SortKey.{SortKey}
-use Rattle.star_schema.specs.declared.table.TableId.{TableId}
-use Rattle.star_program.proofs.Text.Depths.{larger, left_within, right_within}
+use Rattle.star_schema.specs.declared.{group.SortKey.SortKey, table.TableId.TableId}
+use Rattle.star_program.proofs.Text.{Depths.larger, Depths.left_within, Depths.right_within, OneProgram.program_said, OneProgram.tail_of}
 use Rattle.star_program.proofs.Text.FaultLemmas.{advanced, blank_line, ended, place, text_fault_is}
-use Rattle.star_program.proofs.Text.OneProgram.{program_said, tail_of}
 
 -- ---- a report stands in no scan
 
@@ -77,10 +60,8 @@ report_outside st p q g h = let bad : ⊥ = cc in absurd bad
 
 -- ---- statements that may follow one another
 
-pub record Follows (p : Place) (s : Statement) (q : Place) : Type 0 where
-  pub after : place_after p s ≡ Some q
-  pub within : is_within q ≡ true
-  pub small : is_small s ≡ true
+abbrev pub Follows : Place → Statement → Place → Type 0
+Follows p s q = (place_after p s ≡ Some q) × (is_within q ≡ true) × (is_small s ≡ true)
 
 abbrev pub Walks : Place → List Statement → Place → Type 0
 Walks p [] q = p ≡ q
@@ -111,10 +92,7 @@ pub advances : (p q : Place) (line : ℕ) (text : List ℕ) (s : Statement) → 
     → Follows p s q → advance p line text ≡ Ok q
 unfolding advance
 advances p q line text s is goes =
-    let may = goes.after in
-    let inside = goes.within in
-    let small = goes.small in
-    rw (no_report p q text s is may, is, may, inside, small) refl
+    rw (no_report p q text s is goes.0, is, goes.0, goes.1, goes.2) refl
 
 walk_faults : (texts : List (List ℕ)) (ss : List Statement) (p q : Place) (line : ℕ)
     → map said (filter (λ text. not (is_blank_line text)) texts) ≡ map Some ss → Walks p ss q
@@ -146,19 +124,16 @@ unfolding is_within
 within_is st g i dp sh so a b c d e =
     rw (le-leb g 8 a, le-leb i 4096 b, le-leb dp 3 c, le-leb sh 16 d, le-leb so 16 e) refl
 
--- a group
 group_follows : (g : ℕ) (group : GroupDecl) → g + 1 ≤ 8 → IsSmall group
     → Follows (place stage.Groups g 0 0 0 0) (says.Group g group)
     (place stage.Groups (g + 1) 0 0 0 0)
 unfolding place_after is_small
-group_follows g group room small = record {
-  after = rw (eq-eqb g g refl) refl;
-  within = within_is stage.Groups (g + 1) 0 0 0 0 room (lit≤ tt) (lit≤ tt) (lit≤ tt) (lit≤ tt);
-  small = rw (
-    le-leb (length group.keys) 6 small.keys,
-    le-leb (length group.aggregates) 8 small.aggregates,
-  ) refl;
-}
+group_follows g group room small = (
+  rw (eq-eqb g g refl) refl,
+  within_is stage.Groups (g + 1) 0 0 0 0 room (lit≤ tt) (lit≤ tt) (lit≤ tt) (lit≤ tt),
+  rw (le-leb (length group.keys) 6 small.keys, le-leb (length group.aggregates) 8 small.aggregates)
+      refl,
+)
 
 walk_groups : (gs : List GroupDecl) (g m : ℕ) → g + length gs ≡ m → m ≤ 8 → All IsSmall gs
     → Walks (place stage.Groups g 0 0 0 0) (groups_say g gs) (place stage.Groups m 0 0 0 0)
@@ -169,67 +144,38 @@ walk_groups (group ∷ gs) g m is room small = (
   walk_groups gs (g + 1) m (omega arith) room (All-tail IsSmall group gs small),
 )
 
--- a step of the body, from the groups on
-abbrev Opens : Stage → Type 0
-Opens st = (st ≡ stage.Groups) ⊎ (st ≡ stage.Body)
+-- a step of the body, where steps may stand
+abbrev Steps : Place → Statement → Place → Type 0
+Steps p s q = (place_after_step p s ≡ Some q) × (is_within q ≡ true) × (is_small s ≡ true)
 
-act_follows : (st : Stage) (g i dp : ℕ) (op : Op) → Opens st → g ≤ 8 → i + 1 ≤ 4096 → dp ≤ 3
-    → Follows (place st g i dp 0 0) (says.Act op) (place stage.Body g (i + 1) dp 0 0)
-unfolding place_after is_small
-act_follows st g i dp op (inl groups) a b c =
-    record {
-      after = rw groups refl;
-      within =
-          within_is stage.Body g (i + 1) dp 0 0 a b c (lit≤ tt) (lit≤ tt);
-      small = refl;
-    }
-act_follows st g i dp op (inr body) a b c =
-    record {
-      after = rw body refl;
-      within =
-          within_is stage.Body g (i + 1) dp 0 0 a b c (lit≤ tt) (lit≤ tt);
-      small = refl;
-    }
+act_follows : (st : Stage) (g i dp : ℕ) (op : Op) → g ≤ 8 → i + 1 ≤ 4096 → dp ≤ 3
+    → Steps (place st g i dp 0 0) (says.Act op) (place stage.Body g (i + 1) dp 0 0)
+unfolding is_small
+act_follows st g i dp op a b c =
+    (refl, within_is stage.Body g (i + 1) dp 0 0 a b c (lit≤ tt) (lit≤ tt), refl)
 
-scan_follows : (st : Stage) (g i dp : ℕ) (t : TableId) (r : ℕ) → Opens st → g ≤ 8 → i + 1 ≤ 4096
-    → dp + 1 ≤ 3 → Follows (place st g i dp 0 0) (says.Scan t r)
-    (place stage.Body g (i + 1) (dp + 1) 0 0)
-unfolding place_after is_small
-scan_follows st g i dp t r (inl groups) a b c =
-    record {
-      after = rw groups refl;
-      within =
-          within_is stage.Body g (i + 1) (dp + 1) 0 0 a b c (lit≤ tt) (lit≤ tt);
-      small = refl;
-    }
-scan_follows st g i dp t r (inr body) a b c =
-    record {
-      after = rw body refl;
-      within =
-          within_is stage.Body g (i + 1) (dp + 1) 0 0 a b c (lit≤ tt) (lit≤ tt);
-      small = refl;
-    }
+scan_follows : (st : Stage) (g i dp : ℕ) (t : TableId) (r : ℕ) → g ≤ 8 → i + 1 ≤ 4096 → dp + 1 ≤ 3
+    → Steps (place st g i dp 0 0) (says.Scan t r) (place stage.Body g (i + 1) (dp + 1) 0 0)
+unfolding is_small
+scan_follows st g i dp t r a b c =
+    (refl, within_is stage.Body g (i + 1) (dp + 1) 0 0 a b c (lit≤ tt) (lit≤ tt), refl)
 
 end_follows : (g i dp : ℕ) → g ≤ 8 → i ≤ 4096 → dp + 1 ≤ 3
-    → Follows (place stage.Body g i (dp + 1) 0 0) says.End (place stage.Body g i dp 0 0)
-unfolding place_after is_small
+    → Steps (place stage.Body g i (dp + 1) 0 0) says.End (place stage.Body g i dp 0 0)
+unfolding is_small
 end_follows g i dp a b c =
     let some : (dp + 1 == 0) ≡ false = ne_eqb (dp + 1) 0 (λ h. absurd (omega arith)) in
     let less : dp + 1 - 1 ≡ dp = omega arith in
-    record {
-      after = rw (some, less) refl;
-      within =
-          within_is stage.Body g i dp 0 0 a b (omega arith) (lit≤ tt) (lit≤ tt);
-      small = refl;
-    }
+    (rw (some, less) refl, within_is stage.Body g i dp 0 0 a b (omega arith) (lit≤ tt) (lit≤ tt), refl)
 
 -- a body after one of its steps
 walk_body : (c : Code) (g i dp m : ℕ) → i + code_size c ≡ m → m ≤ 4096 → dp + scan_depth c ≤ 3
     → g ≤ 8 → Walks (place stage.Body g i dp 0 0) (code_says c) (place stage.Body g m dp 0 0)
+unfolding place_after
 walk_body Stop g i dp m is room nested few = let same : i ≡ m = omega arith in rw same refl
 walk_body (Then op rest) g i dp m is room nested few = (
   place stage.Body g (i + 1) dp 0 0,
-  act_follows stage.Body g i dp op (inr refl) few (omega arith) (omega arith),
+  act_follows stage.Body g i dp op few (omega arith) (omega arith),
   walk_body rest g (i + 1) dp m (omega arith) room nested few,
 )
 walk_body (Each t r body rest) g i dp m is room nested few =
@@ -242,48 +188,38 @@ walk_body (Each t r body rest) g i dp m is room nested few =
     let turns = walk_body body g (i + 1) (dp + 1) n refl (omega arith) inner few in
     let others = walk_body rest g n dp m (omega arith) room outer few in (
       place stage.Body g (i + 1) (dp + 1) 0 0,
-      scan_follows stage.Body g i dp t r (inr refl) few (omega arith) (omega arith),
+      scan_follows stage.Body g i dp t r few (omega arith) (omega arith),
       walks_on (place stage.Body g (i + 1) (dp + 1) 0 0) (place stage.Body g n (dp + 1) 0 0)
           (place stage.Body g m dp 0 0) (code_says body) (says.End ∷ code_says rest) turns
           (place stage.Body g n dp 0 0, end_follows g n dp few (omega arith) (omega arith), others),
     )
 
-report_follows : (st : Stage) (g i n : ℕ) → Opens st → g ≤ 8 → i ≤ 4096
-    → Follows (place st g i 0 0 0) (says.Report n) (place stage.Shows g i 0 0 0)
-unfolding place_after is_small
-report_follows st g i n (inl groups) a b =
-    record {
-      after = rw groups refl;
-      within =
-          within_is stage.Shows g i 0 0 0 a b (lit≤ tt) (lit≤ tt) (lit≤ tt);
-      small = refl;
-    }
-report_follows st g i n (inr body) a b =
-    record {
-      after = rw body refl;
-      within =
-          within_is stage.Shows g i 0 0 0 a b (lit≤ tt) (lit≤ tt) (lit≤ tt);
-      small = refl;
-    }
+report_follows : (st : Stage) (g i n : ℕ) → g ≤ 8 → i ≤ 4096
+    → Steps (place st g i 0 0 0) (says.Report n) (place stage.Shows g i 0 0 0)
+unfolding is_small
+report_follows st g i n a b =
+    (refl, within_is stage.Shows g i 0 0 0 a b (lit≤ tt) (lit≤ tt) (lit≤ tt), refl)
 
 -- the rest of a program after a step, and its report
 walk_report : (c : Code) (g i m n : ℕ) → i + code_size c ≡ m → m ≤ 4096 → scan_depth c ≤ 3 → g ≤ 8
     → Walks (place stage.Body g i 0 0 0) (code_says c ++ says.Report n ∷ [])
     (place stage.Shows g m 0 0 0)
+unfolding place_after
 walk_report c g i m n is room nested few =
     walks_on (place stage.Body g i 0 0 0) (place stage.Body g m 0 0 0) (place stage.Shows g m 0 0 0)
     (code_says c) (says.Report n ∷ [])
     (walk_body c g i 0 m is room (omega arith) few)
-    (place stage.Shows g m 0 0 0, report_follows stage.Body g m n (inr refl) few room, refl)
+    (place stage.Shows g m 0 0 0, report_follows stage.Body g m n few room, refl)
 
 walk_code : (c : Code) (g n : ℕ) → code_size c ≤ 4096 → scan_depth c ≤ 3 → g ≤ 8
     → Walks (place stage.Groups g 0 0 0 0) (code_says c ++ says.Report n ∷ [])
     (place stage.Shows g (code_size c) 0 0 0)
+unfolding place_after
 walk_code Stop g n room nested few =
-    (place stage.Shows g 0 0 0 0, report_follows stage.Groups g 0 n (inl refl) few room, refl)
+    (place stage.Shows g 0 0 0 0, report_follows stage.Groups g 0 n few room, refl)
 walk_code (Then op rest) g n room nested few = (
   place stage.Body g 1 0 0 0,
-  act_follows stage.Groups g 0 0 op (inl refl) few (lit≤ tt) (lit≤ tt),
+  act_follows stage.Groups g 0 0 op few (lit≤ tt) (lit≤ tt),
   walk_report rest g 1 (code_size (Then op rest)) n (omega arith) room nested few,
 )
 walk_code (Each t r body rest) g n room nested few =
@@ -305,7 +241,7 @@ walk_code (Each t r body rest) g n room nested few =
     (says.End ∷ (code_says rest ++ says.Report n ∷ [])) turns
     (place stage.Body g k 0 0 0, end_follows g k 0 few (omega arith) (lit≤ tt), others) in (
       place stage.Body g 1 1 0 0,
-      scan_follows stage.Groups g 0 0 t r (inl refl) few (lit≤ tt) (lit≤ tt),
+      scan_follows stage.Groups g 0 0 t r few (lit≤ tt) (lit≤ tt),
       rw parted all,
     )
 
@@ -315,12 +251,7 @@ show_follows : (g i sh : ℕ) (show : Show) → g ≤ 8 → i ≤ 4096 → sh + 
     → Follows (place stage.Shows g i 0 sh 0) (says.Show show) (place stage.Shows g i 0 (sh + 1) 0)
 unfolding place_after is_small
 show_follows g i sh show a b c =
-    record {
-      after = refl;
-      within =
-          within_is stage.Shows g i 0 (sh + 1) 0 a b (lit≤ tt) c (lit≤ tt);
-      small = refl;
-    }
+    (refl, within_is stage.Shows g i 0 (sh + 1) 0 a b (lit≤ tt) c (lit≤ tt), refl)
 
 walk_shows : (xs : List Show) (g i sh m : ℕ) → g ≤ 8 → i ≤ 4096 → sh + length xs ≡ m → m ≤ 16
     → Walks (place stage.Shows g i 0 sh 0) (map says.Show xs) (place stage.Shows g i 0 m 0)
@@ -335,23 +266,13 @@ first_sort_follows : (g i sh : ℕ) (key : SortKey) → g ≤ 8 → i ≤ 4096 �
     → Follows (place stage.Shows g i 0 sh 0) (says.Sort key) (place stage.Sorts g i 0 sh 1)
 unfolding place_after is_small
 first_sort_follows g i sh key a b c =
-    record {
-      after = refl;
-      within =
-          within_is stage.Sorts g i 0 sh 1 a b (lit≤ tt) c (lit≤ tt);
-      small = refl;
-    }
+    (refl, within_is stage.Sorts g i 0 sh 1 a b (lit≤ tt) c (lit≤ tt), refl)
 
 sort_follows : (g i sh so : ℕ) (key : SortKey) → g ≤ 8 → i ≤ 4096 → sh ≤ 16 → so + 1 ≤ 16
     → Follows (place stage.Sorts g i 0 sh so) (says.Sort key) (place stage.Sorts g i 0 sh (so + 1))
 unfolding place_after is_small
 sort_follows g i sh so key a b c d =
-    record {
-      after = refl;
-      within =
-          within_is stage.Sorts g i 0 sh (so + 1) a b (lit≤ tt) c d;
-      small = refl;
-    }
+    (refl, within_is stage.Sorts g i 0 sh (so + 1) a b (lit≤ tt) c d, refl)
 
 walk_sorts : (ks : List SortKey) (g i sh so m : ℕ) → g ≤ 8 → i ≤ 4096 → sh ≤ 16 → so + length ks ≡ m
     → m ≤ 16 → Walks (place stage.Sorts g i 0 sh so) (map says.Sort ks)
@@ -387,11 +308,11 @@ ends_on p q ss ts w e = (e.0, walks_on p q e.0 ss ts w e.1, e.2)
 registers_follow : (n : ℕ) → n ≤ 4096
     → Follows (place stage.Registers 0 0 0 0 0) (says.Registers n) (place stage.Groups 0 0 0 0 0)
 unfolding place_after is_small is_within
-registers_follow n room = record { after = refl; within = refl; small = le-leb n 4096 room }
+registers_follow n room = (refl, refl, le-leb n 4096 room)
 
 header_follows : Follows start says.Header (place stage.Registers 0 0 0 0 0)
 unfolding start place_after is_small is_within
-header_follows = record { after = refl; within = refl; small = refl }
+header_follows = (refl, refl, refl)
 
 body_first : (gs code tail : List Statement) (r : Statement)
     → gs ++ (code ++ r ∷ tail) ≡ gs ++ ((code ++ r ∷ []) ++ tail)

@@ -1,19 +1,12 @@
 -- No text spells two programs: its statements tell the parts of the program.
 use Rattle.std.specs.Prelude.{Some}
 use Rattle.std.proofs.Common.{◌≡◌, ◌+◌, ◌∙◌, ◌∷◌, ◌++◌, [], ℕ, Bool, true, false, List, map, append_assoc, refl, sym, ap}
-use Rattle.std.proofs.lemmas.Bool.{both_ways}
-use Rattle.std.proofs.lemmas.List.{map-append}
+use Rattle.std.proofs.lemmas.{Bool.both_ways, List.map-append}
 use Rattle.star_schema.specs.declared.group.SortKey.{SortKey}
-use Rattle.star_program.specs.Code.{Code, Stop, Then, Each}
-use Rattle.star_program.specs.Private.Drafts.{code_says, groups_say}
-use Rattle.star_program.specs.Text.Spelling.{OneProgram, Spells, program_statements}
+use Rattle.star_program.specs.{Code.Code, Code.Stop, Code.Then, Code.Each, Private.Drafts.code_says, Private.Drafts.groups_say, Text.Spelling.OneProgram, Text.Spelling.Spells, Text.Spelling.program_statements}
 use Rattle.star_program.specs.Text.Statements.{Line, group_lines, line, lines_of_code, show_line, sort_line}
-use Rattle.star_program.specs.declared.group.GroupDecl.{GroupDecl}
-use Rattle.star_program.specs.declared.program.Parts.{Parts}
-use Rattle.star_program.specs.declared.program.Show.{Show}
-use Rattle.star_program.specs.declared.spelling.statement.Statement.{Statement}
+use Rattle.star_program.specs.declared.{group.GroupDecl.GroupDecl, program.Parts.Parts, program.Show.Show, spelling.statement.Statement.Statement, spelling.statement.Statement.TheVariants.Act, spelling.statement.Statement.TheVariants.Scan, spelling.statement.Statement.TheVariants.Group}
 use Rattle.star_program.specs.declared.spelling.statement.Statement.TheVariants as says
-use Rattle.star_program.specs.declared.spelling.statement.Statement.TheVariants.{Act, Scan, Group}
 
 abbrev said_by : List Line → List Statement
 said_by lines = map (λ l. l.says) lines

@@ -1,26 +1,14 @@
 -- Lines are read into a draft: each that is passed, each that is refused, and the end of the text.
 use Rattle.std.specs.Prelude.{if◌then◌else◌, nat_le, nat_lt}
 use Rattle.std.proofs.Common.{◌≡◌, ◌⊎◌, ◌==◌, ◌&&◌, ◌<◌, ◌≤◌, ◌+◌, ◌-◌, ◌∙◌, ◌∷◌, ◌++◌, [], ℕ, Bool, true, false, List, Option, Some, None, Ok, Err, append_assoc, length, map, arith, ap, refl, sym, subst, inl, inr, lit≤}
-use Rattle.std.proofs.lemmas.Bool.{and_parts, cases_Bool, eqb-false, eqb-true, leb-true}
+use Rattle.std.proofs.lemmas.Bool.{and_parts, cases_Bool, eq-eqb, eqb-false, eqb-true, leb-true}
 use Rattle.std.proofs.lemmas.List.{map_push, nil_from_length}
-use Rattle.star_program.specs.Code.{Stop, Then, code_size}
+use Rattle.star_program.specs.{Code.Stop, Code.Then, Code.code_size, Private.Followed.followed, Limits.IsSmall, Limits.IsWithinLimits, Text.Lines.is_blank_line, Text.Lines.lines_of, Text.Lines.words_of, Private.Within.IsWithinLargest, Text.Said.said, Text.Said.said_in, Text.Spelling.Spells}
 use Rattle.star_program.specs.Private.Drafts.{Counts, IsAdded, IsAt, IsClosed, IsInOrder, IsLineRefused, IsPassed, begun, closed, finished, nothing_read, told, whole_draft}
-use Rattle.star_program.specs.Private.Followed.{followed}
-use Rattle.star_program.specs.Limits.{IsSmall, IsWithinLimits}
-use Rattle.star_program.specs.Text.Lines.{is_blank_line, lines_of, words_of}
-use Rattle.star_program.specs.Private.Within.{IsWithinLargest}
 use Rattle.star_program.specs.Text.FirstFaults.{advance, after_in, begins_report, end_in, is_small, is_within, place_after, place_after_step, place_reached, start}
-use Rattle.star_program.specs.Text.Said.{said, said_in}
-use Rattle.star_program.specs.Text.Spelling.{Spells}
-use Rattle.star_program.specs.declared.group.GroupDecl.{GroupDecl}
-use Rattle.star_program.specs.declared.op.Op.{Op}
-use Rattle.star_program.specs.declared.spelling.draft.Draft.{Draft}
-use Rattle.star_program.specs.declared.spelling.fault.TextFault.{TextFault}
+use Rattle.star_program.specs.declared.{group.GroupDecl.GroupDecl, op.Op.Op, spelling.draft.Draft.Draft, spelling.fault.TextFault.TextFault, spelling.place.Place.Place, spelling.place.Stage.Stage, spelling.statement.Statement.Statement}
 use Rattle.star_program.specs.declared.spelling.fault.TextFault.TheVariants as fault
-use Rattle.star_program.specs.declared.spelling.place.Place.{Place}
-use Rattle.star_program.specs.declared.spelling.place.Stage.{Stage}
 use Rattle.star_program.specs.declared.spelling.place.Stage.TheVariants as stage
-use Rattle.star_program.specs.declared.spelling.statement.Statement.{Statement}
 use Rattle.star_program.specs.declared.spelling.statement.Statement.TheVariants as says
 use Rattle.star_schema.specs.declared.table.TableId.{TableId}
 use Rattle.star_program.proofs.Text.FaultLemmas.{advanced, blank_line, place, refused, start_within, within_from}
@@ -64,93 +52,49 @@ Goes p d s q e = IsAt q e × (told q.stage e ≡ told p.stage d ++ s ∷ [])
 abbrev Steps : Draft → Statement → Place → Draft → Type 0
 Steps d s q e = IsAt q e × (told q.stage e ≡ begun d ++ s ∷ [])
 
-group_goes : (g i dp sh so n : ℕ) (group : GroupDecl) (d e : Draft) (q : Place)
-    → IsAt (place stage.Groups g i dp sh so) d → n ≡ g → place stage.Groups (g + 1) i dp sh so ≡ q
-    → IsWithinLargest q → IsSmall group → e ≡ record d { groups = d.groups ++ group ∷ [] }
-    → Steps d (says.Group n group) q e
-group_goes g i dp sh so n group d e q at same is within small added =
-    let told_so : begun (record d { groups = d.groups ++ group ∷ [] })
-    ≡ begun d ++ says.Group n group ∷ [] =
-    begun_group d group at.order.0 at.order.1
-    ∙ ap (λ k. begun d ++ says.Group k group ∷ []) (at.counts.1.many ∙ sym same) in
-    let there : IsWithinLargest (place stage.Groups (g + 1) i dp sh so) =
-    subst IsWithinLargest (sym is) within in
-    rw (← is, added) (
-      record {
-        within = there;
-        counts =
-            counts_group g i dp sh so group d small at.counts;
-        order = at.order;
-      },
-      told_so,
-    )
+-- a draft at a place that is known
+arrives : (r q : Place) (d e : Draft) (ss : List Statement) → r ≡ q → IsWithinLargest q → e ≡ d
+    → Counts r.groups r.instructions r.depth r.shows r.sorts d → IsInOrder r.stage d
+    → told r.stage d ≡ ss → IsAt q e × (told q.stage e ≡ ss)
+arrives r q d e ss is within added counts order says = rw (← is, added) (
+  record { within = subst IsWithinLargest (sym is) within; counts = counts; order = order },
+  says,
+)
 
-act_goes : (g i dp sh so : ℕ) (op : Op) (d e : Draft) (q : Place) → Counts g i dp sh so d
-    → (d.shows ≡ []) × (d.sorts ≡ []) → dp ≤ 3 → place stage.Body g (i + 1) dp sh so ≡ q
-    → IsWithinLargest q → e ≡ record d { body = followed d.body (Then op Stop) }
-    → Steps d (says.Act op) q e
-act_goes g i dp sh so op d e q counts order room is within added =
-    let there : IsWithinLargest (place stage.Body g (i + 1) dp sh so) =
-    subst IsWithinLargest (sym is) within in
-    rw (← is, added) (
-      record {
-        within = there;
-        counts =
-            counts_step g i dp sh so op d room counts;
-        order = order;
-      },
-      begun_body d (Then op Stop),
-    )
+-- a step of the body, from the groups on
+module _ (g i dp sh so : ℕ) (d : Draft) (q : Place) (e : Draft) (counts : Counts g i dp sh so d)
+    (order : (d.shows ≡ []) × (d.sorts ≡ [])) (within : IsWithinLargest q) where
+  act_goes : (op : Op) → place stage.Body g (i + 1) dp sh so ≡ q → IsAdded d (says.Act op) e
+      → dp ≤ 3 → Steps d (says.Act op) q e
+  act_goes op is added room =
+      arrives _ q _ e _ is within added (counts_step g i dp sh so op d room counts) order
+      (begun_body d (Then op Stop))
 
-scan_goes : (g i dp sh so : ℕ) (t : TableId) (r : ℕ) (d e : Draft) (q : Place)
-    → Counts g i dp sh so d → (d.shows ≡ []) × (d.sorts ≡ [])
-    → place stage.Body g (i + 1) (dp + 1) sh so ≡ q
-    → IsWithinLargest q → e ≡ record d
-    { scans = d.scans ++ record { before = d.body; table = t; target = r } ∷ []; body = Stop }
-    → Steps d (says.Scan t r) q e
-scan_goes g i dp sh so t r d e q counts order is within added =
-    let there : IsWithinLargest (place stage.Body g (i + 1) (dp + 1) sh so) =
-    subst IsWithinLargest (sym is) within in
-    let room : dp + 1 ≤ 3 = there.depth in
-    rw (← is, added) (
-      record {
-        within = there;
-        counts =
-            counts_scan g i dp sh so t r d room counts;
-        order = order;
-      },
-      begun_scan d t r,
-    )
+  scan_goes : (t : TableId) (r : ℕ) → place stage.Body g (i + 1) (dp + 1) sh so ≡ q
+      → IsAdded d (says.Scan t r) e → Steps d (says.Scan t r) q e
+  scan_goes t r is added =
+      let there : IsWithinLargest (place stage.Body g (i + 1) (dp + 1) sh so) =
+      subst IsWithinLargest (sym is) within in
+      arrives _ q _ e _ is within added (counts_scan g i dp sh so t r d there.depth counts) order
+      (begun_scan d t r)
 
-end_goes : (g i dp sh so : ℕ) (d e : Draft) (q : Place) → Counts g i dp sh so d
-    → (d.shows ≡ []) × (d.sorts ≡ []) → place stage.Body g i (dp - 1) sh so ≡ q
-    → IsWithinLargest q → IsClosed d e → Steps d says.End q e
-end_goes g i dp sh so d e q counts order is within added =
-    let there : IsWithinLargest (place stage.Body g i (dp - 1) sh so) =
-    subst IsWithinLargest (sym is) within in
-    let still : (e.shows ≡ []) × (e.sorts ≡ []) =
-    (ap (λ x. x.shows) added.body ∙ order.0, ap (λ x. x.sorts) added.body ∙ order.1) in
-    rw (← is) (
-      record {
-        within = there;
-        counts = counts_end g i dp sh so d e added counts;
-        order =
-            still;
-      },
-      begun_end d e added,
-    )
+  end_goes : place stage.Body g i (dp - 1) sh so ≡ q → IsClosed d e → Steps d says.End q e
+  end_goes is added = arrives _ q e e _ is within refl (counts_end g i dp sh so d e added counts)
+      (ap (λ x. x.shows) added.body ∙ order.0, ap (λ x. x.sorts) added.body ∙ order.1)
+      (begun_end d e added)
 
-report_goes : (g i dp sh so n : ℕ) (d e : Draft) (q : Place) → Counts g i dp sh so d
-    → (d.shows ≡ []) × (d.sorts ≡ []) → dp ≡ 0 → place stage.Shows g i dp sh so ≡ q
-    → IsWithinLargest q → e ≡ record d { report = n } → Steps d (says.Report n) q e
-report_goes g i dp sh so n d e q counts order none is within added =
-    let there : IsWithinLargest (place stage.Shows g i dp sh so) =
-    subst IsWithinLargest (sym is) within in
-    let closed_all : d.scans ≡ [] = nil_from_length d.scans (counts.2.open_scans ∙ none) in
-    rw (← is, added) (
-      record { within = there; counts = counts; order = (closed_all, order.1) },
-      whole_report d n closed_all order.0 order.1,
-    )
+  report_goes : (n : ℕ) → after_in stage.Body (place stage.Body g i dp sh so) (says.Report n) ≡ Some q
+      → IsAdded d (says.Report n) e → Steps d (says.Report n) q e
+  report_goes n may added = elim (cases_Bool (dp == 0)) [
+    | inl none ↦
+        let there = rw none at may in
+        let is : place stage.Shows g i dp sh so ≡ q = cc in
+        let closed_all : d.scans ≡ [] =
+        nil_from_length d.scans (counts.2.open_scans ∙ eqb-true dp 0 none) in
+        arrives _ q _ e _ is within added counts (closed_all, order.1)
+        (whole_report d n closed_all order.0 order.1)
+    | inr some ↦ let bad : ⊥ = let nowhere = rw some at may in cc in absurd bad
+  ]
 
 -- a statement after its like, by the part of the program
 goes : (st : Stage) (g i dp sh so : ℕ) (d : Draft) (s : Statement) (q : Place) (e : Draft)
@@ -158,110 +102,61 @@ goes : (st : Stage) (g i dp sh so : ℕ) (d : Draft) (s : Statement) (q : Place)
     → IsWithinLargest q → is_small s ≡ true → IsAdded d s e → Goes (place st g i dp sh so) d s q e
 goes stage.Header g i dp sh so d says.Header q e at may within small added =
     let is : place stage.Registers g i dp sh so ≡ q = cc in
-    let there : IsWithinLargest (place stage.Registers g i dp sh so) =
-    subst IsWithinLargest (sym is) within in
-    rw (← is, added) (record { within = there; counts = at.counts; order = at.order }, refl)
+    arrives _ q _ e _ is within added at.counts at.order refl
 goes stage.Registers g i dp sh so d (says.Registers n) q e at may within small added =
     let is : place stage.Groups g i dp sh so ≡ q = cc in
-    let there : IsWithinLargest (place stage.Groups g i dp sh so) =
-    subst IsWithinLargest (sym is) within in
     let order = at.order in
-    let told_so : begun (record d { registers = n }) ≡ says.Header ∷ says.Registers n ∷ [] =
-    rw (order.0, order.1, order.2) refl in
-    rw (← is, added) (
-      record {
-        within = there;
-        counts =
-            counts_registers g i dp sh so n d (small_registers n small) at.counts;
-        order =
-            (order.1, order.2, order.3, order.4);
-      },
-      told_so,
-    )
+    arrives _ q _ e _ is within added
+    (counts_registers g i dp sh so n d (small_registers n small) at.counts)
+    (order.1, order.2, order.3, order.4) (rw (order.0, order.1, order.2) refl)
 goes stage.Groups g i dp sh so d (says.Group n group) q e at may within small added =
     elim (cases_Bool (n == g)) [
       | inl same ↦
           let there = rw same at may in
           let is : place stage.Groups (g + 1) i dp sh so ≡ q = cc in
-          group_goes g i dp sh so n group d e q at (eqb-true n g same) is within
-          (small_group n group small) added
+          arrives _ q _ e _ is within added
+          (counts_group g i dp sh so group d (small_group n group small) at.counts) at.order
+          (begun_group d group at.order.0 at.order.1
+          ∙ ap (λ k. begun d ++ says.Group k group ∷ [])
+          (at.counts.1.many ∙ sym (eqb-true n g same)))
       | inr other ↦ let bad : ⊥ = let none = rw other at may in cc in absurd bad
     ]
 goes stage.Groups g i dp sh so d (says.Act op) q e at may within small added =
-    act_goes g i dp sh so op d e q at.counts (at.order.2, at.order.3) at.within.depth (cc) within
-    added
+    act_goes g i dp sh so d q e at.counts (at.order.2, at.order.3) within op (cc) added
+    at.within.depth
 goes stage.Groups g i dp sh so d (says.Scan t r) q e at may within small added =
-    scan_goes g i dp sh so t r d e q at.counts (at.order.2, at.order.3) (cc) within added
+    scan_goes g i dp sh so d q e at.counts (at.order.2, at.order.3) within t r (cc) added
 goes stage.Groups g i dp sh so d says.End q e at may within small added =
-    elim (cases_Bool (dp == 0)) [
-      | inl none ↦ let bad : ⊥ = let nowhere = rw none at may in cc in absurd bad
-      | inr some ↦
-          let zero_long : dp ≡ 0 = sym at.counts.2.open_scans ∙ ap length at.order.0 in
-          absurd (eqb-false dp 0 some zero_long)
-    ]
+    let zero_long : dp ≡ 0 = sym at.counts.2.open_scans ∙ ap length at.order.0 in
+    let bad : ⊥ = let nowhere = rw (eq-eqb dp 0 zero_long) at may in cc in absurd bad
 goes stage.Groups g i dp sh so d (says.Report n) q e at may within small added =
-    elim (cases_Bool (dp == 0)) [
-      | inl none ↦
-          let there = rw none at may in
-          report_goes g i dp sh so n d e q at.counts (at.order.2, at.order.3) (eqb-true dp 0 none)
-          (cc) within added
-      | inr some ↦ let bad : ⊥ = let nowhere = rw some at may in cc in absurd bad
-    ]
+    report_goes g i dp sh so d q e at.counts (at.order.2, at.order.3) within n may added
 goes stage.Body g i dp sh so d (says.Act op) q e at may within small added =
-    act_goes g i dp sh so op d e q at.counts at.order at.within.depth (cc) within added
+    act_goes g i dp sh so d q e at.counts at.order within op (cc) added at.within.depth
 goes stage.Body g i dp sh so d (says.Scan t r) q e at may within small added =
-    scan_goes g i dp sh so t r d e q at.counts at.order (cc) within added
+    scan_goes g i dp sh so d q e at.counts at.order within t r (cc) added
 goes stage.Body g i dp sh so d says.End q e at may within small added =
     elim (cases_Bool (dp == 0)) [
       | inl none ↦ let bad : ⊥ = let nowhere = rw none at may in cc in absurd bad
       | inr some ↦
           let there = rw some at may in
-          end_goes g i dp sh so d e q at.counts at.order (cc) within added
+          end_goes g i dp sh so d q e at.counts at.order within (cc) added
     ]
 goes stage.Body g i dp sh so d (says.Report n) q e at may within small added =
-    elim (cases_Bool (dp == 0)) [
-      | inl none ↦
-          let there = rw none at may in
-          report_goes g i dp sh so n d e q at.counts at.order (eqb-true dp 0 none) (cc) within added
-      | inr some ↦ let bad : ⊥ = let nowhere = rw some at may in cc in absurd bad
-    ]
+    report_goes g i dp sh so d q e at.counts at.order within n may added
 goes stage.Shows g i dp sh so d (says.Show show) q e at may within small added =
     let is : place stage.Shows g i dp (sh + 1) so ≡ q = cc in
-    let there : IsWithinLargest (place stage.Shows g i dp (sh + 1) so) =
-    subst IsWithinLargest (sym is) within in
-    rw (← is, added) (
-      record {
-        within = there;
-        counts =
-            counts_show g i dp sh so show d at.counts;
-        order = at.order;
-      },
-      whole_show d show at.order.1,
-    )
+    arrives _ q _ e _ is within added (counts_show g i dp sh so show d at.counts) at.order
+    (whole_show d show at.order.1)
 goes stage.Shows g i dp sh so d (says.Sort key) q e at may within small added =
     let is : place stage.Sorts g i dp sh 1 ≡ q = cc in
-    let there : IsWithinLargest (place stage.Sorts g i dp sh 1) =
-    subst IsWithinLargest (sym is) within in
     let none : so ≡ 0 = sym at.counts.4 ∙ ap length at.order.1 in
-    let counts : Counts g i dp sh (0 + 1) (record d { sorts = d.sorts ++ key ∷ [] }) =
-    counts_sort g i dp sh 0 key d (rw none at at.counts) in
-    rw (← is, added) (
-      record { within = there; counts = counts; order = at.order.0 },
-      whole_sort d key,
-    )
+    arrives _ q _ e _ is within added
+    (counts_sort g i dp sh 0 key d (rw none at at.counts)) at.order.0 (whole_sort d key)
 goes stage.Sorts g i dp sh so d (says.Sort key) q e at may within small added =
     let is : place stage.Sorts g i dp sh (so + 1) ≡ q = cc in
-    let there : IsWithinLargest (place stage.Sorts g i dp sh (so + 1)) =
-    subst IsWithinLargest (sym is) within in
-    rw (← is, added) (
-      record {
-        within = there;
-        counts =
-            counts_sort g i dp sh so key d at.counts;
-        order = at.order;
-      },
-      whole_sort d key,
-    )
+    arrives _ q _ e _ is within added (counts_sort g i dp sh so key d at.counts) at.order
+    (whole_sort d key)
 goes st g i dp sh so d s q e at may within small added = let bad : ⊥ = cc in absurd bad
 
 pub after_is : (p : Place) (s : Statement) → place_after p s ≡ after_in p.stage p s

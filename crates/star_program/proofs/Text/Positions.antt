@@ -1,8 +1,7 @@
 -- What the first place that passes a test says of the places before it.
 use Rattle.std.proofs.Common.{◌≡◌, ◌<◌, ◌≤◌, ℕ, Bool, false, List, Some, None, get_or, length, ltb, arith, inl, inr}
 use Rattle.std.specs.List.{position, position_or_len}
-use Rattle.std.proofs.lemmas.Bool.{cases_Bool, ltb-false}
-use Rattle.std.proofs.lemmas.List.Sums.{fails_before_first}
+use Rattle.std.proofs.lemmas.{Bool.cases_Bool, Bool.ltb-false, List.Sums.fails_before_first}
 
 -- where no place passes, each fails
 pub position-None : (p : ℕ → Bool) (xs : List ℕ) (d : ℕ) → position p xs ≡ None → (k : ℕ)

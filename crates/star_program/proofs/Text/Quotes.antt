@@ -3,8 +3,7 @@ use Rattle.std.specs.Prelude.{if◌then◌else◌}
 use Rattle.std.proofs.Common.{◌≡◌, ◌≢◌, ◌==◌, ◌∷◌, [], ℕ, List, Option, Some, None, false, length, arith, refl}
 use Rattle.std.specs.Option.{option_map}
 use Rattle.std.proofs.lemmas.Bool.{ne_eqb}
-use Rattle.star_program.specs.Private.Reading.{closes}
-use Rattle.star_program.specs.Text.Said.{unquoted}
+use Rattle.star_program.specs.{Private.Reading.closes, Text.Said.unquoted}
 
 -- nothing goes on after what closes a text, or after its end
 abbrev pub stops : List ℕ → Option (List ℕ)

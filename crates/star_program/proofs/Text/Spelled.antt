@@ -1,45 +1,25 @@
 -- The text of a program that can be spelled spells it.
 use Rattle.std.specs.Prelude.{codes, decimal, filter, nat_le, not}
 use Rattle.std.proofs.Common.{◌≡◌, ◌==◌, ◌&&◌, ◌≤◌, ◌*◌, ◌∙◌, ◌∷◌, ◌++◌, [], ℕ, zero, suc, true, false, List, Option, Some, None, All, append_assoc, append-nil, map, arith, ap, refl, sym, replicate, slice_index_or}
-use Rattle.std.specs.Fmt.{signed_decimal}
-use Rattle.std.specs.List.{flat_map, list_all}
-use Rattle.std.proofs.lemmas.Bool.{and_parts, leb-true, ne_eqb}
-use Rattle.std.proofs.lemmas.List.Concat.{flat_map-append}
-use Rattle.std.proofs.lemmas.List.Elements.{All-head, All-tail}
-use Rattle.std.proofs.lemmas.List.Folds.{list_all-append}
-use Rattle.star_schema.specs.Records.{with_first}
-use Rattle.star_schema.specs.Schema.{column_name, column_of as schema_column, table_name}
-use Rattle.star_common.specs.Printable.{is_printable}
-use Rattle.star_schema.specs.declared.column.ColumnId.{ColumnId}
-use Rattle.star_schema.specs.declared.group.Direction.{Direction}
-use Rattle.star_schema.specs.declared.group.GroupColumn.{GroupColumn}
+use Rattle.std.specs.{Fmt.signed_decimal, List.flat_map, List.list_all}
+use Rattle.std.proofs.lemmas.{Bool.and_parts, Bool.leb-true, Bool.ne_eqb, List.Concat.flat_map-append, List.Elements.All-head, List.Elements.All-tail, List.Folds.list_all-append}
+use Rattle.star_schema.specs.{Records.with_first, Schema.column_name, Schema.column_of as schema_column, Schema.table_name, Words.aggregate_name, Words.direction_name, Words.shape_name}
+use Rattle.star_common.specs.{Printable.is_printable, Quotes.doubled, Quotes.quoted}
+use Rattle.star_schema.specs.declared.{column.ColumnId.ColumnId, group.Direction.Direction, group.GroupColumn.GroupColumn, table.TableId.TableId}
 use Rattle.star_schema.specs.declared.group.GroupColumn.TheVariants as column
-use Rattle.star_program.specs.Text.Keywords.{aggregate_name, aggregate_of_word, column_of_word, direction_name, keyword_name, keyword_of, mnemonic_name, same, shape_name}
-use Rattle.star_program.specs.Text.Lines.{is_blank_line, lines_of, words_of}
-use Rattle.star_program.specs.Text.Numerals.{is_show_name, register_of}
+use Rattle.star_program.specs.Text.Keywords.{aggregate_of_word, column_of_word, keyword_name, keyword_of, mnemonic_name, same}
+use Rattle.star_program.specs.Text.{Lines.is_blank_line, Lines.lines_of, Lines.words_of, Numerals.is_show_name, Numerals.register_of, Spelling.Spells, Statements.Line, Statements.lines_of_program}
 use Rattle.star_program.specs.Text.Said.{by_keyword, by_words, each, group_column_of, group_key_of, lists, operation_of, said, until_colon}
 use Rattle.star_program.specs.Text.Spellable.{IsKey, IsPrinted, IsSayable, HasFourDigits, IsShortColumn, IsSpellableOp, IsSpellableOperation, Written}
-use Rattle.star_program.specs.Text.Spelling.{Spells}
-use Rattle.star_program.specs.Text.Statements.{Line, lines_of_program}
-use Rattle.star_common.specs.Quotes.{doubled, quoted}
 use Rattle.star_program.specs.Text.Written.{aggregate_text, assigned_text, written_column, group_text, key_text, written_line, op_text, register_text, show_text, sort_text, statement_text, target_text, program_text}
-use Rattle.star_schema.specs.declared.table.TableId.{TableId}
-use Rattle.star_program.specs.declared.group.GroupDecl.{GroupDecl}
-use Rattle.star_program.specs.declared.group.GroupKey.{GroupKey}
+use Rattle.star_program.specs.declared.{group.GroupDecl.GroupDecl, group.GroupKey.GroupKey, op.Op.Op, op.Edge.Edge, op.Operation.Operation, spelling.keyword.Mnemonic.Mnemonic, spelling.statement.Statement.Statement}
 use Rattle.star_program.specs.declared.group.GroupKey.TheVariants as key
-use Rattle.star_program.specs.declared.op.Op.{Op}
 use Rattle.star_program.specs.declared.op.Op.TheVariants as op
-use Rattle.star_program.specs.declared.op.Edge.{Edge}
-use Rattle.star_program.specs.declared.op.Operation.{Operation}
 use Rattle.star_program.specs.declared.op.Operation.TheVariants as operation
-use Rattle.star_program.specs.declared.spelling.keyword.Mnemonic.{Mnemonic}
 use Rattle.star_program.specs.declared.spelling.keyword.Mnemonic.TheVariants as mnemonic
-use Rattle.star_program.specs.declared.spelling.statement.Statement.{Statement}
 use Rattle.star_program.specs.declared.spelling.statement.Statement.TheVariants as says
-use Rattle.star_program.proofs.Text.LineLemmas.{goes_on, no_lines}
+use Rattle.star_program.proofs.Text.{LineLemmas.goes_on, LineLemmas.no_lines, WordLemmas.space_first, WrittenLemmas.flat_map_map}
 use Rattle.star_program.proofs.Text.SpelledWords.{aggregate_read, aggregate_word, behind, column_apart, column_read, column_word, constant_decimal, constant_word, count_decimal, count_word, direction_read, direction_word, is_word, is_word_byte, name_word, mnemonic_read, mnemonic_word, quote_printable, quoted_printable, quoted_read, register_is_word, register_no_keyword, register_read, register_word, shape_read, shape_word, table_read, table_word, words_before_quote, words_behind, words_printable}
-use Rattle.star_program.proofs.Text.WordLemmas.{space_first}
-use Rattle.star_program.proofs.Text.WrittenLemmas.{flat_map_map}
 
 -- ---- a statement and its text
 

@@ -1,38 +1,20 @@
 -- The words of a written line, and what each is read as.
 use Rattle.std.specs.Prelude.{decimal, filter, nat_le, nat_lt, not, ℤ, pos, negsuc}
 use Rattle.std.proofs.Common.{◌≡◌, ◌==◌, ◌&&◌, ◌||◌, ◌<◌, ◌≤◌, ◌^◌, ◌∙◌, ◌∷◌, ◌++◌, [], ℕ, suc, Bool, true, false, List, Some, None, append_assoc, append-nil, length, arith, ap, refl, sym, inl, inr, lit<, lit≤}
-use Rattle.std.specs.Cmp.Lexicographic.{bytes_decides}
-use Rattle.std.specs.Char.{is_ascii_digit}
-use Rattle.std.specs.Fmt.{signed_decimal}
-use Rattle.std.specs.List.{flat_map, list_all}
-use Rattle.std.specs.Option.{option_map}
-use Rattle.std.specs.Str.Parse.{AllDigits, starts_with_minus}
+use Rattle.std.specs.{Cmp.Lexicographic.bytes_decides, Char.is_ascii_digit, Fmt.signed_decimal, List.flat_map, List.list_all, Option.option_map, Str.Parse.AllDigits, Str.Parse.starts_with_minus}
 use Rattle.std.proofs.lemmas.Bool.{and_parts, cases_Bool, eqb-false, eqb-true, le-leb, leb-true, ltb-true, ne_eqb}
-use Rattle.std.proofs.lemmas.Fmt.{decimal_is_IsNumeral, length-decimal-le}
-use Rattle.std.proofs.lemmas.List.Folds.{list_all-append}
-use Rattle.std.proofs.lemmas.Str.Parse.{digit_at}
+use Rattle.std.proofs.lemmas.{Fmt.decimal_is_IsNumeral, Fmt.length-decimal-le, List.Folds.list_all-append, Str.Parse.digit_at}
 use Rattle.star_interval.specs.Range.{is_i64}
-use Rattle.star_schema.specs.Records.{is_filled, with_first}
-use Rattle.star_schema.specs.Schema.{column_name, column_of as schema_column, table_name}
-use Rattle.star_common.specs.Printable.{is_printable}
-use Rattle.star_schema.specs.declared.column.ColumnId.{ColumnId}
-use Rattle.star_schema.specs.declared.column.ColumnId.TheVariants.{DDatekey}
-use Rattle.star_schema.specs.declared.table.TableId.{TableId}
-use Rattle.star_schema.specs.declared.table.TableId.TheVariants.{Date}
-use Rattle.star_schema.specs.declared.group.Aggregate.{Aggregate}
+use Rattle.star_schema.specs.{Records.is_filled, Records.with_first, Schema.column_name, Schema.column_of as schema_column, Schema.table_name, Words.aggregate_name, Words.direction_name, Words.shape_name}
+use Rattle.star_common.specs.{Printable.is_printable, Numerals.numeral_of, Quotes.doubled, Quotes.quoted}
+use Rattle.star_schema.specs.declared.{column.ColumnId.ColumnId, column.ColumnId.TheVariants.DDatekey, table.TableId.TableId, table.TableId.TheVariants.Date, group.Aggregate.Aggregate, group.Direction.Direction, group.Shape.Shape}
 use Rattle.star_schema.specs.declared.group.Aggregate.TheVariants as aggregate
-use Rattle.star_schema.specs.declared.group.Direction.{Direction}
 use Rattle.star_schema.specs.declared.group.Direction.TheVariants as direction
-use Rattle.star_schema.specs.declared.group.Shape.{Shape}
 use Rattle.star_schema.specs.declared.group.Shape.TheVariants as shape
 use Rattle.star_schema.proofs.NamesApart.{column_by_name, table_by_name}
-use Rattle.star_program.specs.Text.Keywords.{aggregate_name, aggregate_of_word, column_of_word, direction_name, direction_of, keyword_name, keyword_of, mnemonic_name, mnemonic_of, same, shape_name, shape_of_word, table_of_word}
-use Rattle.star_program.specs.Text.Lines.{pieces_of, words_of}
-use Rattle.star_common.specs.Numerals.{numeral_of}
+use Rattle.star_program.specs.Text.Keywords.{aggregate_of_word, column_of_word, direction_of, keyword_name, keyword_of, mnemonic_name, mnemonic_of, same, shape_of_word, table_of_word}
+use Rattle.star_program.specs.Text.{Lines.pieces_of, Lines.words_of, Said.quoted_text_of, Said.unquoted, Spellable.IsPrinted, Spellable.HasFourDigits}
 use Rattle.star_program.specs.Text.Numerals.{constant_of, count_of, is_show_name, is_name_byte, register_of}
-use Rattle.star_program.specs.Text.Said.{quoted_text_of, unquoted}
-use Rattle.star_program.specs.Text.Spellable.{IsPrinted, HasFourDigits}
-use Rattle.star_common.specs.Quotes.{doubled, quoted}
 use Rattle.star_program.specs.declared.op.Edge.TheVariants as edge
 use Rattle.star_program.specs.declared.op.Operator.TheVariants as operator
 use Rattle.star_program.specs.declared.spelling.keyword.Mnemonic.{Mnemonic}

@@ -1,10 +1,8 @@
 -- The first word of a line.
 use Rattle.std.proofs.Common.{◌≡◌, ◌==◌, ◌<◌, ◌||◌, ◌∙◌, ◌∷◌, [], ℕ, Bool, true, false, not, zero, suc, List, drop, take, get_or, length, arith, ap, sym, refl, ◌≢◌, Some, None, add-zero, length-drop}
-use Rattle.std.specs.Prelude.{filter}
-use Rattle.std.specs.List.{position}
+use Rattle.std.specs.{Prelude.filter, List.position}
 use Rattle.std.proofs.lemmas.Bool.{eq-eqb, eqb-false, eqb-true, ne_eqb, not-false, not-true, or_parts}
-use Rattle.std.proofs.lemmas.List.{get_or-drop}
-use Rattle.std.proofs.lemmas.List.Quantifiers.{position-Some}
+use Rattle.std.proofs.lemmas.List.{get_or-drop, Quantifiers.position-Some}
 use Rattle.star_program.proofs.Text.Positions.{position-None}
 use Rattle.star_schema.specs.Records.{is_filled, with_first}
 use Rattle.star_program.specs.Text.Lines.{pieces_of, words_of}

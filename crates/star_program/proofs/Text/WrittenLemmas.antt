@@ -1,20 +1,12 @@
 -- The text of a program, part by part.
 use Rattle.std.proofs.Common.{◌≡◌, ◌≤◌, ◌∙◌, ◌+◌, ◌∷◌, ◌++◌, [], ℕ, List, Some, append_assoc, append-nil, drop, length, map, sym, ap, refl}
 use Rattle.std.specs.List.{flat_map, slice_get}
-use Rattle.std.proofs.lemmas.List.{drop_all}
-use Rattle.std.proofs.lemmas.List.Concat.{flat_map-append}
+use Rattle.std.proofs.lemmas.List.{drop_all, Concat.flat_map-append}
 use Rattle.star_common.proofs.Lists.{drop_at_place}
 use Rattle.star_schema.specs.declared.table.TableId.{TableId}
-use Rattle.star_program.specs.Code.{Code}
-use Rattle.star_program.specs.CodeOfSteps.{before, code_of_steps}
-use Rattle.star_program.specs.Private.Followed.{code_of_step}
+use Rattle.star_program.specs.{Code.Code, CodeOfSteps.before, CodeOfSteps.code_of_steps, Private.Followed.code_of_step, Text.Written.written_line, Text.Written.program_text}
 use Rattle.star_program.specs.Text.Statements.{Line, group_lines, line, lines_of_code, show_line, sort_line}
-use Rattle.star_program.specs.Text.Written.{written_line, program_text}
-use Rattle.star_program.specs.declared.body.Step.{Step}
-use Rattle.star_program.specs.declared.body.Step.TheVariants.{Act, Scan}
-use Rattle.star_program.specs.declared.group.GroupDecl.{GroupDecl}
-use Rattle.star_program.specs.declared.op.Op.{Op}
-use Rattle.star_program.specs.declared.program.Parts.{Parts}
+use Rattle.star_program.specs.declared.{body.Step.Step, body.Step.TheVariants.Act, body.Step.TheVariants.Scan, group.GroupDecl.GroupDecl, op.Op.Op, program.Parts.Parts}
 use Rattle.star_program.specs.declared.spelling.statement.Statement.TheVariants as says
 
 abbrev pub texts : List Line → List ℕ

@@ -2,21 +2,10 @@
 use Rattle.std.specs.Prelude.{◌≡◌, ℕ, ◌+◌, ◌≤◌, List, [], ◌∷◌, ◌++◌, All, Some, length, map}
 use Rattle.star_common.specs.Memory.{UnlessMemory}
 use Rattle.star_program.specs.Code.{Code, Stop, Then, Each, code_size, scan_depth}
-use Rattle.star_program.specs.Private.Followed.{followed}
-use Rattle.star_program.specs.Limits.{IsSmall}
-use Rattle.star_program.specs.Private.Within.{IsWithinLargest}
-use Rattle.star_program.specs.Text.FirstFaults.{lines_fault}
-use Rattle.star_program.specs.Text.Said.{said_in}
-use Rattle.star_program.specs.declared.group.GroupDecl.{GroupDecl}
-use Rattle.star_program.specs.declared.program.Parts.{Parts}
-use Rattle.star_program.specs.declared.spelling.draft.Draft.{Draft}
-use Rattle.star_program.specs.declared.spelling.draft.OpenScan.{OpenScan}
-use Rattle.star_program.specs.declared.spelling.fault.TextFault.{TextFault}
+use Rattle.star_program.specs.{Private.Followed.followed, Limits.IsSmall, Private.Within.IsWithinLargest, Text.FirstFaults.lines_fault, Text.Said.said_in}
+use Rattle.star_program.specs.declared.{group.GroupDecl.GroupDecl, program.Parts.Parts, spelling.draft.Draft.Draft, spelling.draft.OpenScan.OpenScan, spelling.fault.TextFault.TextFault, spelling.place.Place.Place, spelling.place.Stage.Stage, spelling.statement.Statement.Statement}
 use Rattle.star_program.specs.declared.spelling.fault.TextFault.TheVariants as fault
-use Rattle.star_program.specs.declared.spelling.place.Place.{Place}
-use Rattle.star_program.specs.declared.spelling.place.Stage.{Stage}
 use Rattle.star_program.specs.declared.spelling.place.Stage.TheVariants as stage
-use Rattle.star_program.specs.declared.spelling.statement.Statement.{Statement}
 use Rattle.star_program.specs.declared.spelling.statement.Statement.TheVariants as says
 
 -- ---- what the parts of a program say

@@ -1,6 +1,5 @@
 -- A step alone as code, and a code with another after it.
-use Rattle.star_program.specs.Code.{Code, Stop, Then, Each}
-use Rattle.star_program.specs.CodeOfSteps.{before}
+use Rattle.star_program.specs.{Code.Code, Code.Stop, Code.Then, Code.Each, CodeOfSteps.before}
 use Rattle.star_program.specs.declared.body.Step.{Step}
 
 abbrev pub code_of_step : Step → Code

@@ -1,7 +1,6 @@
 -- The cell that something kept stands for.
-use Rattle.star_program.specs.declared.outcome.Cell.{Cell}
+use Rattle.star_program.specs.declared.outcome.{Cell.Cell, Kept.Kept}
 use Rattle.star_program.specs.declared.outcome.Cell.TheVariants as cell
-use Rattle.star_program.specs.declared.outcome.Kept.{Kept}
 use Rattle.star_program.specs.declared.outcome.Kept.TheVariants.{Number, Wide, Text, All, Null}
 
 abbrev pub cell_view : Kept → Cell

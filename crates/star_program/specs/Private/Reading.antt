@@ -2,8 +2,7 @@
 use Rattle.std.specs.Prelude.{ℕ, ◌==◌, ◌&&◌, ◌≡◌, Bool, false, List, [], ◌∷◌, Option, Some, None, Result, MatchResult}
 use Rattle.star_common.specs.Memory.{UnlessMemory}
 use Rattle.star_program.specs.Text.Lines.{is_blank_line}
-use Rattle.star_program.specs.declared.spelling.fault.LineFault.{LineFault}
-use Rattle.star_program.specs.declared.spelling.fault.LineFault.TheVariants.{OutOfMemory, Unreadable}
+use Rattle.star_program.specs.declared.spelling.fault.LineFault.{LineFault, TheVariants.OutOfMemory, TheVariants.Unreadable}
 
 -- memory was refused, or there is nothing to read
 abbrev pub IsMissed : {A : Type 0} → LineFault → Option A → Type 0

@@ -1,15 +1,10 @@
 -- The first fault of a text: its lines in order, how many of each kind there may be, and how deep scans lie in one another.
 use Rattle.std.specs.Prelude.{◌≡◌, ◌==◌, ◌+◌, ◌-◌, ◌&&◌, if◌then◌else◌, Bool, true, false, ℕ, List, [], ◌∷◌, Option, Some, None, Result, Ok, Err, codes, length, nat_le, nat_lt}
 use Rattle.star_common.specs.Memory.{UnlessMemory}
-use Rattle.star_program.specs.Text.Keywords.{same}
-use Rattle.star_program.specs.Text.Lines.{is_blank_line, lines_of, words_of}
-use Rattle.star_program.specs.Text.Said.{said}
-use Rattle.star_program.specs.declared.spelling.place.Place.{Place}
-use Rattle.star_program.specs.declared.spelling.place.Stage.{Stage}
+use Rattle.star_program.specs.Text.{Keywords.same, Lines.is_blank_line, Lines.lines_of, Lines.words_of, Said.said}
+use Rattle.star_program.specs.declared.spelling.{place.Place.Place, place.Stage.Stage, fault.TextFault.TextFault, statement.Statement.Statement}
 use Rattle.star_program.specs.declared.spelling.place.Stage.TheVariants as stage
-use Rattle.star_program.specs.declared.spelling.fault.TextFault.{TextFault}
 use Rattle.star_program.specs.declared.spelling.fault.TextFault.TheVariants as fault
-use Rattle.star_program.specs.declared.spelling.statement.Statement.{Statement}
 use Rattle.star_program.specs.declared.spelling.statement.Statement.TheVariants as says
 
 -- before the first line

@@ -1,9 +1,6 @@
 -- The words of a program that write numbers, registers and names.
 use Rattle.std.specs.Prelude.{◌==◌, ◌&&◌, ◌||◌, if◌then◌else◌, Bool, ℕ, ℤ, List, Option, Some, None, drop, length, nat_le, neg_ℤ, pos}
-use Rattle.std.specs.List.{list_all}
-use Rattle.std.specs.Option.{option_map}
-use Rattle.std.specs.Char.{is_ascii_alphanumeric}
-use Rattle.std.specs.Str.Parse.{starts_with_minus}
+use Rattle.std.specs.{List.list_all, Option.option_map, Char.is_ascii_alphanumeric, Str.Parse.starts_with_minus}
 use Rattle.star_common.specs.Numerals.{numeral_of}
 use Rattle.star_program.specs.Text.Lines.{begins_with}
 

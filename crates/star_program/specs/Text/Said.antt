@@ -1,29 +1,17 @@
 -- What a line of a program says, by its words.
 use Rattle.std.specs.Prelude.{ℕ, ◌==◌, ◌&&◌, if◌then◌else◌, List, [], ◌∷◌, Option, Some, None, codes, filter, map, not}
-use Rattle.std.specs.List.{list_all}
-use Rattle.std.specs.Option.{option_and_then, option_map}
+use Rattle.std.specs.{List.list_all, Option.option_and_then, Option.option_map}
 use Rattle.star_common.specs.Printable.{is_printable}
-use Rattle.star_schema.specs.declared.column.ColumnId.{ColumnId}
-use Rattle.star_schema.specs.declared.group.GroupColumn.{GroupColumn}
+use Rattle.star_schema.specs.declared.{column.ColumnId.ColumnId, group.GroupColumn.GroupColumn, group.Shape.Shape, group.SortKey.SortKey}
 use Rattle.star_schema.specs.declared.group.GroupColumn.TheVariants as column
-use Rattle.star_schema.specs.declared.group.Shape.{Shape}
-use Rattle.star_schema.specs.declared.group.SortKey.{SortKey}
-use Rattle.star_program.specs.World.{is_text}
+use Rattle.star_program.specs.{World.is_text, Text.Lines.is_blank_line, Text.Lines.words_of, Text.Numerals.constant_of, Text.Numerals.count_of, Text.Numerals.is_show_name, Text.Numerals.register_of}
 use Rattle.star_program.specs.Text.Keywords.{aggregate_of_word, column_of_word, direction_of, keyword_of, mnemonic_of, same, shape_of_word, table_of_word}
-use Rattle.star_program.specs.Text.Lines.{is_blank_line, words_of}
-use Rattle.star_program.specs.Text.Numerals.{constant_of, count_of, is_show_name, register_of}
-use Rattle.star_program.specs.declared.group.GroupKey.{GroupKey}
+use Rattle.star_program.specs.declared.{group.GroupKey.GroupKey, op.Op.Op, op.Operation.Operation, program.Show.Show, spelling.keyword.Keyword.Keyword, spelling.keyword.Mnemonic.Mnemonic, spelling.statement.Statement.Statement}
 use Rattle.star_program.specs.declared.group.GroupKey.TheVariants as key
-use Rattle.star_program.specs.declared.op.Op.{Op}
 use Rattle.star_program.specs.declared.op.Op.TheVariants as op
-use Rattle.star_program.specs.declared.op.Operation.{Operation}
 use Rattle.star_program.specs.declared.op.Operation.TheVariants as operation
-use Rattle.star_program.specs.declared.program.Show.{Show}
-use Rattle.star_program.specs.declared.spelling.keyword.Keyword.{Keyword}
 use Rattle.star_program.specs.declared.spelling.keyword.Keyword.TheVariants as keyword
-use Rattle.star_program.specs.declared.spelling.keyword.Mnemonic.{Mnemonic}
 use Rattle.star_program.specs.declared.spelling.keyword.Mnemonic.TheVariants as mnemonic
-use Rattle.star_program.specs.declared.spelling.statement.Statement.{Statement}
 use Rattle.star_program.specs.declared.spelling.statement.Statement.TheVariants as says
 
 -- ---- words read one after another, up to the end of the line

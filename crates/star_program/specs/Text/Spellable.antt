@@ -5,18 +5,11 @@ use Rattle.star_common.specs.Printable.{is_printable}
 use Rattle.star_interval.specs.Range.{is_i64}
 use Rattle.star_schema.specs.declared.group.GroupColumn.{GroupColumn}
 use Rattle.star_schema.specs.declared.group.GroupColumn.TheVariants as column
-use Rattle.star_program.specs.World.{is_text}
-use Rattle.star_program.specs.Text.Numerals.{is_show_name}
-use Rattle.star_program.specs.Text.Spelling.{Spells, program_statements}
-use Rattle.star_program.specs.Text.Written.{program_text}
-use Rattle.star_program.specs.declared.group.GroupKey.{GroupKey}
+use Rattle.star_program.specs.{World.is_text, Text.Numerals.is_show_name, Text.Spelling.Spells, Text.Spelling.program_statements, Text.Written.program_text}
+use Rattle.star_program.specs.declared.{group.GroupKey.GroupKey, op.Op.Op, op.Operation.Operation, program.Parts.Parts, spelling.statement.Statement.Statement}
 use Rattle.star_program.specs.declared.group.GroupKey.TheVariants as key
-use Rattle.star_program.specs.declared.op.Op.{Op}
 use Rattle.star_program.specs.declared.op.Op.TheVariants as op
-use Rattle.star_program.specs.declared.op.Operation.{Operation}
 use Rattle.star_program.specs.declared.op.Operation.TheVariants as operation
-use Rattle.star_program.specs.declared.program.Parts.{Parts}
-use Rattle.star_program.specs.declared.spelling.statement.Statement.{Statement}
 use Rattle.star_program.specs.declared.spelling.statement.Statement.TheVariants as says
 
 -- the number of a register, a count or a place has at most four digits

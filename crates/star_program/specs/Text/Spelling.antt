@@ -1,12 +1,8 @@
 -- Which programs a text spells (this project's text of programs).
 use Rattle.std.specs.Prelude.{◌≡◌, ℕ, List, Some, Result, MatchResult, map}
-use Rattle.star_program.specs.Text.Lines.{lines_of}
-use Rattle.star_program.specs.Text.Said.{said_in}
-use Rattle.star_program.specs.Text.Statements.{lines_of_program}
-use Rattle.star_program.specs.declared.program.Parts.{Parts}
-use Rattle.star_program.specs.declared.spelling.fault.TextFault.{TextFault}
+use Rattle.star_program.specs.Text.{Lines.lines_of, Said.said_in, Statements.lines_of_program}
+use Rattle.star_program.specs.declared.{program.Parts.Parts, spelling.fault.TextFault.TextFault, spelling.statement.Statement.Statement}
 use Rattle.star_program.specs.declared.spelling.fault.TextFault.TheVariants as fault
-use Rattle.star_program.specs.declared.spelling.statement.Statement.{Statement}
 
 -- what the lines of a program say, one after another
 abbrev pub program_statements : Parts → List Statement

@@ -2,12 +2,9 @@
 use Rattle.std.specs.Prelude.{ℕ, ◌+◌, List, [], ◌∷◌, ◌++◌, map}
 use Rattle.std.specs.List.{enumerate_from}
 use Rattle.star_program.specs.Code.{Code, Stop, Then, Each}
-use Rattle.star_program.specs.declared.program.Parts.{Parts}
-use Rattle.star_program.specs.declared.spelling.statement.Statement.{Statement}
+use Rattle.star_program.specs.declared.{program.Parts.Parts, spelling.statement.Statement.Statement, group.GroupDecl.GroupDecl, program.Show.Show}
 use Rattle.star_program.specs.declared.spelling.statement.Statement.TheVariants.{Header, Registers, Group, Act, Scan, End, Report}
 use Rattle.star_program.specs.declared.spelling.statement.Statement.TheVariants as says
-use Rattle.star_program.specs.declared.group.GroupDecl.{GroupDecl}
-use Rattle.star_program.specs.declared.program.Show.{Show}
 use Rattle.star_schema.specs.declared.group.SortKey.{SortKey}
 
 -- a statement, and how many scans stand round it

@@ -1,27 +1,14 @@
 -- How a program is written.
 use Rattle.std.specs.Prelude.{ℕ, ◌*◌, List, [], ◌∷◌, ◌++◌, codes, decimal, replicate}
-use Rattle.std.specs.Fmt.{signed_decimal}
-use Rattle.std.specs.List.{flat_map}
+use Rattle.std.specs.{Fmt.signed_decimal, List.flat_map}
 use Rattle.star_common.specs.Quotes.{quoted}
-use Rattle.star_schema.specs.Schema.{column_name, table_name}
-use Rattle.star_schema.specs.declared.group.Aggregate.{Aggregate as Aggregation}
-use Rattle.star_schema.specs.declared.group.GroupColumn.{GroupColumn}
-use Rattle.star_schema.specs.declared.group.GroupColumn.TheVariants.{Key, Aggregate}
-use Rattle.star_schema.specs.declared.group.SortKey.{SortKey}
-use Rattle.star_program.specs.Text.Keywords.{aggregate_name, direction_name, mnemonic_name, shape_name}
-use Rattle.star_program.specs.Text.Statements.{Line, lines_of_program}
-use Rattle.star_program.specs.declared.group.GroupDecl.{GroupDecl}
-use Rattle.star_program.specs.declared.group.GroupKey.{GroupKey}
-use Rattle.star_program.specs.declared.group.GroupKey.TheVariants.{Number, Text}
-use Rattle.star_program.specs.declared.op.Op.{Op}
+use Rattle.star_schema.specs.{Schema.column_name, Schema.table_name, Words.aggregate_name, Words.direction_name, Words.shape_name}
+use Rattle.star_schema.specs.declared.group.{Aggregate.Aggregate as Aggregation, GroupColumn.GroupColumn, GroupColumn.TheVariants.Key, GroupColumn.TheVariants.Aggregate, SortKey.SortKey}
+use Rattle.star_program.specs.Text.{Keywords.mnemonic_name, Statements.Line, Statements.lines_of_program}
+use Rattle.star_program.specs.declared.{group.GroupDecl.GroupDecl, group.GroupKey.GroupKey, group.GroupKey.TheVariants.Number, group.GroupKey.TheVariants.Text, op.Op.Op, op.Operation.Operation, program.Parts.Parts, program.Show.Show, spelling.keyword.Mnemonic.Mnemonic, spelling.statement.Statement.Statement}
 use Rattle.star_program.specs.declared.op.Op.TheVariants as op
-use Rattle.star_program.specs.declared.op.Operation.{Operation}
 use Rattle.star_program.specs.declared.op.Operation.TheVariants as operation
-use Rattle.star_program.specs.declared.program.Parts.{Parts}
-use Rattle.star_program.specs.declared.program.Show.{Show}
-use Rattle.star_program.specs.declared.spelling.keyword.Mnemonic.{Mnemonic}
 use Rattle.star_program.specs.declared.spelling.keyword.Mnemonic.TheVariants as mnemonic
-use Rattle.star_program.specs.declared.spelling.statement.Statement.{Statement}
 use Rattle.star_program.specs.declared.spelling.statement.Statement.TheVariants as says
 
 -- a register after a space

@@ -11,11 +11,12 @@ ghost use Rattle.star_program.specs.Text.Said as spec;
 use crate::group::GroupKey;
 use crate::op::Text;
 use crate::spelling::fault::LineFault;
-use crate::spelling::keyword::read_aggregate;
 use crate::spelling::lines::{is_blank, split_word};
 use crate::spelling::numerals::read_register;
 use star_common::Items;
-use star_schema::{Aggregate, ColumnId, TableId, column_named, is_text, table_named};
+use star_schema::{
+    AGGREGATES, Aggregate, ColumnId, TableId, column_named, first_named, is_text, table_named,
+};
 use std::alloc::Global;
 
 /// What stands in lists of words.
@@ -39,8 +40,9 @@ impl Listed for u16 {
 impl Listed for Aggregate {
     ghost meaning = { words.aggregate_of_word };
 
+    #[tactic(auto, unfolding(crate::specs::Text::Keywords::aggregate_of_word))]
     fn read(word: &[u8]) -> Option<Aggregate> {
-        read_aggregate(word)
+        first_named(&AGGREGATES, word)
     }
 }
 
@@ -61,12 +63,14 @@ impl Listed for GroupKey {
     }
 }
 
+#[tactic(auto, unfolding(crate::specs::Text::Keywords::column_of_word))]
 pub(crate) fn read_column(word: &[u8]) -> Option<ColumnId>
     ensures { result ≡ words.column_of_word word.now }
 {
     column_named(word)
 }
 
+#[tactic(auto, unfolding(crate::specs::Text::Keywords::table_of_word))]
 pub(crate) fn read_table(word: &[u8]) -> Option<TableId>
     ensures { result ≡ words.table_of_word word.now }
 {

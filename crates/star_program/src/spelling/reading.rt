@@ -15,13 +15,13 @@ use crate::group::GroupDecl;
 use crate::op::{Edge, Op, Operation, Operator};
 use crate::program::Show;
 use crate::spelling::fault::LineFault;
-use crate::spelling::keyword::{Keyword, Mnemonic, read_direction, read_shape};
+use crate::spelling::keyword::{KEYWORDS, Keyword, MNEMONICS, Mnemonic};
 use crate::spelling::lines::split_word;
 use crate::spelling::listed::{read_column, read_lists, read_quoted, read_table};
 use crate::spelling::numerals::{is_name, read_constant, read_count, read_register};
 use crate::spelling::statement::Statement;
 use star_common::{Items, are_printable};
-use star_schema::{GroupColumn, Shape, SortKey};
+use star_schema::{DIRECTIONS, GroupColumn, SHAPES, Shape, SortKey, first_named};
 use std::alloc::Global;
 
 // The only word of a line.
@@ -182,6 +182,7 @@ fn read_operation(
 }
 
 // What follows the register that an instruction writes.
+#[tactic(auto, unfolding(crate::specs::Text::Keywords::mnemonic_of))]
 fn read_assigned(alloc: Global, target: u16, line: &[u8]) -> Result<Op, LineFault>
     ensures { Reads result (spec.assigned target (words_of line.now)) }
 {
@@ -190,20 +191,21 @@ fn read_assigned(alloc: Global, target: u16, line: &[u8]) -> Result<Op, LineFaul
     if sign != "=".as_bytes() {
         return Err(LineFault::Unreadable);
     }
-    let mnemonic = readable(Mnemonic::read(name))?;
+    let mnemonic = readable(first_named(&MNEMONICS, name))?;
     let operation = read_operation(alloc, mnemonic, operands)?;
     Ok(Op::Assign { target, operation })
 }
 
 // The number of a group, its shape, and the line after them.
 // `group 00` is group 0: a group's number is compared as a number.
+#[tactic(auto, unfolding(crate::specs::Text::Keywords::shape_of_word))]
 fn group_head(line: &[u8]) -> Option<(u16, (Shape, &[u8]))>
     ensures { option_map (λ head. (head.0, (head.1.0, words_of head.1.1.now))) result
         ≡ spec.group_head (words_of line.now) }
 {
     let (place, rest) = split_word(line)?;
     let (shape, rest) = split_word(rest)?;
-    Some((read_count(place)?, (read_shape(shape)?, rest)))
+    Some((read_count(place)?, (first_named(&SHAPES, shape)?, rest)))
 }
 
 fn read_group(alloc: Global, line: &[u8]) -> Result<Statement, LineFault>
@@ -254,13 +256,14 @@ fn read_group_column(word: &[u8], place: &[u8]) -> Option<GroupColumn>
     }
 }
 
+#[tactic(auto, unfolding(crate::specs::Text::Keywords::direction_of))]
 fn read_sort(line: &[u8]) -> Option<SortKey>
     ensures { result ≡ spec.sort_of (words_of line.now) }
 {
     let (word, place, direction) = three_words(line)?;
     Some(SortKey {
         column: read_group_column(word, place)?,
-        direction: read_direction(direction)?,
+        direction: first_named(&DIRECTIONS, direction)?,
     })
 }
 
@@ -371,12 +374,12 @@ fn read_instruction(alloc: Global, word: &[u8], line: &[u8]) -> Result<Statement
     Ok(Statement::Act(read_assigned(alloc, target, line)?))
 }
 
-#[tactic(auto, unfolding(crate::specs::Text::Said::by_words))]
+#[tactic(auto, unfolding(crate::specs::Text::Said::by_words, crate::specs::Text::Keywords::keyword_of))]
 fn read_words(alloc: Global, line: &[u8]) -> Result<Statement, LineFault>
     ensures { Reads result (spec.by_words (words_of line.now)) }
 {
     let (word, rest) = read_first(line)?;
-    match Keyword::read(word) {
+    match first_named(&KEYWORDS, word) {
         Some(keyword) => by_keyword(alloc, keyword, rest),
         None => read_instruction(alloc, word, rest),
     }

@@ -11,9 +11,9 @@ ghost use Rattle.star_program.specs.declared.spelling.keyword.Mnemonic.TheVarian
 use crate::group::{GroupDecl, GroupKey};
 use crate::op::{Edge, Op, Operation, Operator};
 use crate::program::Show;
-use crate::spelling::keyword::{Mnemonic, aggregate_name, direction_name, shape_name};
+use crate::spelling::keyword::Mnemonic;
 use star_common::push_quoted;
-use star_schema::{Aggregate, ColumnId, GroupColumn, SortKey, TableId};
+use star_schema::{Aggregate, ColumnId, GroupColumn, Named, SortKey, TableId};
 use std::alloc::AllocError;
 
 #[tactic(auto, unfolding(crate::specs::Text::Written::register_text))]
@@ -262,7 +262,7 @@ impl Written for Aggregate {
 
     fn push(&self, out: &mut Vec<u8>) -> Result<(), AllocError> {
         out.push(b' ')?;
-        out.extend_from_slice(aggregate_name(*self).as_bytes())
+        out.extend_from_slice(self.name().as_bytes())
     }
 }
 
@@ -271,7 +271,7 @@ impl Written for Aggregate {
 pub(crate) fn push_group(out: &mut Vec<u8>, place: u16, group: &GroupDecl) -> Result<(), AllocError>
     ensures { OnOk result (out.new.items ≡ out.old.items ++ spec.group_text place group.now) }
 {
-    let shape = shape_name(group.shape);
+    let shape = group.shape.name();
     let text = format!(in *out.allocator(); "group {place} {shape}")?;
     out.extend_from_slice(text.as_bytes())?;
     push_each(out, group.keys.as_slice())?;
@@ -307,5 +307,5 @@ pub(crate) fn push_sort(out: &mut Vec<u8>, key: SortKey) -> Result<(), AllocErro
     out.extend_from_slice(b"sort")?;
     push_place(out, key.column)?;
     out.push(b' ')?;
-    out.extend_from_slice(direction_name(key.direction).as_bytes())
+    out.extend_from_slice(key.direction.name().as_bytes())
 }

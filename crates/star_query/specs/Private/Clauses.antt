@@ -1,24 +1,10 @@
 -- What the parser's functions on the clauses of a query do, by the machine.
 use Rattle.std.specs.Prelude.{◌≡◌, ℕ, Bool, List, [], ◌∷◌, map, Option, Some, None, option_map, Result, Ok, Err}
-use Rattle.std.specs.declared.alloc.Global.{Global}
-use Rattle.std.specs.declared.vec.Vec.{Vec}
-use Rattle.star_query.specs.declared.token.Fold.{Fold}
+use Rattle.std.specs.declared.{alloc.Global.Global, vec.Vec.Vec}
+use Rattle.star_query.specs.declared.{token.Fold.Fold, counts.Part.Part, fault.Fault.TheVariants.TooMany, fault.ParseError.ParseError, clauses.Function.Function, tree.Name.Name, tree.Test.Test, tree.Condition.Condition, tree.Measure.Measure, tree.Aggregate.Aggregate, tree.Item.Item, tree.Grouping.Grouping, tree.SortKey.SortKey, tree.Tree.Tree}
 use Rattle.star_query.specs.declared.token.Sign.TheVariants as s
-use Rattle.star_query.specs.declared.counts.Part.{Part}
 use Rattle.star_query.specs.declared.counts.Part.TheVariants as part
-use Rattle.star_query.specs.declared.fault.Fault.TheVariants.{TooMany}
-use Rattle.star_query.specs.declared.fault.ParseError.{ParseError}
 use Rattle.star_query.specs.declared.fault.ParseError.TheVariants as errors
-use Rattle.star_query.specs.declared.clauses.Function.{Function}
-use Rattle.star_query.specs.declared.tree.Name.{Name}
-use Rattle.star_query.specs.declared.tree.Test.{Test}
-use Rattle.star_query.specs.declared.tree.Condition.{Condition}
-use Rattle.star_query.specs.declared.tree.Measure.{Measure}
-use Rattle.star_query.specs.declared.tree.Aggregate.{Aggregate}
-use Rattle.star_query.specs.declared.tree.Item.{Item}
-use Rattle.star_query.specs.declared.tree.Grouping.{Grouping}
-use Rattle.star_query.specs.declared.tree.SortKey.{SortKey}
-use Rattle.star_query.specs.declared.tree.Tree.{Tree}
 use Rattle.star_schema.specs.declared.group.Shape.{Shape}
 use Rattle.star_query.specs.Symbols.{Symbol, fold, count, sign}
 use Rattle.star_query.specs.Tree as tree

@@ -1,21 +1,14 @@
 -- The tokens of a text by a function, as the code cuts them: worked rows compute it. It is proved to be `AreTokens` and `IsStopped`.
 use Rattle.std.specs.Prelude.{ℕ, zero, suc, ◌+◌, ◌-◌, nat_lt, Bool, true, false, ◌==◌, ◌||◌, if◌then◌else◌, List, [], ◌∷◌, find, drop, take, length, nat_eq, Option, Some, None, Result, Ok, Err}
-use Rattle.std.specs.List.{flat_map, prefix_len, starts_with}
-use Rattle.std.specs.Char.{is_ascii_digit}
-use Rattle.std.specs.Str.Parse.{digits_value}
-use Rattle.std.specs.Cmp.Lexicographic.{pointwise}
-use Rattle.star_common.specs.Quotes.{doubled}
-use Rattle.star_common.specs.WhiteSpace.{is_blank}
-use Rattle.star_common.specs.Printable.{is_printable}
+use Rattle.std.specs.{List.flat_map, List.prefix_len, List.starts_with, Char.is_ascii_digit, Str.Parse.digits_value, Cmp.Lexicographic.pointwise}
+use Rattle.star_common.specs.{Quotes.doubled, WhiteSpace.is_blank, Printable.is_printable}
+use Rattle.star_schema.specs.Words.{named}
 use Rattle.star_query.specs.declared.token.Keyword.TheVariants as k
 use Rattle.star_query.specs.declared.token.Fold.TheVariants as folds
-use Rattle.star_query.specs.declared.token.Word.{Word}
+use Rattle.star_query.specs.declared.{token.Word.Word, fault.QueryFault.QueryFault, fault.QueryFault.TheVariants.BadCharacter, fault.QueryFault.TheVariants.BadNumber, fault.QueryFault.TheVariants.OpenText}
 use Rattle.star_query.specs.declared.token.Word.TheVariants as words
-use Rattle.star_query.specs.declared.fault.QueryFault.{QueryFault}
-use Rattle.star_query.specs.declared.fault.QueryFault.TheVariants.{BadCharacter, BadNumber, OpenText}
-use Rattle.star_query.specs.Maxima.{most_digits}
+use Rattle.star_query.specs.{Maxima.most_digits, Tokens.is_letter, Tokens.is_word_byte, Tokens.begins_with_letter, Tokens.signs}
 use Rattle.star_query.specs.Symbols.{Symbol, Placed, name, number, text, spelling, word_symbol, lowered}
-use Rattle.star_query.specs.Tokens.{is_letter, is_word_byte, begins_with_letter, signs}
 
 -- what begins at a place: white space, a token and how many bytes it has, or a fault
 pub data Piece : Type 0 where
@@ -36,7 +29,7 @@ is_spelled word reserved = pointwise nat_eq (spelling reserved) (lowered word)
 
 -- the reserved word that a word is, if it is one
 unfoldable pub reserved : List ℕ → Option Word
-reserved word = find (is_spelled word) reserved_words
+reserved word = named spelling reserved_words (lowered word)
 
 -- a reserved word, or a name in lower case
 abbrev pub word_of : ℕ → List ℕ → Symbol

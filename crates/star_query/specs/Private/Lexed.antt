@@ -1,15 +1,10 @@
 -- What the tokens of the code are.
 use Rattle.std.specs.Prelude.{◌≡◌, ◌≤◌, ◌<◌, ℕ, ◌+◌, Bool, false, [], ◌∷◌, List, ◌++◌, Result, Ok, Err}
 use Rattle.std.specs.Char.{is_ascii_digit}
-use Rattle.star_query.specs.declared.token.Kind.{Kind}
+use Rattle.star_query.specs.declared.{token.Kind.Kind, token.Token.Token, lexer.Ending.Ending, lexer.Piece.Piece, fault.QueryFault.QueryFault, fault.QueryFault.TheVariants.OutOfMemory, fault.QueryFault.TheVariants.BadCharacter, fault.QueryFault.TheVariants.BadNumber, fault.QueryFault.TheVariants.OpenText}
 use Rattle.star_query.specs.declared.token.Kind.TheVariants as kinds
-use Rattle.star_query.specs.declared.token.Token.{Token}
-use Rattle.star_query.specs.declared.lexer.Ending.{Ending}
 use Rattle.star_query.specs.declared.lexer.Ending.TheVariants as endings
-use Rattle.star_query.specs.declared.lexer.Piece.{Piece}
 use Rattle.star_query.specs.declared.lexer.Piece.TheVariants as pieces
-use Rattle.star_query.specs.declared.fault.QueryFault.{QueryFault}
-use Rattle.star_query.specs.declared.fault.QueryFault.TheVariants.{OutOfMemory, BadCharacter, BadNumber, OpenText}
 use Rattle.star_query.specs.Private.Cut as spec
 use Rattle.star_query.specs.Symbols.{Symbol, Placed, keyword, fold, count, relation, sign, additive, name, number, text, lowered}
 use Rattle.star_query.specs.Private.Quoted as quoted

@@ -2,21 +2,12 @@
 use Rattle.std.specs.Prelude.{ℕ, ◌+◌, nat_lt, Bool, true, false, ◌||◌, List, [], ◌∷◌, length, Option, Some, None, if◌then◌else◌}
 use Rattle.star_query.specs.declared.token.Keyword.TheVariants as k
 use Rattle.star_query.specs.declared.token.Sign.TheVariants as s
-use Rattle.star_query.specs.declared.token.Additive.{Additive}
-use Rattle.star_query.specs.declared.token.Additive.TheVariants.{Minus}
-use Rattle.star_query.specs.declared.token.Fold.{Fold}
-use Rattle.star_query.specs.declared.token.Relation.{Relation}
+use Rattle.star_query.specs.declared.{token.Additive.Additive, token.Additive.TheVariants.Minus, token.Fold.Fold, token.Relation.Relation, counts.Part.Part, counts.Counts.Counts, fault.Fault.Fault, fault.Fault.TheVariants.Unexpected, fault.Fault.TheVariants.TooDeep, fault.Fault.TheVariants.TooMany}
 use Rattle.star_query.specs.declared.token.Relation.TheVariants as r
-use Rattle.star_query.specs.declared.counts.Part.{Part}
 use Rattle.star_query.specs.declared.counts.Part.TheVariants as part
-use Rattle.star_query.specs.declared.counts.Counts.{Counts}
-use Rattle.star_query.specs.declared.fault.Fault.{Fault}
-use Rattle.star_query.specs.declared.fault.Fault.TheVariants.{Unexpected, TooDeep, TooMany}
 use Rattle.star_query.specs.Symbols.{Symbol, keyword, fold, count, relation, sign, additive, name, number, text}
-use Rattle.star_query.specs.Tree.{Name}
-use Rattle.star_query.specs.Grammar.{Mark}
+use Rattle.star_query.specs.{Tree.Name, Grammar.Mark, Maxima.limit, Maxima.most_name_bytes, Maxima.most_nestings}
 use Rattle.star_query.specs.Private.Phrases.{Several, one, more, Expr, lone_term, plus_or_minus, Term, lone_factor, times, Factor, column, constant, negative, parens, Lit, unsigned_literal, negative_literal, string_literal, Cond, lone_conj, or_conj, Conj, lone_unit, and_unit, Unary, not_unit, group, pair, compare, between, Agg, folded, counted, Item, plain, aggregate, Key, unmarked, ascending, descending, Groups, ungrouped, grouped, Hiding, cube, rollup, hiding, Query, at, first, function}
-use Rattle.star_query.specs.Maxima.{limit, most_name_bytes, most_nestings}
 
 -- one more behind these, if there are any
 abbrev pub extended : {A : Type 0} → Option (Several A) → A → Several A
@@ -186,69 +177,14 @@ give_lit l (compared h i q) = give_unit (compare i q l) h
 give_lit l (low h i) = low_had h i l
 give_lit l (high h i m) = give_unit (between i m l) h
 
-abbrev pub on_begin : Symbol → Option Step
-on_begin (keyword k.Select) = to (item_wanted None) (at 0 (keyword k.Select))
-on_begin x = None
-
-abbrev pub on_item : Option (Several Item) → Symbol → Option Step
-on_item b (name t p) = to (items_had (extended b (plain (named t p)))) (first (part.Item ∷ []) 0 (name t p))
-on_item b (fold f p) = to (fold_named b f p) (function (fold f p))
-on_item b (count p) = to (count_named b p) (function (count p))
-on_item b x = None
-
-abbrev pub on_fold : Option (Several Item) → Fold → ℕ → Symbol → Option Step
-on_fold b f p (sign s.Open) = to (factor_wanted (first_factor (first_term (in_fold b f p)))) (at 0 (sign s.Open))
-on_fold b f p x = None
-
-abbrev pub on_count : Option (Several Item) → ℕ → Symbol → Option Step
-on_count b p (sign s.Open) = to (count_opened b p) (at 0 (sign s.Open))
-on_count b p x = None
-
-abbrev pub on_count_opened : Option (Several Item) → ℕ → Symbol → Option Step
-on_count_opened b p (sign s.Star) = to (count_starred b p) (at 0 (sign s.Star))
-on_count_opened b p x = None
-
-abbrev pub on_count_starred : Option (Several Item) → ℕ → Symbol → Option Step
-on_count_starred b p (sign s.Close) = to (agg_had b (counted p)) (at 0 (sign s.Close))
-on_count_starred b p x = None
-
-abbrev pub on_factor : FactorHole → Symbol → Option Step
-on_factor h (name t p) = to (give_factor (column (named t p)) h) (first (part.Operand ∷ []) (factor_depth h) (name t p))
-on_factor h (number n) = to (give_factor (constant n) h) (first (part.Operand ∷ []) (factor_depth h) (number n))
-on_factor h (additive Minus) = to (factor_negative h) (at (factor_depth h) (additive Minus))
-on_factor h (sign s.Open) = to (factor_wanted (first_factor (first_term (in_parens h)))) (at (factor_depth h + 1) (sign s.Open))
-on_factor h x = None
-
-abbrev pub on_negative : FactorHole → Symbol → Option Step
-on_negative h (number n) = to (give_factor (negative n) h) (first (part.Operand ∷ []) (factor_depth h) (number n))
-on_negative h x = None
-
 abbrev pub closed_expr : Expr → ExprHole → Option Step
 closed_expr e (in_fold b f p) = to (agg_had b (folded f p e)) (at 0 (sign s.Close))
 closed_expr e (in_parens h) = to (give_factor (parens e) h) (at (factor_depth h + 1) (sign s.Close))
-
-abbrev pub on_term : Term → TermHole → Symbol → Option Step
-on_term t h (sign s.Star) = to (factor_wanted (next_factor t h)) (at (term_depth h) (sign s.Star))
-on_term t h (additive q) = to (factor_wanted (first_factor (next_term (joined_expr t h) q (around_term h)))) (at (term_depth h) (additive q))
-on_term t h (sign s.Close) = closed_expr (joined_expr t h) (around_term h)
-on_term t h x = None
 
 abbrev pub on_items : Several Item → Symbol → Option Step
 on_items is (sign s.Comma) = to (item_wanted (Some is)) (at 0 (sign s.Comma))
 on_items is (keyword k.From) = to (table_wanted is None) (at 0 (keyword k.From))
 on_items is x = None
-
-abbrev pub on_agg : Option (Several Item) → Agg → Symbol → Option Step
-on_agg b a (keyword k.As) = to (alias_wanted b a) (at 0 (keyword k.As))
-on_agg b a x = on_items (extended b (aggregate a None)) x
-
-abbrev pub on_alias : Option (Several Item) → Agg → Symbol → Option Step
-on_alias b a (name t p) = to (items_had (extended b (aggregate a (Some (named t p))))) (at 0 (name t p))
-on_alias b a x = None
-
-abbrev pub on_table : Several Item → Option (Several Name) → Symbol → Option Step
-on_table is b (name t p) = to (tables_had is (extended b (named t p))) (at 0 (name t p))
-on_table is b x = None
 
 abbrev pub on_done : Grouped → Option (Several Key) → Symbol → Option Step
 on_done g ks (sign s.Semicolon) = to (ended g ks) (at 0 (sign s.Semicolon))
@@ -262,44 +198,16 @@ abbrev pub on_filtered : Filtered → Symbol → Option Step
 on_filtered f (keyword k.Group) = to (group_had f) (at 0 (keyword k.Group))
 on_filtered f x = on_grouped (grouped_by f ungrouped) x
 
-abbrev pub on_tables : Several Item → Several Name → Symbol → Option Step
-on_tables is ts (sign s.Comma) = to (table_wanted is (Some ts)) (at 0 (sign s.Comma))
-on_tables is ts (keyword k.Where) = to (unit_wanted (first_unit (first_conj (in_where is ts)))) (at 0 (keyword k.Where))
-on_tables is ts x = on_filtered (filtered_by is ts None) x
-
-abbrev pub on_unit : UnitHole → Symbol → Option Step
-on_unit h (name t p) = to (unit_named h (named t p)) (first (part.Comparison ∷ []) (unit_depth h) (name t p))
-on_unit h (keyword k.Not) = to (unit_wanted (under_not h)) (first (part.Comparison ∷ []) (unit_depth h + 1) (keyword k.Not))
-on_unit h (sign s.Open) = to (unit_wanted (first_unit (first_conj (in_group h)))) (at (unit_depth h + 1) (sign s.Open))
-on_unit h x = None
-
 -- an equals sign may stand before a name too
 abbrev pub behind_relation : UnitHole → Name → Relation → ParserState
 behind_relation h i r.Equal = equal_had h i
 behind_relation h i q = lit_wanted (compared h i q)
-
-abbrev pub on_named : UnitHole → Name → Symbol → Option Step
-on_named h i (relation q) = to (behind_relation h i q) (at (unit_depth h) (relation q))
-on_named h i (keyword k.Between) = to (lit_wanted (low h i)) (at (unit_depth h) (keyword k.Between))
-on_named h i x = None
 
 abbrev pub on_lit : LitHole → Symbol → Option Step
 on_lit h (number n) = to (give_lit (unsigned_literal n) h) (at (lit_depth h) (number n))
 on_lit h (text t) = to (give_lit (string_literal t) h) (at (lit_depth h) (text t))
 on_lit h (additive Minus) = to (lit_negative h) (at (lit_depth h) (additive Minus))
 on_lit h x = None
-
-abbrev pub on_equal : UnitHole → Name → Symbol → Option Step
-on_equal h i (name t p) = to (give_unit (pair i (named t p)) h) (at (unit_depth h) (name t p))
-on_equal h i x = on_lit (compared h i r.Equal) x
-
-abbrev pub on_lit_negative : LitHole → Symbol → Option Step
-on_lit_negative h (number n) = to (give_lit (negative_literal n) h) (at (lit_depth h) (number n))
-on_lit_negative h x = None
-
-abbrev pub on_low : UnitHole → Name → Lit → Symbol → Option Step
-on_low h i l (keyword k.And) = to (lit_wanted (high h i l)) (at (unit_depth h) (keyword k.And))
-on_low h i l x = None
 
 abbrev pub closed_cond : Cond → UnitHole → Symbol → Option Step
 closed_cond a h (sign s.Close) = to (give_unit (group a) h) (at (unit_depth h + 1) (sign s.Close))
@@ -309,86 +217,88 @@ abbrev pub on_cond : Cond → CondHole → Symbol → Option Step
 on_cond a (in_where is ts) x = on_filtered (filtered_by is ts (Some a)) x
 on_cond a (in_group h) x = closed_cond a h x
 
-abbrev pub on_conj : Conj → ConjHole → Symbol → Option Step
-on_conj c h (keyword k.And) = to (unit_wanted (next_unit c h)) (at (conj_depth h) (keyword k.And))
-on_conj c h (keyword k.Or) = to (unit_wanted (first_unit (next_conj (joined_cond c h) (around_conj h)))) (at (conj_depth h) (keyword k.Or))
-on_conj c h x = on_cond (joined_cond c h) (around_conj h) x
-
-abbrev pub on_group : Filtered → Symbol → Option Step
-on_group f (keyword k.By) = to (by_had f) (at 0 (keyword k.By))
-on_group f x = None
-
 abbrev pub on_column : Filtered → Option Hiding → Option (Several Name) → Symbol → Option Step
 on_column f h b (name t p) = to (columns_had f h (extended b (named t p))) (first (part.GroupColumn ∷ []) 0 (name t p))
 on_column f h b x = None
-
-abbrev pub on_by : Filtered → Symbol → Option Step
-on_by f (keyword k.Cube) = to (hiding_had f cube) (at 0 (keyword k.Cube))
-on_by f (keyword k.Rollup) = to (hiding_had f rollup) (at 0 (keyword k.Rollup))
-on_by f x = on_column f None None x
-
-abbrev pub on_hiding : Filtered → Hiding → Symbol → Option Step
-on_hiding f h (sign s.Open) = to (column_wanted f (Some h) None) (at 0 (sign s.Open))
-on_hiding f h x = None
-
-abbrev pub on_hidden : Filtered → Hiding → Several Name → Symbol → Option Step
-on_hidden f h is (sign s.Close) = to (grouped_had (grouped_by f (hiding h is))) (at 0 (sign s.Close))
-on_hidden f h is x = None
-
-abbrev pub on_columns : Filtered → Option Hiding → Several Name → Symbol → Option Step
-on_columns f h is (sign s.Comma) = to (column_wanted f h (Some is)) (at 0 (sign s.Comma))
-on_columns f (Some h) is x = on_hidden f h is x
-on_columns f None is x = on_grouped (grouped_by f (grouped is)) x
-
-abbrev pub on_order : Grouped → Symbol → Option Step
-on_order g (keyword k.By) = to (key_wanted g None) (at 0 (keyword k.By))
-on_order g x = None
-
-abbrev pub on_key : Grouped → Option (Several Key) → Symbol → Option Step
-on_key g b (name t p) = to (key_named g b (named t p)) (first (part.SortKey ∷ []) 0 (name t p))
-on_key g b x = None
 
 abbrev pub on_keys : Grouped → Several Key → Symbol → Option Step
 on_keys g ks (sign s.Comma) = to (key_wanted g (Some ks)) (at 0 (sign s.Comma))
 on_keys g ks x = on_done g (Some ks) x
 
-abbrev pub on_key_named : Grouped → Option (Several Key) → Name → Symbol → Option Step
-on_key_named g b i (keyword k.Asc) = to (keys_had g (extended b (ascending i))) (at 0 (keyword k.Asc))
-on_key_named g b i (keyword k.Desc) = to (keys_had g (extended b (descending i))) (at 0 (keyword k.Desc))
-on_key_named g b i x = on_keys g (extended b (unmarked i)) x
-
 abbrev pub next_step : ParserState → Symbol → Option Step
-next_step begin x = on_begin x
-next_step (item_wanted b) x = on_item b x
-next_step (fold_named b f p) x = on_fold b f p x
-next_step (count_named b p) x = on_count b p x
-next_step (count_opened b p) x = on_count_opened b p x
-next_step (count_starred b p) x = on_count_starred b p x
-next_step (factor_wanted h) x = on_factor h x
-next_step (factor_negative h) x = on_negative h x
-next_step (term_had t h) x = on_term t h x
-next_step (agg_had b a) x = on_agg b a x
-next_step (alias_wanted b a) x = on_alias b a x
+next_step begin (keyword k.Select) = to (item_wanted None) (at 0 (keyword k.Select))
+next_step begin x = None
+next_step (item_wanted b) (name t p) = to (items_had (extended b (plain (named t p)))) (first (part.Item ∷ []) 0 (name t p))
+next_step (item_wanted b) (fold f p) = to (fold_named b f p) (function (fold f p))
+next_step (item_wanted b) (count p) = to (count_named b p) (function (count p))
+next_step (item_wanted b) x = None
+next_step (fold_named b f p) (sign s.Open) = to (factor_wanted (first_factor (first_term (in_fold b f p)))) (at 0 (sign s.Open))
+next_step (fold_named b f p) x = None
+next_step (count_named b p) (sign s.Open) = to (count_opened b p) (at 0 (sign s.Open))
+next_step (count_named b p) x = None
+next_step (count_opened b p) (sign s.Star) = to (count_starred b p) (at 0 (sign s.Star))
+next_step (count_opened b p) x = None
+next_step (count_starred b p) (sign s.Close) = to (agg_had b (counted p)) (at 0 (sign s.Close))
+next_step (count_starred b p) x = None
+next_step (factor_wanted h) (name t p) = to (give_factor (column (named t p)) h) (first (part.Operand ∷ []) (factor_depth h) (name t p))
+next_step (factor_wanted h) (number n) = to (give_factor (constant n) h) (first (part.Operand ∷ []) (factor_depth h) (number n))
+next_step (factor_wanted h) (additive Minus) = to (factor_negative h) (at (factor_depth h) (additive Minus))
+next_step (factor_wanted h) (sign s.Open) = to (factor_wanted (first_factor (first_term (in_parens h)))) (at (factor_depth h + 1) (sign s.Open))
+next_step (factor_wanted h) x = None
+next_step (factor_negative h) (number n) = to (give_factor (negative n) h) (first (part.Operand ∷ []) (factor_depth h) (number n))
+next_step (factor_negative h) x = None
+next_step (term_had t h) (sign s.Star) = to (factor_wanted (next_factor t h)) (at (term_depth h) (sign s.Star))
+next_step (term_had t h) (additive q) = to (factor_wanted (first_factor (next_term (joined_expr t h) q (around_term h)))) (at (term_depth h) (additive q))
+next_step (term_had t h) (sign s.Close) = closed_expr (joined_expr t h) (around_term h)
+next_step (term_had t h) x = None
+next_step (agg_had b a) (keyword k.As) = to (alias_wanted b a) (at 0 (keyword k.As))
+next_step (agg_had b a) x = on_items (extended b (aggregate a None)) x
+next_step (alias_wanted b a) (name t p) = to (items_had (extended b (aggregate a (Some (named t p))))) (at 0 (name t p))
+next_step (alias_wanted b a) x = None
 next_step (items_had is) x = on_items is x
-next_step (table_wanted is b) x = on_table is b x
-next_step (tables_had is ts) x = on_tables is ts x
-next_step (unit_wanted h) x = on_unit h x
-next_step (unit_named h i) x = on_named h i x
-next_step (equal_had h i) x = on_equal h i x
+next_step (table_wanted is b) (name t p) = to (tables_had is (extended b (named t p))) (at 0 (name t p))
+next_step (table_wanted is b) x = None
+next_step (tables_had is ts) (sign s.Comma) = to (table_wanted is (Some ts)) (at 0 (sign s.Comma))
+next_step (tables_had is ts) (keyword k.Where) = to (unit_wanted (first_unit (first_conj (in_where is ts)))) (at 0 (keyword k.Where))
+next_step (tables_had is ts) x = on_filtered (filtered_by is ts None) x
+next_step (unit_wanted h) (name t p) = to (unit_named h (named t p)) (first (part.Comparison ∷ []) (unit_depth h) (name t p))
+next_step (unit_wanted h) (keyword k.Not) = to (unit_wanted (under_not h)) (first (part.Comparison ∷ []) (unit_depth h + 1) (keyword k.Not))
+next_step (unit_wanted h) (sign s.Open) = to (unit_wanted (first_unit (first_conj (in_group h)))) (at (unit_depth h + 1) (sign s.Open))
+next_step (unit_wanted h) x = None
+next_step (unit_named h i) (relation q) = to (behind_relation h i q) (at (unit_depth h) (relation q))
+next_step (unit_named h i) (keyword k.Between) = to (lit_wanted (low h i)) (at (unit_depth h) (keyword k.Between))
+next_step (unit_named h i) x = None
+next_step (equal_had h i) (name t p) = to (give_unit (pair i (named t p)) h) (at (unit_depth h) (name t p))
+next_step (equal_had h i) x = on_lit (compared h i r.Equal) x
 next_step (lit_wanted h) x = on_lit h x
-next_step (lit_negative h) x = on_lit_negative h x
-next_step (low_had h i l) x = on_low h i l x
-next_step (conj_had c h) x = on_conj c h x
+next_step (lit_negative h) (number n) = to (give_lit (negative_literal n) h) (at (lit_depth h) (number n))
+next_step (lit_negative h) x = None
+next_step (low_had h i l) (keyword k.And) = to (lit_wanted (high h i l)) (at (unit_depth h) (keyword k.And))
+next_step (low_had h i l) x = None
+next_step (conj_had c h) (keyword k.And) = to (unit_wanted (next_unit c h)) (at (conj_depth h) (keyword k.And))
+next_step (conj_had c h) (keyword k.Or) = to (unit_wanted (first_unit (next_conj (joined_cond c h) (around_conj h)))) (at (conj_depth h) (keyword k.Or))
+next_step (conj_had c h) x = on_cond (joined_cond c h) (around_conj h) x
 next_step (filtered_had f) x = on_filtered f x
-next_step (group_had f) x = on_group f x
-next_step (by_had f) x = on_by f x
-next_step (hiding_had f h) x = on_hiding f h x
+next_step (group_had f) (keyword k.By) = to (by_had f) (at 0 (keyword k.By))
+next_step (group_had f) x = None
+next_step (by_had f) (keyword k.Cube) = to (hiding_had f cube) (at 0 (keyword k.Cube))
+next_step (by_had f) (keyword k.Rollup) = to (hiding_had f rollup) (at 0 (keyword k.Rollup))
+next_step (by_had f) x = on_column f None None x
+next_step (hiding_had f h) (sign s.Open) = to (column_wanted f (Some h) None) (at 0 (sign s.Open))
+next_step (hiding_had f h) x = None
 next_step (column_wanted f h b) x = on_column f h b x
-next_step (columns_had f h is) x = on_columns f h is x
+next_step (columns_had f h is) (sign s.Comma) = to (column_wanted f h (Some is)) (at 0 (sign s.Comma))
+next_step (columns_had f (Some h) is) (sign s.Close) = to (grouped_had (grouped_by f (hiding h is))) (at 0 (sign s.Close))
+next_step (columns_had f (Some h) is) x = None
+next_step (columns_had f None is) x = on_grouped (grouped_by f (grouped is)) x
 next_step (grouped_had g) x = on_grouped g x
-next_step (order_had g) x = on_order g x
-next_step (key_wanted g b) x = on_key g b x
-next_step (key_named g b i) x = on_key_named g b i x
+next_step (order_had g) (keyword k.By) = to (key_wanted g None) (at 0 (keyword k.By))
+next_step (order_had g) x = None
+next_step (key_wanted g b) (name t p) = to (key_named g b (named t p)) (first (part.SortKey ∷ []) 0 (name t p))
+next_step (key_wanted g b) x = None
+next_step (key_named g b i) (keyword k.Asc) = to (keys_had g (extended b (ascending i))) (at 0 (keyword k.Asc))
+next_step (key_named g b i) (keyword k.Desc) = to (keys_had g (extended b (descending i))) (at 0 (keyword k.Desc))
+next_step (key_named g b i) x = on_keys g (extended b (unmarked i)) x
 next_step (keys_had g ks) x = on_keys g ks x
 next_step (done g ks) x = on_done g ks x
 next_step (ended g ks) x = None

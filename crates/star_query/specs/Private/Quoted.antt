@@ -5,8 +5,7 @@ use Rattle.star_query.specs.declared.token.Relation.TheVariants as r
 use Rattle.star_query.specs.declared.token.Sign.TheVariants as s
 use Rattle.star_query.specs.declared.token.Additive.TheVariants as q
 use Rattle.star_query.specs.declared.fault.QueryFault.TheVariants.{BadCharacter, OpenText}
-use Rattle.star_query.specs.Symbols.{relation, sign, additive, text}
-use Rattle.star_query.specs.Private.Cut.{Piece, token, bad}
+use Rattle.star_query.specs.{Symbols.relation, Symbols.sign, Symbols.additive, Symbols.text, Private.Cut.Piece, Private.Cut.token, Private.Cut.bad}
 
 -- how a text ends: by its closing quote, behind this many bytes; at a byte that may not stand in it; or not at all
 pub data Ending : Type 0 where

@@ -1,30 +1,14 @@
 -- What the parser's functions do, by the machine.
 use Rattle.std.specs.Prelude.{◌≡◌, ℕ, ◌<◌, ◌≤◌, Bool, true, false, ◌||◌, List, [], ◌∷◌, map, Option, Some, None, Result, Ok, Err}
-use Rattle.star_query.specs.declared.token.Token.{Token}
-use Rattle.star_query.specs.declared.token.Kind.{Kind}
-use Rattle.star_query.specs.declared.token.Digits.{Digits}
+use Rattle.star_query.specs.declared.{token.Token.Token, token.Kind.Kind, token.Digits.Digits, token.Additive.Additive, counts.Part.Part, counts.Counts.Counts, fault.Fault.TheVariants.Unexpected, fault.Fault.TheVariants.TooDeep, fault.Fault.TheVariants.TooMany, fault.ParseError.ParseError, parser.Parser.Parser, tree.Name.Name, tree.Expression.Expression, tree.Literal.Literal, tree.Test.Test, tree.Condition.Condition}
 use Rattle.star_query.specs.declared.token.Keyword.TheVariants as k
 use Rattle.star_query.specs.declared.token.Sign.TheVariants as s
-use Rattle.star_query.specs.declared.token.Additive.{Additive}
-use Rattle.star_query.specs.declared.counts.Part.{Part}
-use Rattle.star_query.specs.declared.counts.Counts.{Counts}
-use Rattle.star_query.specs.declared.fault.Fault.TheVariants.{Unexpected, TooDeep, TooMany}
-use Rattle.star_query.specs.declared.fault.ParseError.{ParseError}
 use Rattle.star_query.specs.declared.fault.ParseError.TheVariants as errors
-use Rattle.star_query.specs.declared.parser.Parser.{Parser}
-use Rattle.star_query.specs.declared.tree.Name.{Name}
-use Rattle.star_query.specs.declared.tree.Expression.{Expression}
-use Rattle.star_query.specs.declared.tree.Literal.{Literal}
-use Rattle.star_query.specs.declared.tree.Test.{Test}
-use Rattle.star_query.specs.declared.tree.Condition.{Condition}
-use Rattle.std.specs.declared.alloc.Global.{Global}
-use Rattle.std.specs.declared.vec.Vec.{Vec}
+use Rattle.std.specs.declared.{alloc.Global.Global, vec.Vec.Vec}
 use Rattle.star_query.specs.Symbols.{Symbol, keyword, sign, additive, name, number, text}
-use Rattle.star_query.specs.Private.Lexed.{symbol_of}
-use Rattle.star_query.specs.Maxima.{limit, most_nestings}
+use Rattle.star_query.specs.{Private.Lexed.symbol_of, Maxima.limit, Maxima.most_nestings, Views.name_view, Views.expression_view, Views.literal_view, Views.condition_view}
 use Rattle.star_query.specs.Private.Phrases.{ident, factor_tree, term_tree, expr_tree, lit_tree, unit_tree, conj_tree, cond_tree}
 use Rattle.star_query.specs.Private.Machine.{UnitHole, factor_depth, term_depth, expr_depth, lit_depth, unit_depth, conj_depth, cond_depth, first_factor, first_term, first_unit, first_conj, ParserState, factor_wanted, give_factor, term_had, expr_had, lit_wanted, give_lit, unit_wanted, give_unit, conj_had, cond_had, Verdict, Bad, count_of_part, bump, plus, is_over, is_long, run}
-use Rattle.star_query.specs.Views.{name_view, expression_view, literal_view, condition_view}
 
 -- where the parser is: what is left, and how much was counted
 pub record Spot : Type 0 where

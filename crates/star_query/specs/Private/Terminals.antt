@@ -1,7 +1,6 @@
 -- Tokens that stand for themselves.
 use Rattle.std.specs.Prelude.{◌≡◌, Bool, true, false}
-use Rattle.star_query.specs.Symbols.{Symbol}
-use Rattle.star_query.specs.Private.Machine.{is_long}
+use Rattle.star_query.specs.{Symbols.Symbol, Private.Machine.is_long}
 
 -- two are `==` exactly where they have one symbol, and no symbol is too long
 pub record IsTerminal {A : Type 0} (eq : A → A → Bool) (symbol : A → Symbol) : Type 0 where

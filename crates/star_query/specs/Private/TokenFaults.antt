@@ -1,16 +1,10 @@
 -- The first fault of tokens.
 use Rattle.std.specs.Prelude.{◌≡◌, ℕ, List, ◌++◌, Result, Ok, Err}
-use Rattle.star_query.specs.declared.tree.Tree.{Tree}
+use Rattle.star_query.specs.declared.{tree.Tree.Tree, fault.Fault.Fault, fault.Fault.TheVariants.Unexpected, fault.Fault.TheVariants.TooDeep, fault.Fault.TheVariants.TooMany, fault.ParseError.ParseError, fault.QueryFault.QueryFault}
 use Rattle.star_query.specs.Tree as spec
-use Rattle.star_query.specs.Views.{tree_view}
-use Rattle.star_query.specs.declared.fault.Fault.{Fault}
-use Rattle.star_query.specs.declared.fault.Fault.TheVariants.{Unexpected, TooDeep, TooMany}
-use Rattle.star_query.specs.declared.fault.ParseError.{ParseError}
+use Rattle.star_query.specs.{Views.tree_view, Symbols.Placed, Symbols.symbols, Derives.FirstQueryFault, Derives.first_place}
 use Rattle.star_query.specs.declared.fault.ParseError.TheVariants as errors
-use Rattle.star_query.specs.declared.fault.QueryFault.{QueryFault}
 use Rattle.star_query.specs.declared.fault.QueryFault.TheVariants as faults
-use Rattle.star_query.specs.Symbols.{Placed, symbols}
-use Rattle.star_query.specs.Derives.{FirstQueryFault, first_place}
 
 -- the tokens have this first fault, before these that are left
 pub record TokensStopAt (tokens : List Placed) (fault : Fault) (left : List Placed) : Type 0 where

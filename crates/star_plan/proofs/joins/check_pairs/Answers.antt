@@ -1,6 +1,5 @@
 use Rattle.std.proofs.Common.{arith}
-use Rattle.star_plan.specs.Faults.{pair_fault}
-use Rattle.star_plan.specs.Private.Found.{pair_view}
+use Rattle.star_plan.specs.{Faults.pair_fault, Private.Found.pair_view}
 use Rattle.star_plan.proofs.Viewed.{beside_of_copy}
 use Rattle.star_plan.proofs.joins.check_pairs.Goals as goal
 

@@ -1,5 +1,4 @@
-use Rattle.star_plan.specs.Faults.{pair_fault}
-use Rattle.star_plan.specs.Private.Found.{pair_view}
+use Rattle.star_plan.specs.{Faults.pair_fault, Private.Found.pair_view}
 use Rattle.star_plan.proofs.Viewed.{BesideSoFar}
 use Rattle.star_plan.proofs.joins.check_pairs.Given as goal
 

@@ -1,6 +1,5 @@
 use Rattle.std.proofs.Common.{◌≡◌, ◌++◌, drop}
-use Rattle.star_plan.specs.Joins.{joins_of}
-use Rattle.star_plan.specs.Private.Found.{pairs_view}
+use Rattle.star_plan.specs.{Joins.joins_of, Private.Found.pairs_view}
 use Rattle.star_plan.proofs.joins.joins_of.Given as goal
 
 abbrev pub invariant-loop-pair : goal.invariant-loop-pair

@@ -1,9 +1,7 @@
 use Rattle.std.proofs.Common.{arith, map}
 use Rattle.star_query.specs.Views.{name_view, sort_key_view}
-use Rattle.star_plan.specs.Faults.{key_fault}
-use Rattle.star_plan.specs.Views.{names_view}
-use Rattle.star_plan.proofs.Exits.{tells}
-use Rattle.star_plan.proofs.Viewed.{answer_found}
+use Rattle.star_plan.specs.{Faults.key_fault, Views.names_view}
+use Rattle.star_plan.proofs.{Exits.tells, Viewed.answer_found}
 use Rattle.star_plan.proofs.order.sort_keys.Goals as goal
 
 pub returns-in_err-sort_key-clause-told : goal.returns-in_err-sort_key-clause-told

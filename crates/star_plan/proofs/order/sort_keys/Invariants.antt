@@ -1,11 +1,7 @@
 use Rattle.std.proofs.Common.{◌≡◌, drop, map}
 use Rattle.star_query.specs.Views.{name_view, sort_key_view}
-use Rattle.star_plan.specs.Faults.{key_fault}
-use Rattle.star_plan.specs.Resolved.{option_all}
-use Rattle.star_plan.specs.Naming.{resolved_key}
-use Rattle.star_plan.specs.Views.{names_view}
-use Rattle.star_plan.proofs.Options.{with_rest}
-use Rattle.star_plan.proofs.Viewed.{AnswerSoFar}
+use Rattle.star_plan.specs.{Faults.key_fault, Resolved.option_all, Naming.resolved_key, Views.names_view}
+use Rattle.star_plan.proofs.{Options.with_rest, Viewed.AnswerSoFar}
 use Rattle.star_plan.proofs.order.sort_keys.Given as goal
 
 abbrev pub invariant-loop-key : goal.invariant-loop-key

@@ -1,11 +1,8 @@
 use Rattle.std.proofs.Common.{◌∙◌, ◌+◌, ap, arith, map, sym}
 use Rattle.std.proofs.lemmas.Grind.{common_steps}
 use Rattle.star_query.specs.Views.{item_view, name_view}
-use Rattle.star_plan.specs.Faults.{item_fault}
-use Rattle.star_plan.specs.Views.{names_view}
-use Rattle.star_plan.proofs.Aggregates.{item_passed, names_taken, next_counted, next_named}
-use Rattle.star_plan.proofs.Exits.{tells}
-use Rattle.star_plan.proofs.Viewed.{beside_found}
+use Rattle.star_plan.specs.{Faults.item_fault, Views.names_view}
+use Rattle.star_plan.proofs.{Aggregates.item_passed, Aggregates.names_taken, Aggregates.next_counted, Aggregates.next_named, Exits.tells, Viewed.beside_found}
 use Rattle.star_plan.proofs.select.show_items.Goals as goal
 
 pub show_item-requires-clause-named : goal.show_item-requires-clause-named

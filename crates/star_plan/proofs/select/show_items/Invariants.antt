@@ -1,10 +1,7 @@
 use Rattle.std.proofs.Common.{◌≡◌, ◌≤◌, drop, length, map, take}
 use Rattle.star_query.specs.Views.{item_view, name_view}
-use Rattle.star_plan.specs.Faults.{item_fault}
-use Rattle.star_plan.specs.Naming.{aggregate_names}
-use Rattle.star_plan.specs.Resolved.{items_from}
-use Rattle.star_plan.proofs.Options.{with_rest}
-use Rattle.star_plan.proofs.Viewed.{BesideSoFar}
+use Rattle.star_plan.specs.{Faults.item_fault, Naming.aggregate_names, Resolved.items_from}
+use Rattle.star_plan.proofs.{Options.with_rest, Viewed.BesideSoFar}
 use Rattle.star_plan.proofs.select.show_items.Given as goal
 
 abbrev pub invariant-loop-item : goal.invariant-loop-item

@@ -1,7 +1,6 @@
 use Rattle.std.proofs.Common.{◌≡◌, ◌++◌, drop, map}
 use Rattle.star_query.specs.Views.{name_view}
-use Rattle.star_plan.specs.Private.Stages.{groups_uses}
-use Rattle.star_plan.specs.Private.Found.{uses_view}
+use Rattle.star_plan.specs.Private.{Stages.groups_uses, Found.uses_view}
 use Rattle.star_plan.proofs.uses.add_groups.Given as goal
 
 abbrev pub invariant-loop-name : goal.invariant-loop-name

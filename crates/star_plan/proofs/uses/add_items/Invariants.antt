@@ -1,7 +1,6 @@
 use Rattle.std.proofs.Common.{◌≡◌, ◌++◌, drop, map}
 use Rattle.star_query.specs.Views.{item_view}
-use Rattle.star_plan.specs.Private.Stages.{items_uses}
-use Rattle.star_plan.specs.Private.Found.{uses_view}
+use Rattle.star_plan.specs.Private.{Stages.items_uses, Found.uses_view}
 use Rattle.star_plan.proofs.uses.add_items.Given as goal
 
 abbrev pub invariant-loop-item : goal.invariant-loop-item

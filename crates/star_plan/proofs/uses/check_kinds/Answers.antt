@@ -1,6 +1,5 @@
 use Rattle.std.proofs.Common.{arith}
-use Rattle.star_plan.specs.Faults.{use_kind_fault}
-use Rattle.star_plan.specs.Private.Found.{use_view}
+use Rattle.star_plan.specs.{Faults.use_kind_fault, Private.Found.use_view}
 use Rattle.star_plan.proofs.Viewed.{answer_of_copy}
 use Rattle.star_plan.proofs.uses.check_kinds.Goals as goal
 

@@ -1,7 +1,6 @@
 -- The steps so far nest deep enough, so the others decide.
 use Rattle.std.proofs.Common.{◌≤◌, ◌↔◌, drop}
-use Rattle.star_program.specs.Code.{scan_depth}
-use Rattle.star_program.specs.CodeOfSteps.{code_of_steps}
+use Rattle.star_program.specs.{Code.scan_depth, CodeOfSteps.code_of_steps}
 use Rattle.star_program.proofs.body.+nesting.Given as goal
 
 abbrev pub invariant-Body::is_nested_within-loop-step :

@@ -1,8 +1,7 @@
 use Rattle.std.proofs.Common.{◌≡◌, ◌∙◌, rules, ap}
 use Rattle.std.specs.List.{slice_get}
 use Rattle.star_query.specs.Private.Quoted.{sign_by_bytes}
-use Rattle.star_query.proofs.Quotes.{same_text_piece}
-use Rattle.star_query.proofs.Signs.{sign_at}
+use Rattle.star_query.proofs.{Quotes.same_text_piece, Signs.sign_at}
 use Rattle.star_query.proofs.lexer.next_piece.Goals as goal
 
 pub returns-then-first-eq39 : goal.returns-then-first-eq39

@@ -1,8 +1,7 @@
 use Rattle.std.proofs.Common.{◌∙◌, arith, rules, sym}
 use Rattle.star_common.proofs.NumeralLemmas.{below_power}
-use Rattle.star_query.proofs.Lexing.{number_long, number_followed, number_too_long}
+use Rattle.star_query.proofs.{Lexing.number_long, Lexing.number_followed, Lexing.number_too_long, lexer.number.Goals.in_default-via-in-Some+then-width-le-MAX_DIGITS+else-not-begins_with_letter, lexer.number.Goals.in_default-via-in-Some+else-width-le-MAX_DIGITS, lexer.number.Goals.in_default-via-in_default}
 use Rattle.star_query.proofs.lexer.number.Goals as goal
-use Rattle.star_query.proofs.lexer.number.Goals.{in_default-via-in-Some+then-width-le-MAX_DIGITS+else-not-begins_with_letter, in_default-via-in-Some+else-width-le-MAX_DIGITS, in_default-via-in_default}
 
 pub invariant_of-result : goal.invariant_of-result
 invariant_of-result c =

@@ -1,8 +1,6 @@
 use Rattle.std.proofs.Common.{◌≡◌, ◌∙◌, ◌+◌, [], ◌∷◌, ◌++◌, sym, ap, subst, arith, map, List, drop}
 use Rattle.std.proofs.lemmas.List.{map-append}
-use Rattle.star_query.specs.Symbols.{Placed}
-use Rattle.star_query.specs.Private.Lexed.{front_piece, placed, symbol_of, with_tokens}
-use Rattle.star_query.specs.Private.Cut.{cut_of, cut_from, token}
+use Rattle.star_query.specs.{Symbols.Placed, Private.Lexed.front_piece, Private.Lexed.placed, Private.Lexed.symbol_of, Private.Lexed.with_tokens, Private.Cut.cut_of, Private.Cut.cut_from, Private.Cut.token}
 use Rattle.star_query.proofs.Lexing.{one_more_token, one_more_blank, first_bad, all_cut, fault_of_cut}
 use Rattle.star_query.proofs.lexer.tokens_of.Goals as goal
 

@@ -1,6 +1,5 @@
 use Rattle.std.proofs.Common.{◌≡◌, ◌-◌, ◌≤◌, length, map, drop}
-use Rattle.star_query.specs.Private.Cut.{cut_of, cut_from}
-use Rattle.star_query.specs.Private.Lexed.{placed, with_tokens}
+use Rattle.star_query.specs.Private.{Cut.cut_of, Cut.cut_from, Lexed.placed, Lexed.with_tokens}
 use Rattle.star_query.proofs.lexer.tokens_of.Given as goal
 
 abbrev pub invariant-loop-place : goal.invariant-loop-place

@@ -1,7 +1,6 @@
 use Rattle.std.proofs.Common.{◌∙◌, refl, ap}
-use Rattle.star_query.proofs.Tokens.{unquoted_doubled, unquoted_next}
+use Rattle.star_query.proofs.{Tokens.unquoted_doubled, Tokens.unquoted_next, parser.unquoted.Goals.then-doubled, parser.unquoted.Goals.else-doubled+in_ok-push}
 use Rattle.star_query.proofs.parser.unquoted.Goals as goal
-use Rattle.star_query.proofs.parser.unquoted.Goals.{then-doubled, else-doubled+in_ok-push}
 
 pub loop-byte-preserved : goal.loop-byte-preserved
 loop-byte-preserved c =

@@ -1,6 +1,5 @@
 use Rattle.star_schema.specs.Dictionary.{dictionary_of}
-use Rattle.star_schema.proofs.Dictionaries.{IsDictionary-dictionary_of}
-use Rattle.star_schema.proofs.TextPlaces.{nat_lt-high_in, nat_lt-low_in, nat_cmp-places}
+use Rattle.star_schema.proofs.{Dictionaries.IsDictionary-dictionary_of, TextPlaces.nat_lt-high_in, TextPlaces.nat_lt-low_in, TextPlaces.nat_cmp-places}
 use Rattle.star_schema.proofs.law.codes_compare_as_texts.Goals as goal
 
 pub returns : goal.returns

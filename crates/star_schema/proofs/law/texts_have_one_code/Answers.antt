@@ -1,8 +1,6 @@
 use Rattle.std.proofs.Common.{sym}
 use Rattle.star_schema.specs.Dictionary.{dictionary_of}
-use Rattle.star_schema.proofs.TextPlaces.{has_code}
-use Rattle.star_schema.proofs.Dictionaries.{IsDictionary-dictionary_of}
-use Rattle.star_schema.proofs.TextPlaces.{high_in-place, low_in-place}
+use Rattle.star_schema.proofs.{TextPlaces.has_code, Dictionaries.IsDictionary-dictionary_of, TextPlaces.high_in-place, TextPlaces.low_in-place}
 use Rattle.star_schema.proofs.law.texts_have_one_code.Goals as goal
 
 pub returns : goal.returns

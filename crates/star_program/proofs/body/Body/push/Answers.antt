@@ -1,9 +1,6 @@
 use Rattle.std.proofs.Common.{◌≡◌, ◌∙◌, ◌∷◌, ◌++◌, [], List, ap, refl}
-use Rattle.star_program.specs.Code.{Then, Each}
-use Rattle.star_program.specs.CodeOfSteps.{code_of_steps}
-use Rattle.star_program.specs.Private.Followed.{code_of_step, followed}
-use Rattle.star_program.specs.declared.body.Step.{Step}
-use Rattle.star_program.specs.declared.body.Step.TheVariants.{Act, Scan}
+use Rattle.star_program.specs.{Code.Then, Code.Each, CodeOfSteps.code_of_steps, Private.Followed.code_of_step, Private.Followed.followed}
+use Rattle.star_program.specs.declared.body.Step.{Step, TheVariants.Act, TheVariants.Scan}
 use Rattle.star_program.proofs.body.Body.push.Goals as goal
 
 code_push : (steps : List Step) (step : Step)

@@ -1,8 +1,6 @@
 use Rattle.std.proofs.Common.{◌++◌, ◌∙◌, ap}
-use Rattle.std.proofs.lemmas.Option.{slice_get-get_or}
-use Rattle.std.proofs.lemmas.Result.{on_ok_weaker}
-use Rattle.star_program.proofs.Text.WrittenLemmas.{act_text, all_steps, scan_text, step_more}
-use Rattle.star_program.proofs.Text.Depths.{rest_nested, step_small}
+use Rattle.std.proofs.lemmas.{Option.slice_get-get_or, Result.on_ok_weaker}
+use Rattle.star_program.proofs.Text.{WrittenLemmas.act_text, WrittenLemmas.all_steps, WrittenLemmas.scan_text, WrittenLemmas.step_more, Depths.rest_nested, Depths.step_small}
 use Rattle.star_program.proofs.spelling.body_lines.+writing.Goals as goal
 
 pub push_body-loop-step-preserved : goal.push_body-loop-step-preserved

@@ -1,11 +1,7 @@
 -- The lines of the steps still to come.
 use Rattle.std.proofs.Common.{◌≡◌, ◌≤◌, ◌+◌, ◌*◌, ◌++◌, drop}
 use Rattle.std.specs.List.{flat_map}
-use Rattle.star_program.specs.Code.{code_size, scan_depth}
-use Rattle.star_program.specs.CodeOfSteps.{code_of_steps}
-use Rattle.star_program.specs.Private.Followed.{code_of_step}
-use Rattle.star_program.specs.Text.Statements.{lines_of_code}
-use Rattle.star_program.specs.Text.Written.{written_line}
+use Rattle.star_program.specs.{Code.code_size, Code.scan_depth, CodeOfSteps.code_of_steps, Private.Followed.code_of_step, Text.Statements.lines_of_code, Text.Written.written_line}
 use Rattle.star_program.proofs.spelling.body_lines.+writing.Given as goal
 
 abbrev pub decreases-push_body : goal.decreases-push_body

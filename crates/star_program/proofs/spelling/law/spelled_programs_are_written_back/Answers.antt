@@ -1,5 +1,4 @@
-use Rattle.star_program.proofs.Text.Sayable.{only_spellable}
-use Rattle.star_program.proofs.Text.Spelled.{written}
+use Rattle.star_program.proofs.Text.{Sayable.only_spellable, Spelled.written}
 use Rattle.star_program.proofs.spelling.law.spelled_programs_are_written_back.Goals as goal
 
 pub returns-clause-written : goal.returns-clause-written

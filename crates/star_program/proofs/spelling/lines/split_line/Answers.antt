@@ -1,8 +1,7 @@
 use Rattle.std.proofs.Common.{◌≡◌, ◌==◌, ◌∙◌, Some, None, add-one, sym}
 use Rattle.std.specs.List.{position}
 use Rattle.std.proofs.lemmas.List.Quantifiers.{position-Some}
-use Rattle.star_program.proofs.Text.Positions.{position-None}
-use Rattle.star_program.proofs.Text.LineLemmas.{empty_lines, first_line, one_line}
+use Rattle.star_program.proofs.Text.{Positions.position-None, LineLemmas.empty_lines, LineLemmas.first_line, LineLemmas.one_line}
 use Rattle.star_program.proofs.spelling.lines.split_line.Goals as goal
 
 pub returns-then-is_empty-clause-line : goal.returns-then-is_empty-clause-line

@@ -1,7 +1,6 @@
 use Rattle.std.proofs.Common.{◌≡◌, ◌==◌, ◌||◌, ◌∙◌, Some, None, not, add-one, sym}
 use Rattle.std.specs.List.{position}
-use Rattle.star_program.proofs.Text.Positions.{position-None}
-use Rattle.star_program.proofs.Text.WordLemmas.{first_cut, first_last, first_quoted, spaces_alone}
+use Rattle.star_program.proofs.Text.{Positions.position-None, WordLemmas.first_cut, WordLemmas.first_last, WordLemmas.first_quoted, WordLemmas.spaces_alone}
 use Rattle.star_program.proofs.spelling.lines.split_word.Goals as goal
 
 pub returns-in_err-start-clause-word : goal.returns-in_err-start-clause-word

@@ -1,11 +1,7 @@
 use Rattle.std.proofs.Common.{◌∙◌, ◌++◌, Some, ap, append-nil, arith, inl, inr, map, refl, sym}
 use Rattle.std.proofs.lemmas.Result.{err_from_is_err_and}
-use Rattle.star_program.specs.Text.Said.{said_in}
-use Rattle.star_program.specs.Private.Drafts.{told}
-use Rattle.star_program.specs.Text.Lines.{lines_of}
-use Rattle.star_program.specs.Text.FirstFaults.{lines_fault}
-use Rattle.star_program.proofs.Text.PassedLines.{end_spelled, end_within, nothing_at_start, nothing_told}
-use Rattle.star_program.proofs.Text.FaultLemmas.{ended, text_fault_is}
+use Rattle.star_program.specs.{Text.Said.said_in, Private.Drafts.told, Text.Lines.lines_of, Text.FirstFaults.lines_fault}
+use Rattle.star_program.proofs.Text.{PassedLines.end_spelled, PassedLines.end_within, PassedLines.nothing_at_start, PassedLines.nothing_told, FaultLemmas.ended, FaultLemmas.text_fault_is}
 use Rattle.star_program.proofs.spelling.parsing.read_parts.Goals as goal
 
 pub loop-first-init : goal.loop-first-init

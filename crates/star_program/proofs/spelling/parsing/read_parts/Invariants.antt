@@ -1,9 +1,6 @@
 -- The lines so far have no fault, and say what the draft says.
 use Rattle.std.proofs.Common.{◌≡◌, ◌≤◌, ◌+◌, ◌++◌, Some, length, map}
-use Rattle.star_program.specs.Text.Said.{said_in}
-use Rattle.star_program.specs.Private.Drafts.{IsAt, told}
-use Rattle.star_program.specs.Text.Lines.{lines_of}
-use Rattle.star_program.specs.Text.FirstFaults.{lines_fault, start}
+use Rattle.star_program.specs.{Text.Said.said_in, Private.Drafts.IsAt, Private.Drafts.told, Text.Lines.lines_of, Text.FirstFaults.lines_fault, Text.FirstFaults.start}
 use Rattle.star_program.proofs.spelling.parsing.read_parts.Given as goal
 
 abbrev pub invariant-loop-first : goal.invariant-loop-first

@@ -1,12 +1,7 @@
 use Rattle.std.proofs.Common.{◌∙◌, arith}
-use Rattle.star_query.specs.Symbols.{sign, keyword}
-use Rattle.star_query.specs.declared.token.Sign.TheVariants.{Open}
-use Rattle.star_query.specs.declared.token.Keyword.TheVariants.{Not}
-use Rattle.star_query.specs.Private.Phrases.{lone_conj, lone_unit}
-use Rattle.star_query.specs.Private.Machine.{unit_wanted, first_unit, first_conj}
-use Rattle.star_query.specs.Private.Reads.{spot_of, verdict}
-use Rattle.star_query.proofs.Tokens.{shorter}
-use Rattle.star_query.proofs.Descent.{opened, not_opened}
+use Rattle.star_query.specs.{Symbols.sign, Symbols.keyword, Private.Phrases.lone_conj, Private.Phrases.lone_unit, Private.Machine.unit_wanted, Private.Machine.first_unit, Private.Machine.first_conj, Private.Reads.spot_of, Private.Reads.verdict}
+use Rattle.star_query.specs.declared.token.{Sign.TheVariants.Open, Keyword.TheVariants.Not}
+use Rattle.star_query.proofs.{Tokens.shorter, Descent.opened, Descent.not_opened}
 use Rattle.star_query.proofs.Filtering.{read_not, read_group, named_unit, one_more_unit, one_more_conj}
 use Rattle.star_query.proofs.parser.Parser.+condition.Goals as goal
 

@@ -1,7 +1,5 @@
-use Rattle.std.proofs.Common.{◌∙◌, ap, Err}
-use Rattle.std.proofs.lemmas.Result.{err_from_is_err_and}
-use Rattle.star_query.specs.Private.Reads.{spot_of}
-use Rattle.star_query.proofs.Queries.{read_aggregate, bad_aggregate}
+use Rattle.star_query.specs.Private.{Reads.spot_of, Clauses.ReadsAggregate}
+use Rattle.star_query.proofs.{Queries.read_aggregate, Queries.bad_aggregate, Descent.failed}
 use Rattle.star_query.proofs.parser.Parser.aggregate.Goals as goal
 
 pub returns-clause-reads : goal.returns-clause-reads
@@ -12,8 +10,7 @@ returns-clause-reads c =
 
 pub returns-in_err-name-clause-reads : goal.returns-in_err-name-clause-reads
 returns-in_err-name-clause-reads c =
-    let e = err_from_is_err_and c.from_residual-in_err-name.result
-    c.from_residual-in_err-name.ensures.1 in
-    bad_aggregate c.args.function (spot_of c.args.self.now) (spot_of c.measure.new.self)
-    (spot_of c.alias.new.self) c.in_ok-measure.measure c.from_residual-in_err-name.result _
-    (e.1 ∙ ap Err e.2) c.in_ok-measure.ensures.reads c.in_err-name.ensures.reads
+    failed (ReadsAggregate c.args.function (spot_of c.args.self.now) (spot_of c.alias.new.self)) _ _
+    c.from_residual-in_err-name.ensures.1 (bad_aggregate c.args.function (spot_of c.args.self.now)
+    (spot_of c.measure.new.self) (spot_of c.alias.new.self) c.in_ok-measure.measure _
+    c.in_ok-measure.ensures.reads c.in_err-name.ensures.reads)

@@ -1,7 +1,5 @@
-use Rattle.std.proofs.Common.{◌∙◌, ap, Err}
-use Rattle.std.proofs.lemmas.Result.{err_from_is_err_and}
-use Rattle.star_query.specs.Private.Reads.{spot_of}
-use Rattle.star_query.proofs.Queries.{read_alias, read_no_alias, bad_alias}
+use Rattle.star_query.specs.Private.{Reads.spot_of, Clauses.ReadsAlias}
+use Rattle.star_query.proofs.{Queries.read_alias, Queries.read_no_alias, Queries.bad_alias, Descent.failed}
 use Rattle.star_query.proofs.parser.Parser.alias.Goals as goal
 
 pub returns-then-take-clause-reads : goal.returns-then-take-clause-reads
@@ -11,10 +9,9 @@ returns-then-take-clause-reads c =
 
 pub returns-in_err-name-clause-reads : goal.returns-in_err-name-clause-reads
 returns-in_err-name-clause-reads c =
-    let e = err_from_is_err_and c.from_residual.result c.from_residual.ensures.1 in
-    bad_alias (spot_of c.args.self.now) (spot_of c.take.new.self) (spot_of c.name.new.self)
-    c.from_residual.result _ (e.1 ∙ ap Err e.2) c.if-take.ensures.taken
-    c.in_err-name.ensures.reads
+    failed (ReadsAlias (spot_of c.args.self.now) (spot_of c.name.new.self)) _ _
+    c.from_residual.ensures.1 (bad_alias (spot_of c.args.self.now) (spot_of c.take.new.self)
+    (spot_of c.name.new.self) _ c.if-take.ensures.taken c.in_err-name.ensures.reads)
 
 pub returns-clause-reads : goal.returns-clause-reads
 returns-clause-reads c =

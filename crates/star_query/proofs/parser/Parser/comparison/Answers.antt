@@ -1,7 +1,5 @@
-use Rattle.std.proofs.Common.{◌∙◌, ap, Err}
-use Rattle.std.proofs.lemmas.Result.{err_from_is_err_and}
-use Rattle.star_query.specs.Private.Reads.{spot_of}
-use Rattle.star_query.proofs.Filtering.{read_comparison, bad_comparison}
+use Rattle.star_query.specs.Private.{Reads.spot_of, Reads.ReadsNamed, Machine.unit_wanted}
+use Rattle.star_query.proofs.{Filtering.read_comparison, Filtering.bad_comparison, Descent.failed}
 use Rattle.star_query.proofs.parser.Parser.comparison.Goals as goal
 
 pub returns-clause-reads : goal.returns-clause-reads
@@ -12,7 +10,7 @@ returns-clause-reads c =
 
 pub returns-in_err-column-clause-reads : goal.returns-in_err-column-clause-reads
 returns-in_err-column-clause-reads c =
-    let e = err_from_is_err_and c.from_residual.result c.from_residual.ensures.1 in
-    bad_comparison (spot_of c.args.self.now) (spot_of c.counted_name.new.self)
-    c.from_residual.result _ (e.1 ∙ ap Err e.2) c.requires.no_not c.requires.no_open
-    c.in_err-column.ensures.reads
+    failed (ReadsNamed unit_wanted (spot_of c.args.self.now) (spot_of c.counted_name.new.self)) _ _
+    c.from_residual.ensures.1 (bad_comparison (spot_of c.args.self.now)
+    (spot_of c.counted_name.new.self) _ c.requires.no_not c.requires.no_open
+    c.in_err-column.ensures.reads)

@@ -1,17 +1,15 @@
-use Rattle.std.proofs.Common.{◌∙◌, ap, Err}
-use Rattle.std.proofs.lemmas.Result.{err_from_is_err_and}
-use Rattle.star_query.specs.Private.Phrases.{ident}
-use Rattle.star_query.specs.Views.{name_view}
-use Rattle.star_query.specs.Private.Reads.{spot_of, IsName, NoName}
-use Rattle.star_query.proofs.Tokens.{no_name_there, token_counted, token_not_counted}
+use Rattle.std.proofs.Common.{◌∷◌, []}
+use Rattle.star_query.specs.{Private.Phrases.ident, Views.name_view, Private.Reads.spot_of, Private.Reads.IsName, Private.Reads.NoName}
+use Rattle.star_query.proofs.{Tokens.no_name_there, Tokens.token_counted, Tokens.token_not_counted, Descent.failed}
+use Rattle.star_query.specs.Private.Reads.{ReadsName}
 use Rattle.star_query.proofs.parser.Parser.counted_name.Goals as goal
 
 pub returns-in_err-count-clause-reads : goal.returns-in_err-count-clause-reads
 returns-in_err-count-clause-reads c =
-    let e = err_from_is_err_and c.from_residual.result c.from_residual.ensures.1 in
-    token_not_counted (λ n. ident (name_view n)) (Unit {0}) IsName NoName (λ none. none) c.args.part
-    (spot_of c.args.self.now) (spot_of c.count.new.self) c.from_residual.result _
-    (e.1 ∙ ap Err e.2) (c.if-not-is_name.ensures.found) c.in_err-count.ensures
+    failed (ReadsName (c.args.part ∷ []) (spot_of c.args.self.now) (spot_of c.count.new.self)) _ _
+    c.from_residual.ensures.1 (token_not_counted (λ n. ident (name_view n)) (Unit {0}) IsName NoName
+    (λ none. none) c.args.part (spot_of c.args.self.now) (spot_of c.count.new.self) _
+    (c.if-not-is_name.ensures.found) c.in_err-count.ensures)
 
 pub returns-clause-reads : goal.returns-clause-reads
 returns-clause-reads c =

@@ -1,14 +1,11 @@
-use Rattle.std.proofs.Common.{refl, Err}
 use Rattle.star_query.specs.Private.Reads.{spot_of}
-use Rattle.star_query.specs.declared.fault.Fault.TheVariants.{Unexpected}
-use Rattle.star_query.specs.declared.fault.ParseError.TheVariants as errors
 use Rattle.star_query.proofs.Queries.{bad_end, left_over}
 use Rattle.star_query.proofs.parser.Parser.end.Goals as goal
 
 pub returns-then-not-is_empty : goal.returns-then-not-is_empty
 returns-then-not-is_empty c =
-    bad_end {A = Unit {0}} (spot_of c.args.self.now) (spot_of c.take-semicolon.new.self)
-    c.take-semicolon.result (Err (errors.Fault Unexpected)) refl c.take-semicolon.ensures.taken
+    bad_end (spot_of c.args.self.now) (spot_of c.take-semicolon.new.self)
+    c.take-semicolon.result c.take-semicolon.ensures.taken
     c.take-semicolon.ensures.other
     (left_over c.take-semicolon.new.self c.is_empty.result c.is_empty.ensures
     c.if-not-is_empty.true)

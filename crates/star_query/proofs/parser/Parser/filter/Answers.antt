@@ -1,7 +1,5 @@
-use Rattle.std.proofs.Common.{◌∙◌, ap, Err}
-use Rattle.std.proofs.lemmas.Result.{err_from_is_err_and}
-use Rattle.star_query.specs.Private.Reads.{spot_of}
-use Rattle.star_query.proofs.Queries.{read_filter, read_no_filter, bad_filter}
+use Rattle.star_query.specs.Private.{Reads.spot_of, Clauses.ReadsFilter}
+use Rattle.star_query.proofs.{Queries.read_filter, Queries.read_no_filter, Queries.bad_filter, Descent.failed}
 use Rattle.star_query.proofs.parser.Parser.filter.Goals as goal
 
 pub returns-then-take : goal.returns-then-take
@@ -12,10 +10,9 @@ returns-then-take c =
 
 pub returns-in_err-condition : goal.returns-in_err-condition
 returns-in_err-condition c =
-    let e = err_from_is_err_and c.from_residual.result c.from_residual.ensures.1 in
-    bad_filter (spot_of c.args.self.now) (spot_of c.take.new.self) (spot_of c.condition.new.self)
-    c.from_residual.result _ (e.1 ∙ ap Err e.2) c.if-take.ensures.taken
-    c.in_err-condition.ensures.reads
+    failed (ReadsFilter (spot_of c.args.self.now) (spot_of c.condition.new.self)) _ _
+    c.from_residual.ensures.1 (bad_filter (spot_of c.args.self.now) (spot_of c.take.new.self)
+    (spot_of c.condition.new.self) _ c.if-take.ensures.taken c.in_err-condition.ensures.reads)
 
 pub returns : goal.returns
 returns c =

@@ -1,8 +1,6 @@
-use Rattle.std.proofs.Common.{◌∙◌, ap, refl, Err}
-use Rattle.std.proofs.lemmas.Result.{err_from_is_err_and}
-use Rattle.star_query.specs.Private.Phrases.{cube, rollup}
-use Rattle.star_query.specs.Private.Reads.{spot_of}
-use Rattle.star_query.proofs.Queries.{read_hiding, read_plain, bad_plain}
+use Rattle.std.proofs.Common.{refl}
+use Rattle.star_query.specs.Private.{Phrases.cube, Phrases.rollup, Reads.spot_of, Clauses.ReadsGroups}
+use Rattle.star_query.proofs.{Queries.read_hiding, Queries.read_plain, Queries.bad_plain, Descent.failed}
 use Rattle.star_query.proofs.parser.Parser.groups.Goals as goal
 
 pub returns-then-take : goal.returns-then-take
@@ -26,7 +24,7 @@ returns c =
 
 pub returns-in_err-columns : goal.returns-in_err-columns
 returns-in_err-columns c =
-    let e = err_from_is_err_and c.from_residual.result c.from_residual.ensures.1 in
-    bad_plain (spot_of c.args.self.now) (spot_of c.take.new.self) (spot_of c.take-2.new.self)
-    (spot_of c.several.new.self) c.from_residual.result _ (e.1 ∙ ap Err e.2)
-    c.if-take.ensures.other c.if-take-2.ensures.other c.in_err-columns.ensures.reads
+    failed (ReadsGroups (spot_of c.args.self.now) (spot_of c.several.new.self)) _ _
+    c.from_residual.ensures.1 (bad_plain (spot_of c.args.self.now) (spot_of c.take.new.self)
+    (spot_of c.take-2.new.self) (spot_of c.several.new.self) _ c.if-take.ensures.other
+    c.if-take-2.ensures.other c.in_err-columns.ensures.reads)

@@ -1,7 +1,5 @@
-use Rattle.std.proofs.Common.{◌∙◌, ap, Err}
-use Rattle.std.proofs.lemmas.Result.{err_from_is_err_and}
-use Rattle.star_query.specs.Private.Reads.{spot_of}
-use Rattle.star_query.proofs.Descent.{read_column, read_constant, read_negative, bad_column, bad_negative, bad_constant}
+use Rattle.star_query.specs.Private.Reads.{spot_of, ReadsOperand}
+use Rattle.star_query.proofs.Descent.{read_column, read_constant, read_negative, bad_column, bad_negative, bad_constant, failed}
 use Rattle.star_query.proofs.parser.Parser.operand.Goals as goal
 
 pub returns-then-is_name-clause-reads : goal.returns-then-is_name-clause-reads
@@ -11,9 +9,9 @@ returns-then-is_name-clause-reads c =
 
 pub returns-in_err-name-clause-reads : goal.returns-in_err-name-clause-reads
 returns-in_err-name-clause-reads c =
-    let e = err_from_is_err_and c.from_residual.result c.from_residual.ensures.1 in
-    bad_column (spot_of c.args.self.now) (spot_of c.counted_name.new.self) c.from_residual.result _
-    (e.1 ∙ ap Err e.2) c.if-is_name.ensures.found c.in_err-name.ensures.reads
+    failed (ReadsOperand (spot_of c.args.self.now) (spot_of c.counted_name.new.self)) _ _
+    c.from_residual.ensures.1 (bad_column (spot_of c.args.self.now)
+    (spot_of c.counted_name.new.self) _ c.if-is_name.ensures.found c.in_err-name.ensures.reads)
 
 pub returns-then-take-clause-reads : goal.returns-then-take-clause-reads
 returns-then-take-clause-reads c =
@@ -23,20 +21,17 @@ returns-then-take-clause-reads c =
 
 pub returns-in_err-number-clause-reads : goal.returns-in_err-number-clause-reads
 returns-in_err-number-clause-reads c =
-    let e = err_from_is_err_and c.from_residual-in_err-number.result
-    c.from_residual-in_err-number.ensures.1 in
-    bad_negative (spot_of c.args.self.now) (spot_of c.take.new.self)
-    (spot_of c.counted_number.new.self) c.from_residual-in_err-number.result _
-    (e.1 ∙ ap Err e.2) c.if-take.ensures.taken c.in_err-number.ensures.reads
+    failed (ReadsOperand (spot_of c.args.self.now) (spot_of c.counted_number.new.self)) _ _
+    c.from_residual-in_err-number.ensures.1 (bad_negative (spot_of c.args.self.now)
+    (spot_of c.take.new.self) (spot_of c.counted_number.new.self) _ c.if-take.ensures.taken
+    c.in_err-number.ensures.reads)
 
 pub returns-in_err-digits-clause-reads : goal.returns-in_err-digits-clause-reads
 returns-in_err-digits-clause-reads c =
-    let e = err_from_is_err_and c.from_residual-in_err-digits.result
-    c.from_residual-in_err-digits.ensures.1 in
-    bad_constant (spot_of c.args.self.now) (spot_of c.take.new.self)
-    (spot_of c.counted_number-2.new.self) c.from_residual-in_err-digits.result _
-    (e.1 ∙ ap Err e.2) c.if-take.ensures.other.1 c.if-is_name.ensures.other
-    c.if-take.ensures.other.0 c.requires c.in_err-digits.ensures.reads
+    failed (ReadsOperand (spot_of c.args.self.now) (spot_of c.counted_number-2.new.self)) _ _
+    c.from_residual-in_err-digits.ensures.1 (bad_constant (spot_of c.args.self.now)
+    (spot_of c.take.new.self) (spot_of c.counted_number-2.new.self) _ c.if-take.ensures.other.1
+    c.if-is_name.ensures.other c.if-take.ensures.other.0 c.requires c.in_err-digits.ensures.reads)
 
 pub returns-clause-reads : goal.returns-clause-reads
 returns-clause-reads c =

@@ -1,121 +1,85 @@
-use Rattle.std.proofs.Common.{◌∙◌, ap, Err, None}
-use Rattle.std.proofs.lemmas.Result.{err_from_is_err_and}
-use Rattle.star_query.specs.Private.Reads.{spot_of}
-use Rattle.star_query.specs.Private.Machine.{item_wanted, items_had, table_wanted, tables_had, filtered_had, grouped_had, done, filtered_by, grouped_by}
-use Rattle.star_query.proofs.Queries.{past_select, past_from, bad_from, bad_query, read_query}
+use Rattle.std.proofs.Common.{◌∙◌}
+use Rattle.star_query.specs.Private.{Reads.spot_of, Clauses.ReadsQuery, Lists.bad_along}
+use Rattle.star_query.specs.Private.Machine.{filtered_by, grouped_by}
+use Rattle.star_query.proofs.{Queries.past_select, Queries.past_from, Queries.bad_from, Queries.read_query, Descent.failed}
 use Rattle.star_query.proofs.parser.Parser.query.Goals as goal
 
 pub returns-in_err-items : goal.returns-in_err-items
 returns-in_err-items c =
-    let e = err_from_is_err_and c.from_residual-in_err-items.result
-    c.from_residual-in_err-items.ensures.1 in
-    bad_query (spot_of c.args.self.now) (spot_of c.expect.new.self) (spot_of c.several.new.self)
-    (item_wanted None) c.from_residual-in_err-items.result _ (e.1 ∙ ap Err e.2)
-    (past_select (spot_of c.args.self.now) (spot_of c.expect.new.self)
-    c.in_ok-expect.ensures.reads) (c.in_err-items.ensures.reads tt tt)
+    failed (ReadsQuery (spot_of c.args.self.now) (spot_of c.several.new.self)) _ _
+    c.from_residual-in_err-items.ensures.1 (bad_along _ (spot_of c.several.new.self) _ _
+    (past_select (spot_of c.args.self.now) (spot_of c.expect.new.self) c.in_ok-expect.ensures.reads)
+    (c.in_err-items.ensures.reads tt tt))
 
 pub returns-in_err-expect-2 : goal.returns-in_err-expect-2
 returns-in_err-expect-2 c =
-    let e = err_from_is_err_and c.from_residual-in_err-expect-2.result
-    c.from_residual-in_err-expect-2.ensures.1 in
-    bad_query (spot_of c.args.self.now) (spot_of c.several.new.self) (spot_of c.expect-2.new.self)
-    (items_had c.in_ok-items.ensures.reads.0) c.from_residual-in_err-expect-2.result _
-    (e.1 ∙ ap Err e.2) (past_select (spot_of c.args.self.now) (spot_of c.expect.new.self)
-    c.in_ok-expect.ensures.reads ∙ c.in_ok-items.ensures.reads.2 tt tt)
-    (bad_from (spot_of c.several.new.self) (spot_of c.expect-2.new.self)
-    c.in_ok-items.ensures.reads.0 _ c.in_ok-items.ensures.ends c.in_err-expect-2.ensures.reads)
+    failed (ReadsQuery (spot_of c.args.self.now) (spot_of c.expect-2.new.self)) _ _
+    c.from_residual-in_err-expect-2.ensures.1 (bad_along _ (spot_of c.expect-2.new.self) _ _
+    (past_select (spot_of c.args.self.now) (spot_of c.expect.new.self) c.in_ok-expect.ensures.reads
+    ∙ c.in_ok-items.ensures.reads.2 tt tt) (bad_from (spot_of c.several.new.self)
+    (spot_of c.expect-2.new.self) c.in_ok-items.ensures.reads.0 _ c.in_ok-items.ensures.ends
+    c.in_err-expect-2.ensures.reads))
 
 pub returns-in_err-tables : goal.returns-in_err-tables
 returns-in_err-tables c =
-    let e = err_from_is_err_and c.from_residual-in_err-tables.result
-    c.from_residual-in_err-tables.ensures.1 in
-    bad_query (spot_of c.args.self.now) (spot_of c.expect-2.new.self) (spot_of c.several-2.new.self)
-    (table_wanted c.in_ok-items.ensures.reads.0 None) c.from_residual-in_err-tables.result _
-    (e.1 ∙ ap Err e.2) (past_select (spot_of c.args.self.now) (spot_of c.expect.new.self)
-    c.in_ok-expect.ensures.reads ∙ c.in_ok-items.ensures.reads.2 tt tt
-    ∙ past_from (spot_of c.several.new.self) (spot_of c.expect-2.new.self)
-    c.in_ok-items.ensures.reads.0 c.in_ok-expect-2.ensures.reads)
-    (c.in_err-tables.ensures.reads c.in_ok-items.ensures.reads.0 tt)
+    failed (ReadsQuery (spot_of c.args.self.now) (spot_of c.several-2.new.self)) _ _
+    c.from_residual-in_err-tables.ensures.1 (bad_along _ (spot_of c.several-2.new.self) _ _
+    (past_select (spot_of c.args.self.now) (spot_of c.expect.new.self) c.in_ok-expect.ensures.reads
+    ∙ c.in_ok-items.ensures.reads.2 tt tt ∙ past_from (spot_of c.several.new.self)
+    (spot_of c.expect-2.new.self) c.in_ok-items.ensures.reads.0 c.in_ok-expect-2.ensures.reads)
+    (c.in_err-tables.ensures.reads c.in_ok-items.ensures.reads.0 tt))
 
 pub returns-in_err-condition : goal.returns-in_err-condition
 returns-in_err-condition c =
-    let e = err_from_is_err_and c.from_residual-in_err-condition.result
-    c.from_residual-in_err-condition.ensures.1 in
-    bad_query (spot_of c.args.self.now) (spot_of c.several-2.new.self) (spot_of c.filter.new.self)
-    (tables_had c.in_ok-items.ensures.reads.0 c.in_ok-tables.ensures.reads.0)
-    c.from_residual-in_err-condition.result _ (e.1 ∙ ap Err e.2)
-    (past_select (spot_of c.args.self.now) (spot_of c.expect.new.self)
-    c.in_ok-expect.ensures.reads ∙ c.in_ok-items.ensures.reads.2 tt tt
-    ∙ past_from (spot_of c.several.new.self) (spot_of c.expect-2.new.self)
-    c.in_ok-items.ensures.reads.0 c.in_ok-expect-2.ensures.reads
-    ∙ c.in_ok-tables.ensures.reads.2 c.in_ok-items.ensures.reads.0 tt)
-    (c.in_err-condition.ensures (c.in_ok-items.ensures.reads.0, c.in_ok-tables.ensures.reads.0)
-    tt)
+    failed (ReadsQuery (spot_of c.args.self.now) (spot_of c.filter.new.self)) _ _
+    c.from_residual-in_err-condition.ensures.1 (bad_along _ (spot_of c.filter.new.self) _ _
+    (past_select (spot_of c.args.self.now) (spot_of c.expect.new.self) c.in_ok-expect.ensures.reads
+    ∙ c.in_ok-items.ensures.reads.2 tt tt ∙ past_from (spot_of c.several.new.self)
+    (spot_of c.expect-2.new.self) c.in_ok-items.ensures.reads.0 c.in_ok-expect-2.ensures.reads
+    ∙ c.in_ok-tables.ensures.reads.2 c.in_ok-items.ensures.reads.0 tt) (c.in_err-condition.ensures
+    (c.in_ok-items.ensures.reads.0, c.in_ok-tables.ensures.reads.0) tt))
 
 pub returns-in_err-grouping : goal.returns-in_err-grouping
 returns-in_err-grouping c =
-    let e = err_from_is_err_and c.from_residual-in_err-grouping.result
-    c.from_residual-in_err-grouping.ensures.1 in
-    bad_query (spot_of c.args.self.now) (spot_of c.filter.new.self) (spot_of c.grouping.new.self)
-    (filtered_had (filtered_by c.in_ok-items.ensures.reads.0 c.in_ok-tables.ensures.reads.0
-    c.in_ok-condition.ensures.0)) c.from_residual-in_err-grouping.result _ (e.1 ∙ ap Err e.2)
-    (past_select (spot_of c.args.self.now) (spot_of c.expect.new.self)
-    c.in_ok-expect.ensures.reads ∙ c.in_ok-items.ensures.reads.2 tt tt
-    ∙ past_from (spot_of c.several.new.self) (spot_of c.expect-2.new.self)
-    c.in_ok-items.ensures.reads.0 c.in_ok-expect-2.ensures.reads
-    ∙ c.in_ok-tables.ensures.reads.2 c.in_ok-items.ensures.reads.0 tt
-    ∙ c.in_ok-condition.ensures.2
-    (c.in_ok-items.ensures.reads.0, c.in_ok-tables.ensures.reads.0) tt)
-    (c.in_err-grouping.ensures
+    failed (ReadsQuery (spot_of c.args.self.now) (spot_of c.grouping.new.self)) _ _
+    c.from_residual-in_err-grouping.ensures.1 (bad_along _ (spot_of c.grouping.new.self) _ _
+    (past_select (spot_of c.args.self.now) (spot_of c.expect.new.self) c.in_ok-expect.ensures.reads
+    ∙ c.in_ok-items.ensures.reads.2 tt tt ∙ past_from (spot_of c.several.new.self)
+    (spot_of c.expect-2.new.self) c.in_ok-items.ensures.reads.0 c.in_ok-expect-2.ensures.reads
+    ∙ c.in_ok-tables.ensures.reads.2 c.in_ok-items.ensures.reads.0 tt ∙ c.in_ok-condition.ensures.2
+    (c.in_ok-items.ensures.reads.0, c.in_ok-tables.ensures.reads.0) tt) (c.in_err-grouping.ensures
     (filtered_by c.in_ok-items.ensures.reads.0 c.in_ok-tables.ensures.reads.0
-    c.in_ok-condition.ensures.0) tt)
+    c.in_ok-condition.ensures.0) tt))
 
 pub returns-in_err-keys : goal.returns-in_err-keys
 returns-in_err-keys c =
-    let e = err_from_is_err_and c.from_residual-in_err-keys.result
-    c.from_residual-in_err-keys.ensures.1 in
-    bad_query (spot_of c.args.self.now) (spot_of c.grouping.new.self) (spot_of c.keys.new.self)
-    (grouped_had (grouped_by
+    failed (ReadsQuery (spot_of c.args.self.now) (spot_of c.keys.new.self)) _ _
+    c.from_residual-in_err-keys.ensures.1 (bad_along _ (spot_of c.keys.new.self) _ _ (past_select
+    (spot_of c.args.self.now) (spot_of c.expect.new.self) c.in_ok-expect.ensures.reads
+    ∙ c.in_ok-items.ensures.reads.2 tt tt ∙ past_from (spot_of c.several.new.self)
+    (spot_of c.expect-2.new.self) c.in_ok-items.ensures.reads.0 c.in_ok-expect-2.ensures.reads
+    ∙ c.in_ok-tables.ensures.reads.2 c.in_ok-items.ensures.reads.0 tt ∙ c.in_ok-condition.ensures.2
+    (c.in_ok-items.ensures.reads.0, c.in_ok-tables.ensures.reads.0) tt ∙ c.in_ok-grouping.ensures.2
     (filtered_by c.in_ok-items.ensures.reads.0 c.in_ok-tables.ensures.reads.0
-    c.in_ok-condition.ensures.0) c.in_ok-grouping.ensures.0)) c.from_residual-in_err-keys.result
-    _ (e.1 ∙ ap Err e.2) (past_select (spot_of c.args.self.now) (spot_of c.expect.new.self)
-    c.in_ok-expect.ensures.reads ∙ c.in_ok-items.ensures.reads.2 tt tt
-    ∙ past_from (spot_of c.several.new.self) (spot_of c.expect-2.new.self)
-    c.in_ok-items.ensures.reads.0 c.in_ok-expect-2.ensures.reads
-    ∙ c.in_ok-tables.ensures.reads.2 c.in_ok-items.ensures.reads.0 tt
-    ∙ c.in_ok-condition.ensures.2
-    (c.in_ok-items.ensures.reads.0, c.in_ok-tables.ensures.reads.0) tt
-    ∙ c.in_ok-grouping.ensures.2
-    (filtered_by c.in_ok-items.ensures.reads.0 c.in_ok-tables.ensures.reads.0
-    c.in_ok-condition.ensures.0) tt)
-    (c.in_err-keys.ensures (grouped_by
-    (filtered_by c.in_ok-items.ensures.reads.0 c.in_ok-tables.ensures.reads.0
-    c.in_ok-condition.ensures.0) c.in_ok-grouping.ensures.0) tt)
+    c.in_ok-condition.ensures.0) tt) (c.in_err-keys.ensures (grouped_by (filtered_by
+    c.in_ok-items.ensures.reads.0 c.in_ok-tables.ensures.reads.0 c.in_ok-condition.ensures.0)
+    c.in_ok-grouping.ensures.0) tt))
 
 pub returns-in_err-end : goal.returns-in_err-end
 returns-in_err-end c =
-    let e = err_from_is_err_and c.from_residual-in_err-end.result
-    c.from_residual-in_err-end.ensures.1 in
-    bad_query (spot_of c.args.self.now) (spot_of c.keys.new.self) (spot_of c.end.new.self)
-    (done (grouped_by (filtered_by c.in_ok-items.ensures.reads.0 c.in_ok-tables.ensures.reads.0
-    c.in_ok-condition.ensures.0) c.in_ok-grouping.ensures.0) c.in_ok-keys.ensures.0)
-    c.from_residual-in_err-end.result _ (e.1 ∙ ap Err e.2)
-    (past_select (spot_of c.args.self.now) (spot_of c.expect.new.self)
-    c.in_ok-expect.ensures.reads ∙ c.in_ok-items.ensures.reads.2 tt tt
-    ∙ past_from (spot_of c.several.new.self) (spot_of c.expect-2.new.self)
-    c.in_ok-items.ensures.reads.0 c.in_ok-expect-2.ensures.reads
-    ∙ c.in_ok-tables.ensures.reads.2 c.in_ok-items.ensures.reads.0 tt
-    ∙ c.in_ok-condition.ensures.2
-    (c.in_ok-items.ensures.reads.0, c.in_ok-tables.ensures.reads.0) tt
-    ∙ c.in_ok-grouping.ensures.2
+    failed (ReadsQuery (spot_of c.args.self.now) (spot_of c.end.new.self)) _ _
+    c.from_residual-in_err-end.ensures.1 (bad_along _ (spot_of c.end.new.self) _ _ (past_select
+    (spot_of c.args.self.now) (spot_of c.expect.new.self) c.in_ok-expect.ensures.reads
+    ∙ c.in_ok-items.ensures.reads.2 tt tt ∙ past_from (spot_of c.several.new.self)
+    (spot_of c.expect-2.new.self) c.in_ok-items.ensures.reads.0 c.in_ok-expect-2.ensures.reads
+    ∙ c.in_ok-tables.ensures.reads.2 c.in_ok-items.ensures.reads.0 tt ∙ c.in_ok-condition.ensures.2
+    (c.in_ok-items.ensures.reads.0, c.in_ok-tables.ensures.reads.0) tt ∙ c.in_ok-grouping.ensures.2
     (filtered_by c.in_ok-items.ensures.reads.0 c.in_ok-tables.ensures.reads.0
-    c.in_ok-condition.ensures.0) tt
-    ∙ c.in_ok-keys.ensures.2
-    (grouped_by (filtered_by c.in_ok-items.ensures.reads.0 c.in_ok-tables.ensures.reads.0
-    c.in_ok-condition.ensures.0) c.in_ok-grouping.ensures.0) tt)
-    (c.in_err-end.ensures (grouped_by
-    (filtered_by c.in_ok-items.ensures.reads.0 c.in_ok-tables.ensures.reads.0
-    c.in_ok-condition.ensures.0) c.in_ok-grouping.ensures.0) c.in_ok-keys.ensures.0)
+    c.in_ok-condition.ensures.0) tt ∙ c.in_ok-keys.ensures.2 (grouped_by (filtered_by
+    c.in_ok-items.ensures.reads.0 c.in_ok-tables.ensures.reads.0 c.in_ok-condition.ensures.0)
+    c.in_ok-grouping.ensures.0) tt) (c.in_err-end.ensures (grouped_by (filtered_by
+    c.in_ok-items.ensures.reads.0 c.in_ok-tables.ensures.reads.0 c.in_ok-condition.ensures.0)
+    c.in_ok-grouping.ensures.0) c.in_ok-keys.ensures.0))
 
 pub returns : goal.returns
 returns c =

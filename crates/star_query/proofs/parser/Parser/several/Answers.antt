@@ -1,8 +1,6 @@
-use Rattle.std.proofs.Common.{◌∙◌, ◌∷◌, ◌++◌, [], ap, arith, subst, sym, Err}
-use Rattle.std.proofs.lemmas.Result.{err_from_is_err_and}
+use Rattle.std.proofs.Common.{◌∙◌, ◌∷◌, ◌++◌, [], ap, arith}
 use Rattle.star_query.specs.Private.Reads.{spot_of}
-use Rattle.star_query.proofs.Tokens.{shorter}
-use Rattle.star_query.proofs.Queries.{comma_passed}
+use Rattle.star_query.proofs.{Tokens.shorter, Queries.comma_passed, Descent.failed}
 use Rattle.star_query.proofs.parser.Parser.several.Goals as goal
 
 pub loop-self-init : goal.loop-self-init
@@ -30,19 +28,14 @@ loop-self-preserved g c =
 
 pub returns-in_err-first-clause-reads : goal.returns-in_err-first-clause-reads
 returns-in_err-first-clause-reads g c =
-    let e = err_from_is_err_and c.from_residual.result c.from_residual.ensures.1 in
-    subst (g.L.Listing.ReadsAll (spot_of c.args.self.now) (spot_of c.read.new.parser))
-    (sym (e.1 ∙ ap Err e.2))
-    (g.met.L.Listing.is_list.bad_first (spot_of c.args.self.now) (spot_of c.read.new.parser) _
-    c.in_err-first.ensures.reads)
+    failed (g.L.Listing.ReadsAll (spot_of c.args.self.now) (spot_of c.read.new.parser)) _ _
+    c.from_residual.ensures.1 (g.met.L.Listing.is_list.bad_first (spot_of c.args.self.now)
+    (spot_of c.read.new.parser) _ c.in_err-first.ensures.reads)
 
 pub returns-in_err-next-clause-reads : goal.returns-in_err-next-clause-reads
 returns-in_err-next-clause-reads g c =
-    let e = err_from_is_err_and c.from_residual-in_err-next.result
-    c.from_residual-in_err-next.ensures.1 in
-    subst (g.L.Listing.ReadsAll (spot_of c.args.self.now) (spot_of c.read-in-loop-self.new.parser))
-    (sym (e.1 ∙ ap Err e.2))
-    (g.met.L.Listing.is_list.bad_next (spot_of c.args.self.now) (spot_of c.loop-self.self)
-    (spot_of c.take.new.self) (spot_of c.read-in-loop-self.new.parser) c.loop-self.several _
-    c.loop-self.invariant.reads (comma_passed _ _ c.loop-self-test.ensures.taken)
-    c.in_err-next.ensures.reads)
+    failed (g.L.Listing.ReadsAll (spot_of c.args.self.now) (spot_of c.read-in-loop-self.new.parser))
+    _ _ c.from_residual-in_err-next.ensures.1 (g.met.L.Listing.is_list.bad_next
+    (spot_of c.args.self.now) (spot_of c.loop-self.self) (spot_of c.take.new.self)
+    (spot_of c.read-in-loop-self.new.parser) c.loop-self.several _ c.loop-self.invariant.reads
+    (comma_passed _ _ c.loop-self-test.ensures.taken) c.in_err-next.ensures.reads)
