@@ -1,23 +1,15 @@
 -- An emitter writes pieces one behind another.
 use Rattle.std.proofs.Common.{◌≡◌, ℕ, ◌+◌, ◌≤◌, ◌<◌, List, [], ◌∷◌, ◌++◌, refl, sym, ap, subst, ◌∙◌, arith, append-nil, append_assoc, Result, Ok, Err, IfOk}
 use Rattle.std.specs.declared.alloc.AllocError.{AllocError}
-use Rattle.star_schema.specs.declared.column.ColumnId.{ColumnId}
-use Rattle.star_schema.specs.declared.table.TableId.{TableId}
+use Rattle.star_schema.specs.declared.{column.ColumnId.ColumnId, table.TableId.TableId}
 use Rattle.star_plan.specs.declared.tree.Join.{Join}
 use Rattle.star_query.specs.Limits.{operands_of, comparisons_of}
 use Rattle.star_query.specs.declared.token.Fold.{Fold}
 use Rattle.star_query.specs.Tree.{Expression, column, constant, add, sub, mul, or, and, not, test, compare, between, Measure, count, fold}
 use Rattle.star_plan.specs.Meaning.{RowCondition}
-use Rattle.star_program.specs.declared.op.Op.{Op}
-use Rattle.star_program.specs.declared.op.Op.TheVariants.{Assign, Keep}
-use Rattle.star_program.specs.declared.op.Operation.{Operation}
-use Rattle.star_program.specs.declared.op.Operation.TheVariants.{Binary}
-use Rattle.star_program.specs.declared.op.Operator.{Operator}
-use Rattle.star_program.specs.Code.{Code, Then}
+use Rattle.star_program.specs.declared.{op.Op.Op, op.Op.TheVariants.Assign, op.Op.TheVariants.Keep, op.Operation.Operation, op.Operation.TheVariants.Binary, op.Operator.Operator, body.Step.Step, body.Step.TheVariants.Act}
+use Rattle.star_program.specs.{Code.Code, Code.Then, Faults.target_of}
 use Rattle.star_program.specs.CodeOfSteps as step
-use Rattle.star_program.specs.Faults.{target_of}
-use Rattle.star_program.specs.declared.body.Step.{Step}
-use Rattle.star_program.specs.declared.body.Step.TheVariants.{Act}
 use Rattle.star_compile_laws.specs.Compiled.{Env, Rest, Rests, writes_one, register_count, column_code, expression_code, condition_code, conjunct_code, keys_code, values_code, one_before, binary_code, write, one_more}
 use Rattle.star_compile.specs.declared.emitter.Emitter.{Emitter}
 use Rattle.star_compile.specs.Private.Emitted.{Completed, steps_then, env_of, completed, Wrote, Writes, HasRegisterRoom, keys_after, value_after, values_after}

@@ -2,7 +2,7 @@
 use Rattle.std.proofs.Common.{◌≡◌, true, refl, FitsSigned, w64, to_z, of_z, to_z-of_z}
 use Rattle.std.specs.Prelude.{ℤ, pos, ◌+ℤ◌}
 use Rattle.star_query.specs.Spelled.{has_few_digits}
-use Rattle.star_compile_laws.proofs.Sayable.{constant_said, next_said, said_fits}
+use Rattle.star_compile_laws.proofs.Limits.{constant_said, next_said, said_fits}
 
 pub next_fits : (z : ℤ) → has_few_digits z ≡ true → FitsSigned w64 (to_z w64 (of_z w64 z) +ℤ pos 1)
 next_fits z h =

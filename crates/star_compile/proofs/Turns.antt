@@ -1,11 +1,8 @@
 -- A turn of the scan is its pieces, one behind another.
 use Rattle.std.proofs.Common.{◌≡◌, ℕ, ◌+◌, ◌≤◌, List, [], ◌∷◌, ◌++◌, refl, ap, ◌∙◌, arith}
 use Rattle.star_plan.specs.Meaning.{Plan}
-use Rattle.star_program.specs.declared.body.Step.{Step}
-use Rattle.star_program.specs.declared.body.Step.TheVariants.{Act}
-use Rattle.star_program.specs.declared.op.Op.TheVariants.{Put}
-use Rattle.star_program.specs.Code.{Code, Stop}
-use Rattle.star_program.specs.CodeOfSteps.{before, code_of_steps}
+use Rattle.star_program.specs.declared.{body.Step.Step, body.Step.TheVariants.Act, op.Op.TheVariants.Put}
+use Rattle.star_program.specs.{Code.Code, Code.Stop, CodeOfSteps.before, CodeOfSteps.code_of_steps}
 use Rattle.star_compile_laws.specs.Compiled.{Env, env_first, register_count, conjuncts_code, keys_code, values_code, put_code, turn_code}
 use Rattle.star_compile.specs.declared.emitter.Emitter.{Emitter}
 use Rattle.star_compile.specs.Private.Emitted.{Completed, steps_then, env_of, completed, Wrote, Writes, HasRegisterRoom}

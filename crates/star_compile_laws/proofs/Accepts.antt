@@ -1,508 +1,388 @@
--- Nothing but a range that leaves 64 bits refuses the conditions and the expressions of a compiled
--- program.
-use Rattle.std.proofs.Common.{◌≡◌, ℕ, ◌<◌, Bool, true, false, List, Option, Some, None, refl, sym, ap, subst, ◌∙◌}
-use Rattle.std.specs.Prelude.{ℤ, pos, ◌+ℤ◌, ◌-ℤ◌, ◌*ℤ◌, ◌&&◌}
-use Rattle.std.proofs.lemmas.Bool.{and_parts}
-use Rattle.star_schema.specs.declared.column.ColumnId.{ColumnId}
+-- What refuses the instructions of a compiled program: the first range that leaves 64 bits, or
+-- nothing.
+use Rattle.std.proofs.Common.{◌≡◌, ℕ, suc, ◌+◌, ◌*◌, ◌≤◌, ◌<◌, Bool, true, false, List, [], ◌∷◌, length, map, Option, Some, None, refl, sym, ap, subst, ◌∙◌, arith}
+use Rattle.std.proofs.lemmas.Bool.{and_parts, eq-eqb, lt-ltb, ne_eqb, or_from, true≢false}
+use Rattle.std.specs.Prelude.{pos, ◌&&◌, ◌||◌, not, nat_eq, nat_lt, if◌then◌else◌}
+use Rattle.std.specs.{List.list_all, Option.option_map, Option.option_or}
+use Rattle.star_schema.specs.declared.{table.TableId.TheVariants.Lineorder, column.ColumnId.ColumnId}
 use Rattle.star_schema.specs.declared.column.Kind.TheVariants as kind
 use Rattle.star_schema.specs.Schema.{kind_of, table_of}
-use Rattle.star_schema.specs.Tables.{Value, Number, Text, kind_of_value}
 use Rattle.star_schema.proofs.Same.{column_itself}
-use Rattle.star_interval.specs.Range.{Range, only, corner_range, fits_i64}
-use Rattle.star_query.specs.declared.token.Relation.{Relation}
-use Rattle.star_query.specs.declared.token.Relation.TheVariants as sign
-use Rattle.star_plan.specs.declared.tree.Join.{Join}
-use Rattle.star_query.specs.Tree.{Expression, column, constant, add, sub, mul, or, and, not, test, compare, between}
-use Rattle.star_plan.specs.Meaning.{RowCondition}
-use Rattle.star_plan.specs.Names.{same_kind}
-use Rattle.star_plan.specs.Sound.{in_scope, condition_is_sound, expression_is_sound}
-use Rattle.star_plan.specs.Spelled.{value_is_spelled, condition_is_spelled}
-use Rattle.star_plan.specs.Fits.{expression_range, nodes_fit}
-use Rattle.star_program.specs.declared.op.Edge.{Edge}
-use Rattle.star_program.specs.declared.op.Edge.TheVariants.{Low, High}
-use Rattle.star_program.specs.declared.op.Operation.{Operation}
-use Rattle.star_program.specs.declared.op.Operation.TheVariants as operation
-use Rattle.star_program.specs.declared.op.Operator.{Operator}
-use Rattle.star_program.specs.declared.op.Operator.TheVariants as operator
-use Rattle.star_program.specs.declared.value.Kind.TheVariants as kinds
-use Rattle.star_program.specs.declared.fault.Fault.TheVariants.{BadColumn}
-use Rattle.star_program.specs.Code.{Code}
-use Rattle.star_program.specs.Faults.{Kinds, unless, is_number_kind, is_flag_kind, is_ordered, compares_with, compare_fault, both_fault, binary_fault}
-use Rattle.star_program.specs.World.{is_column, is_text}
-use Rattle.star_safety.specs.Ranges.{Reach, no_reach, joined_reach, Known, KnownNumber, KnownPlace, KnownFlag, known_kind, kinds_known, known_number, answer_known, known_arithmetic}
-use Rattle.star_safety.specs.Refusals.{overflow_of}
-use Rattle.star_compile_laws.specs.Compiled.{Env, Rest, write, binary_code, column_code, start_of, end_behind, beside, equal_code, test_code, between_code, condition_code, expression_code}
-use Rattle.star_compile_laws.proofs.Constants.{constant_fits, next_fits}
-use Rattle.star_compile_laws.proofs.ForeignKeys.{AreForeign}
-use Rattle.star_compile_laws.proofs.Joins.{holds_numbers, holds_texts}
-use Rattle.star_compile_laws.proofs.Points.{Turn, both_none, known_fits}
-use Rattle.star_compile_laws.proofs.Points as points
-use Rattle.star_compile_laws.proofs.AcceptsColumns.{number_known, text_known}
-use Rattle.star_compile_laws.proofs.AcceptsColumns as columns
+use Rattle.star_interval.specs.Range.{fits_i64}
+use Rattle.star_query.specs.declared.token.Fold.{Fold, TheVariants.Sum, TheVariants.Min, TheVariants.Max}
+use Rattle.star_query.specs.Tree.{Expression, Measure, add, column, constant, count, fold, mul, sub}
+use Rattle.star_plan.specs.{Fits.expression_range, Fits.measure_fits, Fits.nodes_fit, Meaning.aggregate_of, Meaning.Plan, Meaning.RowCondition, Names.same_kind, Sound.IsSoundPlan, Sound.in_scope}
+use Rattle.star_program.specs.declared.{fault.Fault.TheVariants.BadGroup, fault.Fault.TheVariants.BadRegister, fault.Fault.TheVariants.WrittenTwice, op.Op.TheVariants.Assign, op.Op.TheVariants.Keep, op.Op.TheVariants.Put, op.Operation.Operation, op.Operation.TheVariants.Read, program.Parts.Parts}
+use Rattle.star_program.specs.declared.group.GroupKey.TheVariants as key
+use Rattle.star_program.specs.{Code.Code, Code.Stop, Code.Then, Values.with_entry, World.World, World.is_column, World.is_text}
+use Rattle.star_program.specs.Faults.{fault_of, fits_key, is_flag_kind, is_number_kind, keys_fault, numbers_fault, operand_fault, place_fault, unless, value_count}
+use Rattle.star_safety.specs.declared.reason.Reason.{Reason, TheVariants.Faulty, TheVariants.Overflow}
+use Rattle.star_safety.specs.{Contexts.Context, Contexts.after_op, Contexts.at_first, Private.Forward.first_reason, Private.Forward.none_open, Private.Forward.open_with, Standing.at_place}
+use Rattle.star_safety.specs.Ranges.{AllKnown, Known, KnownFlag, KnownNumber, KnownRow, kinds_known, known_kind, loaded_known}
+use Rattle.star_safety.specs.Refusals.{op_reason, overflow_of, reached, refuses, target_again}
+use Rattle.star_safety.proofs.Instructions.{both_none}
+use Rattle.star_compile_laws.specs.Compiled.{body_code, compiled, key_of_group, register_count, turn_code}
+use Rattle.star_compile_laws.specs.Wide.{Computed, computed, first_wide, given, too_wide, turn_wide}
+use Rattle.star_compile_laws.proofs.Contents.{AllHold, Content, Makes, OfColumn, OfCondition, OfExpression, numbers_put}
+use Rattle.star_compile_laws.proofs.{Entries.entry_other, Entries.entry_same, Joins.holds_numbers}
+use Rattle.star_compile_laws.proofs.Pieces.{IsKept, Law, Stays, conjuncts_grade, expression_grade, made, of_turn, values_grade}
+use Rattle.star_compile_laws.proofs.Suits.{Agree, AgreeAt, AreColumnsI64, Point, Suits, at_of, fits, fits_zero, in_turn, number_known, operand, suits}
+use Rattle.star_compile_laws.proofs.Suits as known
 
-module _ (turn : Turn) where
-  abbrev Point : Type 0
-  Point = columns.Point turn
+pub or_none_right : {A : Type 0} (o : Option A) → option_or o None ≡ o
+or_none_right None = refl
+or_none_right (Some x) = refl
 
-  abbrev At : Known → Point → ℕ → Type 0
-  At = columns.At turn
+entry_agrees : (b : Bool) (v : Known) (n m : Computed) (o : Option Known) → AgreeAt (Some v) n
+    → AgreeAt o m → AgreeAt (if b then Some v else o) (if b then n else m)
+entry_agrees true v n m o new old = new
+entry_agrees false v n m o new old = old
 
-  abbrev Suits : Operation → Known → Point → Type 0
-  Suits = columns.Suits turn
+overflow_is : (w : World) (v : Known) (n : Computed) → AgreeAt (Some v) n → (b : Bool)
+    → fits v ≡ b → overflow_of w v ≡ (if b then None else Some (too_wide w.bounds n))
+unfolding reached
+overflow_is w (KnownNumber r reach origin) n agree b e =
+    (λ i. refuses (not (e i)) (Overflow (agree.range i).low (agree.range i).high
+    (reached w (agree.columns i))))
+    ∙ by b
+  where
+    by : (b : Bool) → refuses (not b) (too_wide w.bounds n)
+        ≡ (if b then None else Some (too_wide w.bounds n))
+    by true = refl
+    by false = refl
+overflow_is w _ n agree true e = refl
+overflow_is w _ n agree false e = absurd (true≢false (sym fits_zero ∙ e))
+
+-- nothing refuses it but the first range that is too wide; and if nothing does, what follows fits;
+-- where that is asked for, nothing refuses what fits
+pub record Judged (Asked : Type 0) (b : Bool) (o wide : Option (ℕ × Reason)) : Type 0 where
+  pub first : o ≡ wide
+  pub fit : o ≡ None → b ≡ true
+  pub none : Asked → b ≡ true → o ≡ None
+
+module _ (w : World) (p : Plan) (sound : IsSoundPlan p) (met : ℕ) (pending : ℕ → Bool) where
+  abbrev f : Parts
+  f = compiled p
+
+  abbrev Asked : Type 0
+  Asked = AreColumnsI64 w p
 
   abbrev column_known : ColumnId → Known
-  column_known = columns.column_known turn
+  column_known c = loaded_known w c (is_text c)
 
-  abbrev Declared : Point → Type 0
-  Declared = columns.Declared turn
+  abbrev Is : Content → Known → Type 0
+  Is = known.Is w p met
 
-  abbrev Judges : {A : Type 0} → Bool → (Point → A → Type 0) → (Env → A → Code) → Point → Code
-      → Type 0
-  Judges = columns.Judges turn
+  abbrev Holds : ℕ → Point → ℕ → Content → Type 0
+  Holds = known.Holds w p met
 
-  module _ (js : List Join) (foreign : AreForeign js)
-      (within : turn.Asked → (c : ColumnId) → is_text c ≡ false
-      → fits_i64 (turn.world.bounds c) ≡ true) where
-    -- ---- conditions
+  abbrev context : Point → Context
+  context a = in_turn met a.known a.written
 
-    -- a bound beside which a column's values are compared
-    record Bounds (c : ColumnId) (o : Operation) : Type 0 where
-      known : Known
-      suits : (p : Point) → Suits o known p
-      lies : turn.Asked → known_fits known ≡ true
-      ordered : is_ordered (known_kind known) ≡ true
-      column_ordered : is_ordered (known_kind (column_known c)) ≡ true
-      after : compares_with (Some (known_kind (column_known c))) (known_kind known) ≡ true
-      before : compares_with (Some (known_kind known)) (known_kind (column_known c)) ≡ true
+  abbrev node : Expression ColumnId → Bool → Bool
+  node = known.node w p met
 
-    const_bounds : (c : ColumnId) → is_text c ≡ false → (z : ℤ)
-        → (turn.Asked → fits_i64 (only z) ≡ true) → Bounds c (operation.Const z)
-    const_bounds c number z lies =
-        let e = sym (number_known turn.world c (is_text c) number) in record {
-          known = known_number (only z);
-          suits = λ p. record {
-            place = λ t. refl;
-            operands = refl;
-            source = λ g t. refl;
-            makes = refl;
-            range = λ t. refl;
-          };
-          lies = lies;
-          ordered = refl;
-          column_ordered = subst (λ v. is_ordered (known_kind v) ≡ true) e refl;
-          after = subst (λ v. compares_with (Some (known_kind v)) kinds.Number ≡ true) e refl;
-          before = subst (λ v. compares_with (Some kinds.Number) (known_kind v) ≡ true) e refl;
-        }
+  abbrev answer : Point → Code → Option (ℕ × Reason)
+  answer a code = first_reason w f pending (context a) a.at code
 
-    edge_bounds : (e : Edge) (c : ColumnId) → is_text c ≡ true → (text : List ℕ)
-        → Bounds c (operation.Edge e c text)
-    edge_bounds edge c is text =
-        let e = sym (text_known turn.world c (is_text c) is) in record {
-          known = KnownPlace c;
-          suits = λ p. record {
-            place = λ t. refl;
-            operands = ap (λ b. unless b BadColumn) is;
-            source = λ g t. refl;
-            makes = refl;
-            range = λ t. refl;
-          };
-          lies = λ s. refl;
-          ordered = refl;
-          column_ordered = subst (λ v. is_ordered (known_kind v) ≡ true) e refl;
-          after = subst (λ v. compares_with (Some (known_kind v)) (kinds.Place c) ≡ true) e
-              (column_itself c);
-          before = subst (λ v. compares_with (Some (kinds.Place c)) (known_kind v) ≡ true) e
-              (column_itself c);
-        }
+  abbrev wide : Point → Code → Option (ℕ × Reason)
+  wide a code = first_wide w.bounds a.computed a.at code
 
-    start_bounds : (c : ColumnId) (v : Value) → same_kind (kind_of c) (kind_of_value v) ≡ true
-        → (turn.Asked → value_is_spelled v ≡ true) → Bounds c (start_of c v)
-    start_bounds c (Number a) same spelled =
-        const_bounds c (holds_numbers c same) a (λ s. constant_fits a (spelled s))
-    start_bounds c (Text t) same spelled = edge_bounds Low c (holds_texts c same) t
+  -- registers from the next one on are not written yet, and there are enough of them
+  record Ready (n : ℕ) (a : Point) (code : Code) : Type 0 where
+    fresh : (q : ℕ) → n ≤ q → a.written q ≡ false
+    agree : Agree a.known a.computed
+    room : n + register_count code ≤ f.registers
 
-    end_bounds : (c : ColumnId) (v : Value) → same_kind (kind_of c) (kind_of_value v) ≡ true
-        → (turn.Asked → value_is_spelled v ≡ true) → Bounds c (end_behind c v)
-    end_bounds c (Number a) same spelled =
-        const_bounds c (holds_numbers c same) (a +ℤ pos 1) (λ s. next_fits a (spelled s))
-    end_bounds c (Text t) same spelled = edge_bounds High c (holds_texts c same) t
+  abbrev law : Law p
+  law = record {
+    Sound = Unit {0};
+    Spelled = Asked;
+    Grade = Bool;
+    Point = Point;
+    Holds = Holds;
+    Fact = λ b n a code. Ready n a code → Judged Asked b (answer a code) (wide a code);
+    node = node;
+    conjunct = λ d b. b;
+    last = true;
+  }
 
-    bound_judged : (c : ColumnId) (o : Operation) (b : Bounds c o) (p : Point) (k : Rest)
-        → Judges true (At b.known) k p (write o p.env k)
-    bound_judged c o b p k room =
-        points.surely turn (At b.known) k (known_fits b.known) p _ b.lies
-        (columns.written turn o b.known p k (λ h. b.suits p) room)
+  -- ---- instructions
 
-    -- an operation on a column and a bound
-    abbrev Uses : (c : ColumnId) (o : Operation) → Bounds c o → ℕ → (ℕ → Operation) → Type 0
-    Uses c o b x used =
-        (q : Point) (m : ℕ) → Declared q → At (column_known c) q x → At b.known q m
-        → Suits (used m) KnownFlag q
+  same_grade : (x : Content) (v : Known) → Is x v → fits v ≡ true → (b : Bool)
+      → made node x b ≡ b
+  same_grade (OfExpression a) v is e b =
+      ap (λ c. c && b) (sym (ap fits is.2) ∙ e)
+  same_grade _ v is e b = refl
 
-    beside_judged : (c : ColumnId) (o : Operation) (b : Bounds c o) (x : ℕ) (used : ℕ → Operation)
-        → Uses c o b x used → (p : Point) (k : Rest) → At (column_known c) p x
-        → Judges true (At KnownFlag) k p (beside o used p.env k)
-    beside_judged c o b x used uses p k at room =
-        let l : Rest = λ e m. write (used m) e k in
-        points.judged_then turn (At b.known) (At KnownFlag) l k true true p _
-        (bound_judged c o b p l room)
-        (λ a. columns.written turn (used a.out) KnownFlag a.after k
-        (λ h. uses a.after a.out h (columns.still turn (At b.known) l p _ a (column_known c) x at)
-        a.says)
-        a.room)
+  -- only its range can refuse an operation
+  reason_is : (n : ℕ) (a : Point) (o : Operation) (x : Content) (suit : Suits w p met n a o x)
+      (later : ℕ → Bool) → a.written n ≡ false → n < f.registers
+      → op_reason w f later (context a) (Assign n o) ≡ overflow_of w suit.v
+  reason_is n a (Read g b z) x suit later fresh below = let wrong = suit.plain in absurd (cc)
+  reason_is n a o x suit later fresh below =
+      let again : target_again a.written (Some n) ≡ None =
+      ap (λ b. unless (not b) WrittenTwice) fresh in
+      let fault : fault_of f true (target_again a.written (Some n)) (kinds_known a.known)
+      (Assign n o) ≡ None =
+      both_none _ _ (ap (λ b. unless b BadRegister) (lt-ltb n f.registers below))
+      (both_none _ _ again suit.operands) in
+      λ i. option_or (option_map Faulty (fault i))
+      (option_or (suit.source later n i) (overflow_of w (suit.makes i)))
 
-    -- an operator that compares
-    abbrev Compares : Operator → Type 0
-    Compares o =
-        ((registers : ℕ) (kinds : Kinds) (l r : ℕ)
-        → binary_fault registers kinds o l r ≡ compare_fault registers kinds l r)
-        × ((l r : Option Known) → answer_known o l r ≡ KnownFlag)
+  step : (g : Bool) (n : ℕ) (a : Point) (o : Operation) (x : Content) (rest : Code)
+      → Makes p.joins (Unit {0}) Asked (Holds n a) o x
+      → ((b : Point) → Stays law n a (n + 1) b → Holds (n + 1) b n x → law.Fact g (n + 1) b rest)
+      → law.Fact (made node x g) n a (Then (Assign n o) rest)
+  step g n a o x rest makes next ready = by (fits suit.v) refl
+    where
+      room : n + (1 + register_count rest) ≤ f.registers
+      room = ready.room
 
-    before_bound : (o : Operator) → Compares o → (c : ColumnId) (edge : Operation)
-        (b : Bounds c edge) (x : ℕ) → Uses c edge b x (λ m. operation.Binary o x m)
-    before_bound o is c edge b x = λ q m room at_x at_m. record {
-      place = λ t. refl;
-      operands = is.0 turn.parts.registers (kinds_known q.known) x m
-          ∙ columns.comparable turn q x m (column_known c) b.known room at_x at_m b.column_ordered
-          b.after;
-      source = λ g t. refl;
-      makes = is.1 (q.known x) (q.known m);
-      range = λ t. ap (overflow_of turn.world) (is.1 (q.known x) (q.known m));
-    }
+      suit : Suits w p met n a o x
+      suit = suits w p met sound n a o x (omega (arith, room)) ready.agree makes
 
-    after_bound : (o : Operator) → Compares o → (c : ColumnId) (edge : Operation)
-        (b : Bounds c edge) (x : ℕ) → Uses c edge b x (λ m. operation.Binary o m x)
-    after_bound o is c edge b x = λ q m room at_x at_m. record {
-      place = λ t. refl;
-      operands = is.0 turn.parts.registers (kinds_known q.known) m x
-          ∙ columns.comparable turn q m x b.known (column_known c) room at_m at_x b.ordered
-          b.before;
-      source = λ g t. refl;
-      makes = is.1 (q.known m) (q.known x);
-      range = λ t. ap (overflow_of turn.world) (is.1 (q.known m) (q.known x));
-    }
+      number' : Computed
+      number' = computed w.bounds a.computed o
 
-    less : Compares operator.Less
-    less = (λ registers kinds l r. refl, λ l r. refl)
+      after' : Point
+      after' = record {
+        at = a.at + 1;
+        known = with_entry a.known n suit.v;
+        written = λ r. a.written r || nat_eq n r;
+        computed = λ r. if nat_eq r n then number' else a.computed r;
+      }
 
-    at_most : Compares operator.LessOrEqual
-    at_most = (λ registers kinds l r. refl, λ l r. refl)
+      over : (b : Bool) → fits suit.v ≡ b
+          → op_reason w f (open_with pending rest) (context a) (Assign n o)
+          ≡ (if b then None else Some (too_wide w.bounds number'))
+      over b e =
+          reason_is n a o x suit (open_with pending rest) (ready.fresh n (omega arith))
+          (omega (arith, room))
+          ∙ overflow_is w suit.v number' suit.agree b e
 
-    equal : Compares operator.Equal
-    equal = (λ registers kinds l r. refl, λ l r. refl)
+      wide_is : (b : Bool) → fits suit.v ≡ b → wide a (Then (Assign n o) rest)
+          ≡ (if b then wide after' rest else Some (a.at, too_wide w.bounds number'))
+      wide_is b e =
+          ap (λ c. if c then wide after' rest else Some (a.at, too_wide w.bounds number'))
+          (ap fits_i64 (sym suit.agree.range) ∙ e)
 
-    within_judged : (c : ColumnId) (from upto : Operation) (b : Bounds c from) (d : Bounds c upto)
-        (x : ℕ) (p : Point) (k : Rest) → At (column_known c) p x
-        → Judges true (At KnownFlag) k p
-        (write from p.env (λ e m. beside upto (λ q. operation.Within x m q) e k))
-    within_judged c from upto b d x p k at room =
-        let l : Rest = λ e m. beside upto (λ q. operation.Within x m q) e k in
-        points.judged_then turn (At b.known) (At KnownFlag) l k true true p _
-        (bound_judged c from b p l room)
-        (λ a. let m = a.out in
-        let l2 : Rest = λ e q. write (operation.Within x m q) e k in
-        let at_x = columns.still turn (At b.known) l p _ a (column_known c) x at in
-        points.judged_then turn (At d.known) (At KnownFlag) l2 k true true a.after _
-        (bound_judged c upto d a.after l2 a.room)
-        (λ z. columns.written turn (operation.Within x m z.out) KnownFlag z.after k
-        (λ h. let there = columns.still turn (At d.known) l2 a.after _ z (column_known c) x at_x in
-        let first = columns.still turn (At d.known) l2 a.after _ z b.known m a.says in
-        record {
-          place = λ t. refl;
-          operands = both_none _ _
-              (columns.comparable turn z.after x m (column_known c) b.known h there first
-              b.column_ordered
-              b.after)
-              (columns.compares turn z.after x z.out (column_known c) d.known h there z.says
-              d.after);
-          source = λ g t. refl;
-          makes = refl;
-          range = λ t. refl;
-        }) z.room))
+      by : (b : Bool) → fits suit.v ≡ b
+          → Judged Asked (made node x g) (answer a (Then (Assign n o) rest))
+          (wide a (Then (Assign n o) rest))
+      by true e =
+          let later = next after' (λ r y h. (
+            omega (arith, h.0),
+            h.1,
+            entry_other a.known n r suit.v h.0 ∙ h.2,
+            h.3,
+            h.4,
+          )) (omega arith, suit.v, entry_same a.known n suit.v, suit.is, e)
+          (record {
+            fresh = λ q h. or_from (a.written q) (nat_eq n q) (ready.fresh q (omega arith))
+                (ne_eqb n q (omega arith));
+            agree = λ r. entry_agrees (nat_eq r n) suit.v number' (a.computed r) (a.known r)
+                suit.agree
+                (ready.agree r);
+            room = omega (arith, room);
+          }) in
+          let goes : answer a (Then (Assign n o) rest) ≡ answer after' rest =
+          λ i. option_or (at_place a.at (over true e i)) (first_reason w f pending
+          (in_turn met (with_entry a.known n (suit.makes i)) after'.written) (a.at + 1) rest) in
+          let grade = same_grade x suit.v suit.is e g in record {
+            first = goes ∙ later.first ∙ sym (wide_is true e);
+            fit = λ none. grade ∙ later.fit (sym goes ∙ none);
+            none = λ s h. goes ∙ later.none s (sym grade ∙ h);
+          }
+      by false e =
+          let goes : answer a (Then (Assign n o) rest)
+          ≡ Some (a.at, too_wide w.bounds number') =
+          ap (λ r. option_or (at_place a.at r) (first_reason w f pending
+          (after_op w f (context a) (Assign n o)) (a.at + 1) rest)) (over false e) in record {
+            first = goes ∙ sym (wide_is false e);
+            fit = λ none. (let wrong = sym goes ∙ none in absurd (cc));
+            none = λ s h. absurd (true≢false (sym (suit.sure g s h) ∙ e));
+          }
 
-    between_judged : (c : ColumnId) (x : ℕ) (from upto : Value)
-        → same_kind (kind_of c) (kind_of_value from) ≡ true
-        → same_kind (kind_of c) (kind_of_value upto) ≡ true
-        → (turn.Asked → value_is_spelled from ≡ true) → (turn.Asked → value_is_spelled upto ≡ true)
-        → (p : Point) (k : Rest) → At (column_known c) p x
-        → Judges true (At KnownFlag) k p (between_code c x from upto p.env k)
-    between_judged c x from upto kind_from kind_upto said_from said_upto p k at room =
-        within_judged c (start_of c from) (end_behind c upto)
-        (start_bounds c from kind_from said_from)
-        (end_bounds c upto kind_upto said_upto) x p k at room
+  keep : (g : Bool) (n : ℕ) (a : Point) (d : RowCondition) (r : ℕ) (rest : Code)
+      → Holds n a r (OfCondition d)
+      → ((b : Point) → Stays law n a n b → law.Fact g n b rest)
+      → law.Fact g n a (Then (Keep r) rest)
+  keep g n a d r rest at next ready =
+      let room = ready.room in
+      let fault : operand_fault f.registers (kinds_known a.known) is_flag_kind r ≡ None =
+      operand w p met n a is_flag_kind r KnownFlag (omega (arith, room))
+      (at_of w p met n a r (OfCondition d) KnownFlag at at.3) refl in
+      let later = next (record {
+        at = a.at + 1;
+        known = a.known;
+        written = λ q. a.written q || false;
+        computed = a.computed;
+      }) (λ q y h. h) (record {
+        fresh = λ q h. or_from (a.written q) false (ready.fresh q h) refl;
+        agree = ready.agree;
+        room = omega (arith, room);
+      }) in
+      subst (λ o. Judged Asked g o (wide a (Then (Keep r) rest)))
+      (λ i. option_or (at_place a.at (option_or (option_map Faulty (sym fault i)) None))
+      (first_reason w f pending (in_turn met a.known (λ q. a.written q || false)) (a.at + 1) rest))
+      later
 
-    not_judged : (y : ℕ) (p : Point) (k : Rest) → At KnownFlag p y
-        → Judges true (At KnownFlag) k p (write (operation.Not y) p.env k)
-    not_judged y p k at room =
-        columns.written turn (operation.Not y) KnownFlag p k
-        (λ h. record {
-          place = λ t. refl;
-          operands = columns.operand turn p is_flag_kind y KnownFlag h at refl;
-          source = λ g t. refl;
-          makes = refl;
-          range = λ t. refl;
-        })
-        room
+  -- ---- the put
 
-    equal_judged : (c : ColumnId) (x : ℕ) (v : Value)
-        → same_kind (kind_of c) (kind_of_value v) ≡ true → (turn.Asked → value_is_spelled v ≡ true)
-        → (p : Point) (k : Rest) → At (column_known c) p x
-        → Judges true (At KnownFlag) k p (equal_code c x v p.env k)
-    equal_judged c x (Number a) same said p k at room =
-        let b = start_bounds c (Number a) same said in
-        beside_judged c (operation.Const a) b x (λ m. operation.Binary operator.Equal x m)
-        (before_bound operator.Equal equal c (operation.Const a) b x) p k at room
-    equal_judged c x (Text t) same said p k at room =
-        between_judged c x (Text t) (Text t) same same said said p k at room
+  key_fits : (c : ColumnId) (b : Bool)
+      → fits_key (if b then key.Text c else key.Number) (known_kind (loaded_known w c b)) ≡ true
+  key_fits c true = column_itself c
+  key_fits c false = refl
 
-    test_judged : (s : Relation) (c : ColumnId) (x : ℕ) (v : Value)
-        → same_kind (kind_of c) (kind_of_value v) ≡ true → (turn.Asked → value_is_spelled v ≡ true)
-        → (p : Point) (k : Rest) → At (column_known c) p x
-        → Judges true (At KnownFlag) k p (test_code s c x v p.env k)
-    test_judged sign.Equal c x v same said p k at room = equal_judged c x v same said p k at room
-    test_judged sign.Unequal c x v same said p k at room =
-        let l : Rest = λ e y. write (operation.Not y) e k in
-        points.judged_then turn (At KnownFlag) (At KnownFlag) l k true true p _
-        (equal_judged c x v same said p l at room)
-        (λ a. not_judged a.out a.after k a.says a.room)
-    test_judged sign.Less c x v same said p k at room =
-        let b = start_bounds c v same said in
-        beside_judged c (start_of c v) b x (λ m. operation.Binary operator.Less x m)
-        (before_bound operator.Less less c (start_of c v) b x) p k at room
-    test_judged sign.AtMost c x (Number a) same said p k at room =
-        let b = start_bounds c (Number a) same said in
-        beside_judged c (operation.Const a) b x (λ m. operation.Binary operator.LessOrEqual x m)
-        (before_bound operator.LessOrEqual at_most c (operation.Const a) b x) p k at room
-    test_judged sign.AtMost c x (Text t) same said p k at room =
-        let b = end_bounds c (Text t) same said in
-        beside_judged c (operation.Edge High c t) b x (λ m. operation.Binary operator.Less x m)
-        (before_bound operator.Less less c (operation.Edge High c t) b x) p k at room
-    test_judged sign.Greater c x (Number a) same said p k at room =
-        let b = start_bounds c (Number a) same said in
-        beside_judged c (operation.Const a) b x (λ m. operation.Binary operator.Less m x)
-        (after_bound operator.Less less c (operation.Const a) b x) p k at room
-    test_judged sign.Greater c x (Text t) same said p k at room =
-        let b = end_bounds c (Text t) same said in
-        beside_judged c (operation.Edge High c t) b x
-        (λ m. operation.Binary operator.LessOrEqual m x)
-        (after_bound operator.LessOrEqual at_most c (operation.Edge High c t) b x) p k at room
-    test_judged sign.AtLeast c x v same said p k at room =
-        let b = start_bounds c v same said in
-        beside_judged c (start_of c v) b x (λ m. operation.Binary operator.LessOrEqual m x)
-        (after_bound operator.LessOrEqual at_most c (start_of c v) b x) p k at room
+  keys_fit : (n : ℕ) (a : Point) → n ≤ f.registers → (cs : List ColumnId) (ks : List ℕ)
+      → AllHold (Holds n a) (map OfColumn cs) ks
+      → (keys_fault f.registers (kinds_known a.known) (map key_of_group cs) ks ≡ None)
+      × (length ks ≡ length (map key_of_group cs))
+  keys_fit n a room [] [] h = (refl, refl)
+  keys_fit n a room (c ∷ cs) (r ∷ rs) h =
+      let later = keys_fit n a room cs rs h.1 in (
+        both_none _ _
+            (operand w p met n a (fits_key (key_of_group c)) r (column_known c) room
+            (at_of w p met n a r (OfColumn c) _ h.0 h.0.3) (key_fits c (is_text c)))
+            later.0,
+        ap suc later.1,
+      )
+  keys_fit n a room [] (r ∷ rs) h = absurd h
+  keys_fit n a room (c ∷ cs) [] h = absurd h
 
-    -- an operator on two flags
-    record TakesFlags (o : Operator) : Type 0 where
-      takes : (registers : ℕ) (kinds : Kinds) (l r : ℕ)
-          → binary_fault registers kinds o l r ≡ both_fault registers kinds is_flag_kind l r
-      makes : (l r : Option Known) → answer_known o l r ≡ KnownFlag
+  numbers_fit : (n : ℕ) (a : Point) → n ≤ f.registers → (ms : List (Measure ColumnId))
+      (vs : List ℕ) → AllHold (Holds n a) (numbers_put ms) vs
+      → (numbers_fault f.registers (kinds_known a.known) vs ≡ None)
+      × (length vs ≡ value_count (map aggregate_of ms))
+  numbers_fit n a room [] [] h = (refl, refl)
+  numbers_fit n a room [] (r ∷ rs) h = absurd h
+  numbers_fit n a room (count ∷ ms) vs h = numbers_fit n a room ms vs h
+  numbers_fit n a room (fold g x ∷ ms) [] h = absurd h
+  numbers_fit n a room (fold g x ∷ ms) (r ∷ rs) h =
+      let later = numbers_fit n a room ms rs h.1 in (
+        both_none _ _
+            (operand w p met n a is_number_kind r _ room
+            (at_of w p met n a r (OfExpression x) _ h.0 h.0.3.2) refl)
+            later.0,
+        ap suc later.1 ∙ counted g,
+      )
+    where
+      counted : (g : Fold) → suc (value_count (map aggregate_of ms))
+          ≡ value_count (aggregate_of (fold g x) ∷ map aggregate_of ms)
+      counted Sum = refl
+      counted Min = refl
+      counted Max = refl
 
-    conjunction : TakesFlags operator.And
-    conjunction = record { takes = λ registers kinds l r. refl; makes = λ l r. refl }
+  put : (n : ℕ) (a : Point) (ks vs : List ℕ) → AllHold (Holds n a) (map OfColumn p.keys) ks
+      → AllHold (Holds n a) (numbers_put p.measures) vs
+      → law.Fact true n a (Then (Put 0 ks vs) Stop)
+  put n a ks vs at_k at_v ready =
+      let room = ready.room in
+      let few : n ≤ f.registers = omega (arith, room) in
+      let gs = map aggregate_of p.measures in
+      let keys = keys_fit n a few p.keys ks at_k in
+      let numbers = numbers_fit n a few p.measures vs at_v in
+      let placed : place_fault f true (Put 0 ks vs) ≡ None =
+      λ j. unless (true && (eq-eqb (length ks) (length (map key_of_group p.keys)) keys.1 j
+      && eq-eqb (length vs) (value_count gs) numbers.1 j)) BadGroup in
+      let fault : fault_of f true None (kinds_known a.known) (Put 0 ks vs) ≡ None =
+      both_none _ _ placed (both_none _ _ keys.0 numbers.0) in
+      let none : answer a (Then (Put 0 ks vs) Stop) ≡ None =
+      λ j. option_or (at_place a.at (option_or (option_map Faulty (fault j)) None)) None in
+      record { first = none; fit = λ e. refl; none = λ s b. none }
 
-    disjunction : TakesFlags operator.Or
-    disjunction = record { takes = λ registers kinds l r. refl; makes = λ l r. refl }
+  kept : IsKept law
+  kept = record {
+    step = step;
+    column = λ g n a c r code ok h next ready.
+        (let oks = and_parts (in_scope p.joins (table_of c)) (same_kind (kind_of c) kind.Number)
+        (ok tt) in
+        let is = h.3 ∙ number_known w p met c (is_text c) (holds_numbers c oks.1) in
+        subst (λ b. Judged Asked (b && g) (answer a code) (wide a code))
+        (sym (sym (ap fits is) ∙ h.4))
+        (next (h.0, h.1, h.2, (is_column c, Some c, is), h.4) ready));
+    compared = λ n a t r ok h. h;
+    keep = keep;
+    put = put;
+  }
 
-    flags_judged : (o : Operator) → TakesFlags o → (x y : ℕ) (p : Point) (k : Rest)
-        → At KnownFlag p x → At KnownFlag p y
-        → Judges true (At KnownFlag) k p (write (operation.Binary o x y) p.env k)
-    flags_judged o is x y p k at_x at_y room =
-        columns.written turn (operation.Binary o x y) KnownFlag p k
-        (λ h. record {
-          place = λ t. refl;
-          operands = is.takes turn.parts.registers (kinds_known p.known) x y
-              ∙ columns.two_of turn p is_flag_kind x y KnownFlag KnownFlag h at_x at_y refl refl;
-          source = λ g t. refl;
-          makes = is.makes (p.known x) (p.known y);
-          range = λ t. ap (overflow_of turn.world) (is.makes (p.known x) (p.known y));
-        })
-        room
+  -- ---- a turn
 
-    abbrev JudgesFlag : RowCondition → Type 0
-    JudgesFlag c =
-        condition_is_sound js c ≡ true → (turn.Asked → condition_is_spelled c ≡ true)
-        → (p : Point) (k : Rest)
-        → Judges true (At KnownFlag) k p (condition_code js c p.env k)
+  together_is : (x y z g : Bool) → (x && (y && (z && g))) ≡ ((x && (y && z)) && g)
+  together_is true true z g = refl
+  together_is true false z g = refl
+  together_is false y z g = refl
 
-    -- and after its two parts
-    conditions_judged : (a b : RowCondition) (o : Operator) → TakesFlags o → JudgesFlag a
-        → JudgesFlag b → (condition_is_sound js a && condition_is_sound js b) ≡ true
-        → (turn.Asked → (condition_is_spelled a && condition_is_spelled b) ≡ true)
-        → (p : Point) (k : Rest)
-        → Judges true (At KnownFlag) k p
-        (binary_code (condition_code js a) (condition_code js b) o p.env k)
-    conditions_judged a b o is first second sound said p k room =
-        let parts = and_parts (condition_is_sound js a) (condition_is_sound js b) sound in
-        let says = λ (s : turn.Asked). and_parts (condition_is_spelled a) (condition_is_spelled b)
-        (said s) in
-        let l : Rest = λ e x. condition_code js b e (λ e y. write (operation.Binary o x y) e k) in
-        points.judged_then turn (At KnownFlag) (At KnownFlag) l k true true p _
-        (first parts.0 (λ s. (says s).0) p l room)
-        (λ x. let m : Rest = λ e y. write (operation.Binary o x.out y) e k in
-        points.judged_then turn (At KnownFlag) (At KnownFlag) m k true true x.after _
-        (second parts.1 (λ s. (says s).1) x.after m x.room)
-        (λ y. flags_judged o is x.out y.out y.after k
-        (columns.still turn (At KnownFlag) m x.after _ y KnownFlag x.out x.says) y.says y.room))
+  two : (x y t : Expression ColumnId) (g : Bool)
+      → ((h : Bool) → expression_grade law x h ≡ (nodes_fit w.bounds x && h))
+      → ((h : Bool) → expression_grade law y h ≡ (nodes_fit w.bounds y && h))
+      → expression_grade law x
+      (expression_grade law y (fits_i64 (expression_range w.bounds t) && g))
+      ≡ ((nodes_fit w.bounds x && (nodes_fit w.bounds y
+      && fits_i64 (expression_range w.bounds t))) && g)
+  two x y t g first second =
+      let z = fits_i64 (expression_range w.bounds t) in
+      first (expression_grade law y (z && g))
+      ∙ ap (λ b. nodes_fit w.bounds x && b) (second (z && g))
+      ∙ together_is (nodes_fit w.bounds x) (nodes_fit w.bounds y) z g
 
-    pub condition_judged : (c : RowCondition) → JudgesFlag c
-    condition_judged (or a b) sound said p k room =
-        conditions_judged a b operator.Or disjunction (condition_judged a) (condition_judged b)
-        sound said p k room
-    condition_judged (and a b) sound said p k room =
-        conditions_judged a b operator.And conjunction (condition_judged a) (condition_judged b)
-        sound said p k room
-    condition_judged (not a) sound said p k room =
-        let l : Rest = λ e x. write (operation.Not x) e k in
-        points.judged_then turn (At KnownFlag) (At KnownFlag) l k true true p _
-        (condition_judged a sound said p l room)
-        (λ x. not_judged x.out x.after k x.says x.room)
-    condition_judged (test (compare c s v)) sound said p k room =
-        let parts = and_parts (in_scope js (table_of c))
-        (same_kind (kind_of c) (kind_of_value v)) sound in
-        let l : Rest = λ e x. test_code s c x v e k in
-        points.judged_then turn (At (column_known c)) (At KnownFlag) l k true true p _
-        (columns.column_passes turn js foreign within c p l parts.0 room)
-        (λ x. test_judged s c x.out v parts.1 said x.after k x.says x.room)
-    condition_judged (test (between c from upto)) sound said p k room =
-        let parts = and_parts (in_scope js (table_of c))
-        (same_kind (kind_of c) (kind_of_value from) && same_kind (kind_of c) (kind_of_value upto))
-        sound in
-        let kinds = and_parts (same_kind (kind_of c) (kind_of_value from))
-        (same_kind (kind_of c) (kind_of_value upto)) parts.1 in
-        let says = λ (s : turn.Asked). and_parts (value_is_spelled from) (value_is_spelled upto)
-        (said s) in
-        let l : Rest = λ e x. between_code c x from upto e k in
-        points.judged_then turn (At (column_known c)) (At KnownFlag) l k true true p _
-        (columns.column_passes turn js foreign within c p l parts.0 room)
-        (λ x. between_judged c x.out from upto kinds.0 kinds.1 (λ s. (says s).0) (λ s. (says s).1)
-        x.after k x.says x.room)
+  nodes_are : (x : Expression ColumnId) (g : Bool)
+      → expression_grade law x g ≡ (nodes_fit w.bounds x && g)
+  nodes_are (column c) g = refl
+  nodes_are (constant z) g = refl
+  nodes_are (add x y) g = two x y (add x y) g (nodes_are x) (nodes_are y)
+  nodes_are (sub x y) g = two x y (sub x y) g (nodes_are x) (nodes_are y)
+  nodes_are (mul x y) g = two x y (mul x y) g (nodes_are x) (nodes_are y)
 
-    -- ---- expressions
+  measures_are : (ms : List (Measure ColumnId))
+      → values_grade law ms true ≡ list_all (measure_fits w.bounds) ms
+  measures_are [] = refl
+  measures_are (count ∷ ms) = measures_are ms
+  measures_are (fold g x ∷ ms) =
+      nodes_are x (values_grade law ms true) ∙ ap (λ b. nodes_fit w.bounds x && b) (measures_are ms)
 
-    -- a register holds a number of this range
-    abbrev pub Ranged : Range → Point → ℕ → Type 0
-    Ranged r p q =
-        (q < p.env.next)
-        × ((reach : Reach) × (o : Option ColumnId) × (p.known q ≡ Some (KnownNumber r reach o)))
+  grade_is : (ds : List RowCondition)
+      → conjuncts_grade law ds (values_grade law p.measures true)
+      ≡ list_all (measure_fits w.bounds) p.measures
+  grade_is [] = measures_are p.measures
+  grade_is (d ∷ ds) = grade_is ds
 
-    number_at : (p : Point) (q : ℕ) (r : Range) (h : Ranged r p q)
-        → At (KnownNumber r h.1.0 h.1.1) p q
-    number_at p q r h = (h.0, h.1.2)
+-- ---- the whole program
 
-    ranged : (r : Range) (reach : Reach) (o : Option ColumnId) (p : Point) (q : ℕ)
-        → At (KnownNumber r reach o) p q → Ranged r p q
-    ranged r reach o p q h = (h.0, (reach, o, h.1))
+first_agrees : (b : Bool)
+    → AgreeAt (if b then Some (KnownRow Lineorder) else None) (given (pos 0))
+first_agrees true = record { range = refl; columns = refl }
+first_agrees false = record { range = refl; columns = refl }
 
-    -- arithmetic on two numbers, by a range and what makes it
-    record Computes (o : Operator) (z : ℤ → ℤ → ℤ) : Type 0 where
-      takes : (registers : ℕ) (kinds : Kinds) (l r : ℕ)
-          → binary_fault registers kinds o l r ≡ both_fault registers kinds is_number_kind l r
-      makes : (l r : Option Known) → answer_known o l r ≡ known_arithmetic z l r
+some_room : (m : ℕ) → nat_lt 0 (1 + m + 0) ≡ true
+some_room m = grind arith
 
-    adds : Computes operator.Add ◌+ℤ◌
-    adds = record { takes = λ registers kinds l r. refl; makes = λ l r. refl }
-
-    subtracts : Computes operator.Sub ◌-ℤ◌
-    subtracts = record { takes = λ registers kinds l r. refl; makes = λ l r. refl }
-
-    multiplies : Computes operator.Mul ◌*ℤ◌
-    multiplies = record { takes = λ registers kinds l r. refl; makes = λ l r. refl }
-
-    operator_judged : (o : Operator) (z : ℤ → ℤ → ℤ) → Computes o z → (x y : ℕ) (a b : Range)
-        (p : Point) (k : Rest) → Ranged a p x → Ranged b p y
-        → Judges (fits_i64 (corner_range z a b)) (Ranged (corner_range z a b)) k p
-        (write (operation.Binary o x y) p.env k)
-    operator_judged o z is x y a b p k at_x at_y room =
-        let u = KnownNumber a at_x.1.0 at_x.1.1 in
-        let v = KnownNumber b at_y.1.0 at_y.1.1 in
-        let r = corner_range z a b in
-        let reach = joined_reach at_x.1.0 at_y.1.0 in
-        points.weaker turn (λ t. t) (At (KnownNumber r reach None)) (Ranged r) k (fits_i64 r) p _
-        (λ h. ranged r reach None h.after h.out h.says)
-        (columns.written turn (operation.Binary o x y) (KnownNumber r reach None) p k
-        (λ h. record {
-          place = λ t. refl;
-          operands = is.takes turn.parts.registers (kinds_known p.known) x y
-              ∙ columns.two_of turn p is_number_kind x y u v h (number_at p x a at_x)
-              (number_at p y b at_y) refl
-              refl;
-          source = λ g t. refl;
-          makes = is.makes (p.known x) (p.known y) ∙ λ i.
-              known_arithmetic z (at_x.1.2 i) (at_y.1.2 i);
-          range = λ t. ap (overflow_of turn.world)
-              (is.makes (p.known x) (p.known y) ∙ λ i.
-              known_arithmetic z (at_x.1.2 i) (at_y.1.2 i));
-        })
-        room)
-
-    abbrev JudgesRange : Expression ColumnId → Type 0
-    JudgesRange a =
-        expression_is_sound js a ≡ true → (p : Point) (k : Rest)
-        → Judges (nodes_fit turn.world.bounds a) (Ranged (expression_range turn.world.bounds a)) k p
-        (expression_code js a p.env k)
-
-    -- an operator after its two parts
-    two_judged : (a b : Expression ColumnId) (o : Operator) (z : ℤ → ℤ → ℤ) → Computes o z
-        → JudgesRange a
-        → JudgesRange b → (expression_is_sound js a && expression_is_sound js b) ≡ true
-        → (p : Point) (k : Rest)
-        → Judges
-        (nodes_fit turn.world.bounds a && (nodes_fit turn.world.bounds b
-        && fits_i64 (corner_range z (expression_range turn.world.bounds a)
-        (expression_range turn.world.bounds b))))
-        (Ranged (corner_range z (expression_range turn.world.bounds a)
-        (expression_range turn.world.bounds b))) k p
-        (binary_code (expression_code js a) (expression_code js b) o p.env k)
-    two_judged a b o z is first second sound p k room =
-        let parts = and_parts (expression_is_sound js a) (expression_is_sound js b) sound in
-        let q = expression_range turn.world.bounds a in
-        let r = expression_range turn.world.bounds b in
-        let c = corner_range z q r in
-        let l : Rest = λ e x. expression_code js b e (λ e y. write (operation.Binary o x y) e k) in
-        points.judged_then turn (Ranged q) (Ranged c) l k (nodes_fit turn.world.bounds a)
-        (nodes_fit turn.world.bounds b && fits_i64 c) p _
-        (first parts.0 p l room)
-        (λ x. let m : Rest = λ e y. write (operation.Binary o x.out y) e k in
-        points.judged_then turn (Ranged r) (Ranged c) m k (nodes_fit turn.world.bounds b)
-        (fits_i64 c) x.after _
-        (second parts.1 x.after m x.room)
-        (λ y. let v = KnownNumber q x.says.1.0 x.says.1.1 in
-        let at_x = columns.still turn (Ranged r) m x.after _ y v x.out
-        (number_at x.after x.out q x.says) in
-        operator_judged o z is x.out y.out q r y.after k
-        (ranged q x.says.1.0 x.says.1.1 y.after x.out at_x) y.says y.room))
-
-    pub expression_judged : (a : Expression ColumnId) → JudgesRange a
-    expression_judged (column c) sound p k room =
-        let parts = and_parts (in_scope js (table_of c)) (same_kind (kind_of c) kind.Number)
-        sound in
-        let is = number_known turn.world c (is_text c) (holds_numbers c parts.1) in
-        let r = turn.world.bounds c in
-        points.weaker turn (λ t. t) (At (KnownNumber r (is_column c) (Some c))) (Ranged r) k
-        (fits_i64 r) p _ (λ h. ranged r (is_column c) (Some c) h.after h.out h.says)
-        (subst (λ v. points.Judged turn (known_fits v) (At v) k p
-        (points.answer turn p (column_code js c p.env k))) is
-        (columns.column_judged turn js foreign within c p k parts.0 room))
-    expression_judged (constant z) sound p k room =
-        points.weaker turn (λ t. t) (At (known_number (only z))) (Ranged (only z)) k
-        (fits_i64 (only z))
-        p _ (λ h. ranged (only z) no_reach None h.after h.out h.says)
-        (columns.written turn (operation.Const z) (known_number (only z)) p k
-        (λ h. record {
-          place = λ t. refl;
-          operands = refl;
-          source = λ g t. refl;
-          makes =
-              refl;
-          range = λ t. refl;
-        })
-        room)
-    expression_judged (add a b) sound p k room =
-        two_judged a b operator.Add ◌+ℤ◌ adds (expression_judged a) (expression_judged b)
-        sound p k room
-    expression_judged (sub a b) sound p k room =
-        two_judged a b operator.Sub ◌-ℤ◌ subtracts (expression_judged a) (expression_judged b)
-        sound p k room
-    expression_judged (mul a b) sound p k room =
-        two_judged a b operator.Mul ◌*ℤ◌ multiplies (expression_judged a) (expression_judged b)
-        sound p k room
+-- the first of its instructions that is refused
+pub program_judged : (w : World) (p : Plan) → IsSoundPlan p
+    → Judged (AreColumnsI64 w p) (list_all (measure_fits w.bounds) p.measures)
+    (first_reason w (compiled p) none_open at_first 1 (compiled p).body) (turn_wide w.bounds p)
+program_judged w p sound =
+    let met = 1 * w.size Lineorder in
+    let pending = open_with none_open (body_code p) in
+    let known : AllKnown = with_entry (λ _. None) 0 (KnownRow Lineorder) in
+    let written = λ (q : ℕ). false || nat_eq 0 q in
+    let inside = first_reason w (compiled p) pending (in_turn met known written) 2 (turn_code p) in
+    let alone : first_reason w (compiled p) none_open at_first 1 (compiled p).body ≡ inside =
+    (λ j. option_or (at_place 1 (option_map Faulty
+    (option_or (unless (some_room (register_count (turn_code p)) j) BadRegister) None)))
+    (option_or inside None))
+    ∙ or_none_right inside in
+    let start : Point =
+    record { at = 2; known = known; written = written; computed = λ r. given (pos 0) } in
+    subst (λ o. Judged (AreColumnsI64 w p) (list_all (measure_fits w.bounds) p.measures) o
+    (turn_wide w.bounds p)) (sym alone)
+    (subst (λ b. Judged (AreColumnsI64 w p) b inside (turn_wide w.bounds p))
+    (grade_is w p sound met pending p.conjuncts)
+    (of_turn (law w p sound met pending) (kept w p sound met pending) (λ z. sound) (λ s. s.1) start
+    (omega arith, KnownRow Lineorder, refl, refl, fits_zero)
+    (record {
+      fresh = λ q h. ne_eqb 0 q (omega arith);
+      agree = λ r. first_agrees (nat_eq r 0);
+      room = omega arith;
+    })))

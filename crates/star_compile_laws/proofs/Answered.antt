@@ -1,40 +1,24 @@
 -- The outcomes of a compiled program are the query's answers.
 use Rattle.std.proofs.Common.{◌≡◌, ℕ, zero, suc, ◌<◌, true, false, List, [], ◌∷◌, length, Option, Some, None, refl, sym, ap, subst, ◌∙◌, arith}
-use mathlib.Core.Logic.{inl, inr}
-use Rattle.std.specs.Prelude.{pos, map, nat_lt, replicate, if◌then◌else◌}
-use Rattle.std.specs.List.{Contains, list_all}
-use Rattle.std.specs.Option.{option_map}
-use Rattle.std.specs.Ordering.{is_eq}
-use Rattle.std.proofs.lemmas.Bool.{and_parts}
-use mathlib.Core.List.{reverse, map-map}
-use Rattle.std.proofs.lemmas.List.{length-map}
-use Rattle.std.proofs.lemmas.List.Sorted.{IsPermutation-reverse, IsPermutation-sym}
+use mathlib.Core.{Logic.inl, Logic.inr, List.reverse, List.map-map}
+use Rattle.std.specs.Prelude.{pos, map, nat_lt, if◌then◌else◌}
+use Rattle.std.specs.{List.Contains, List.list_all, Option.option_map, Ordering.is_eq}
+use Rattle.std.proofs.lemmas.{Bool.and_parts, List.length-map, List.length-replicate, List.Sorted.IsPermutation-reverse, List.Sorted.IsPermutation-sym}
 use Rattle.star_common.proofs.Members.{from_contains_map}
-use Rattle.star_schema.specs.declared.table.TableId.{TableId}
-use Rattle.star_schema.specs.declared.table.TableId.TheVariants.{Lineorder}
-use Rattle.star_schema.specs.declared.column.ColumnId.{ColumnId}
-use Rattle.star_schema.specs.declared.group.Shape.{Shape}
+use Rattle.star_schema.specs.declared.{table.TableId.TableId, table.TableId.TheVariants.Lineorder, column.ColumnId.ColumnId, group.Shape.Shape}
 use Rattle.star_schema.specs.Groups.{Entry, GroupRow, IsGroup, IsMasked, AreGroups}
-use Rattle.star_schema.specs.Order.{value_cmp}
-use Rattle.star_schema.specs.Schema.{table_of}
-use Rattle.star_schema.specs.Tables.{Value, Number, Text}
+use Rattle.star_schema.specs.{Order.value_cmp, Schema.table_of, Tables.Value, Tables.Number, Tables.Text}
 use Rattle.star_plan.specs.Meaning.{Tables, Joined, joined_value, all_hold, measured, aggregate_of, joined_rows, plan_rows, entry_of, Plan}
 use Rattle.star_plan.specs.Sound.{in_scope, IsSoundPlan}
 use Rattle.star_program.specs.declared.group.GroupKey.TheVariants as declared
-use Rattle.star_program.specs.declared.key.KeyValue.{KeyValue}
+use Rattle.star_program.specs.declared.{key.KeyValue.KeyValue, program.Show.Show}
 use Rattle.star_program.specs.declared.key.KeyValue.TheVariants as key
-use Rattle.star_program.specs.declared.program.Show.{Show}
 use Rattle.star_program.specs.Keys as by_code
-use Rattle.star_program.specs.RowCells.{cell_of}
-use Rattle.star_program.specs.Outcome.{decoded, decoded_keys, decoded_row}
-use Rattle.star_program.specs.World.{World}
-use Rattle.star_compile_laws.specs.Compiled.{plan_group, key_of_group, plan_show}
+use Rattle.star_program.specs.{RowCells.cell_of, Outcome.decoded, Outcome.decoded_keys, Outcome.decoded_row, World.World}
+use Rattle.star_compile_laws.specs.{Compiled.plan_group, Compiled.key_of_group, Compiled.plan_show, Answers.AnswersThePlan, Answers.coded, Answers.update_of_row}
 use Rattle.star_query_meaning.proofs.GroupOrders.{groups_reordered}
-use Rattle.star_compile_laws.specs.Answers.{AnswersThePlan, coded, update_of_row}
-use Rattle.star_compile_laws.proofs.Comparisons.{code_eq}
-use Rattle.star_compile_laws.proofs.Elements.{map_same, contains_filtered, contains_numbers}
+use Rattle.star_compile_laws.proofs.{Comparisons.code_eq, Elements.map_same, Elements.contains_filtered, Elements.contains_numbers, Rows.row_of_fact, Rows.is_turn, Rows.joined_are, Rows.puts_the_rows}
 use Rattle.star_compile_laws.proofs.KeyCodes.{applied, applied_some, Keeps, entry_applied, row_applied, groups_applied}
-use Rattle.star_compile_laws.proofs.Rows.{row_of_fact, is_turn, joined_are, puts_the_rows}
 use Rattle.star_compile_laws.proofs.TurnRows.{Sees, Shows, IsTurn, numbers, place_in}
 
 -- ---- keys
@@ -104,14 +88,10 @@ masked_length (Some k ∷ m) (x ∷ ks) h = ap suc (masked_length m ks h.1)
 masked_length (None ∷ m) (x ∷ ks) h = ap suc (masked_length m ks h)
 masked_length _ _ h = absurd h
 
-replicate_length : {A : Type 0} (n : ℕ) (x : A) → length (replicate n x) ≡ n
-replicate_length zero x = refl
-replicate_length (suc n) x = ap suc (replicate_length n x)
-
 group_length : {K : Type 0} (s : Shape) (n : ℕ) (es : List (Entry K)) (m : List (Option K))
     → ((e : Entry K) → Contains es e → length e.keys ≡ n) → IsGroup s n es m → length m ≡ n
 group_length s n es m each (shown, inl h) = masked_length m h.0.keys h.2 ∙ each h.0 h.1
-group_length s n es m each (shown, inr all) = ap length all ∙ replicate_length n None
+group_length s n es m each (shown, inr all) = ap length all ∙ length-replicate n None
 
 module _ (ts : Tables) (w : World) (seen : Sees ts w) (p : Plan) (sound : IsSoundPlan p) where
   -- each selected row shows the group columns
@@ -142,8 +122,8 @@ module _ (ts : Tables) (w : World) (seen : Sees ts w) (p : Plan) (sound : IsSoun
   abbrev entries : List (Entry KeyValue)
   entries = map (update_of_row w p) (plan_rows ts p)
 
-  entry_kept : (a b : Entry KeyValue) → Contains (map (update_of_row w p) (plan_rows ts p)) a
-      → Contains (map (update_of_row w p) (plan_rows ts p)) b
+  entry_kept : (a b : Entry KeyValue) → Contains entries a
+      → Contains entries b
       → Keeps by_code.key_value_cmp value_cmp (decoded_at w p.keys) a.keys b.keys
   entry_kept a b g h =
       let x = from_contains_map (update_of_row w p) (plan_rows ts p) a g in
@@ -154,7 +134,7 @@ module _ (ts : Tables) (w : World) (seen : Sees ts w) (p : Plan) (sound : IsSoun
       (keys_kept w p.keys x.0 y.0 (row_shows x.0 x.1) (row_shows y.0 y.1)))
 
   entries_decoded : map (entry_applied (decoded_at w p.keys))
-      (map (update_of_row w p) (plan_rows ts p)) ≡ map (entry_of p) (plan_rows ts p)
+      entries ≡ map (entry_of p) (plan_rows ts p)
   entries_decoded =
       map-map (entry_applied (decoded_at w p.keys)) (update_of_row w p) (plan_rows ts p)
       ∙ map_same (λ r. entry_applied (decoded_at w p.keys) (update_of_row w p r)) (entry_of p)
@@ -166,7 +146,7 @@ module _ (ts : Tables) (w : World) (seen : Sees ts w) (p : Plan) (sound : IsSoun
       })
       (keys_decoded w p.keys r (row_shows r h)))
 
-  entry_length : (e : Entry KeyValue) → Contains (map (update_of_row w p) (plan_rows ts p)) e
+  entry_length : (e : Entry KeyValue) → Contains entries e
       → length e.keys ≡ length p.keys
   entry_length e h =
       let x = from_contains_map (update_of_row w p) (plan_rows ts p) e h in
@@ -174,7 +154,7 @@ module _ (ts : Tables) (w : World) (seen : Sees ts w) (p : Plan) (sound : IsSoun
       ∙ length-map p.keys (λ c. coded w c (joined_value c x.0))
 
   groups_the_rows : (us : List (Entry KeyValue)) (groups : List (GroupRow KeyValue))
-      → us ≡ reverse (map (update_of_row w p) (plan_rows ts p))
+      → us ≡ reverse entries
       → AreGroups by_code.key_value_cmp p.shape (length p.keys) (map aggregate_of p.measures) us
       groups
       → AreGroups value_cmp p.shape (length p.keys) (map aggregate_of p.measures)
@@ -182,7 +162,7 @@ module _ (ts : Tables) (w : World) (seen : Sees ts w) (p : Plan) (sound : IsSoun
   groups_the_rows us groups are h =
       let k = length p.keys in
       let gs = map aggregate_of p.measures in
-      let es = map (update_of_row w p) (plan_rows ts p) in
+      let es = entries in
       let turned = subst (λ us. AreGroups by_code.key_value_cmp p.shape k gs us groups) are h in
       let straight =
       groups_reordered by_code.key_value_cmp p.shape k gs (reverse es) es groups

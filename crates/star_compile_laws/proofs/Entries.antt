@@ -2,8 +2,7 @@
 use Rattle.std.proofs.Common.{◌≡◌, ◌⊎◌, inl, inr, ℕ, ◌+◌, ◌≤◌, ◌<◌, Bool, true, false, List, [], ◌∷◌, ◌++◌, Option, Some, None, refl, sym, ap, subst, ◌∙◌, arith}
 use Rattle.std.specs.Prelude.{nat_eq, if◌then◌else◌}
 use Rattle.std.specs.Option.{option_or}
-use Rattle.std.proofs.lemmas.Bool.{cond-true, cond-false, eq-eqb, ne_eqb}
-use Rattle.std.proofs.lemmas.Option.{same_Some}
+use Rattle.std.proofs.lemmas.{Bool.cond-true, Bool.cond-false, Bool.eq-eqb, Bool.ne_eqb, Option.same_Some}
 use Rattle.star_program.specs.Values.{with_entry}
 use Rattle.star_compile_laws.specs.Compiled.{register_in}
 
@@ -51,27 +50,16 @@ pub entry_split : {K : Type 0} (same : K → K → Bool) (es : List (K × ℕ)) 
 entry_split same es k n q r e =
     old_or_new (register_in same es q) (same q k) n r (sym (entry_after same es k n q) ∙ e)
 
--- registers that say something of each key's value do so with the new key's value in the next one
-pub entry_known : {K V : Type 0} (same : K → K → Bool) (is : (q k : K) → same q k ≡ true → q ≡ k)
-    (Says : K → Option V → Type 0) (es : List (K × ℕ)) (values : ℕ → Option V) (n : ℕ) (k : K)
-    (v : V) → Says k (Some v) → (q : K) (r : ℕ)
-    → (register_in same es q ≡ Some r → (r < n) × Says q (values r))
-    → register_in same (es ++ (k, n) ∷ []) q ≡ Some r
-    → (r < n + 1) × Says q (with_entry values n v r)
-entry_known same is Says es values n k v new q r old e = by (entry_split same es k n q r e)
+-- what is said of each key's register is said of the new key's register too
+pub entry_added : {K : Type 0} (same : K → K → Bool) (is : (q k : K) → same q k ≡ true → q ≡ k)
+    (es : List (K × ℕ)) (k : K) (n : ℕ) (Says : K → ℕ → Type 0) → Says k n
+    → ((q : K) (r : ℕ) → register_in same es q ≡ Some r → Says q r) → (q : K) (r : ℕ)
+    → register_in same (es ++ (k, n) ∷ []) q ≡ Some r → Says q r
+entry_added same is es k n Says new old q r e = by (entry_split same es k n q r e)
   where
-    by : (register_in same es q ≡ Some r) ⊎ ((same q k ≡ true) × (n ≡ r))
-        → (r < n + 1) × Says q (with_entry values n v r)
-    by (inl e) =
-        let h = old e in
-        (omega (arith, h.0), subst (Says q) (sym (entry_other values n r v h.0)) h.1)
-    by (inr e) =
-        let here : n ≡ r = e.1 in (
-          omega arith,
-          subst (λ x. Says q (with_entry values n v x)) here
-              (subst (Says q) (sym (entry_same values n v))
-              (subst (λ x. Says x (Some v)) (sym (is q k e.0)) new)),
-        )
+    by : (register_in same es q ≡ Some r) ⊎ ((same q k ≡ true) × (n ≡ r)) → Says q r
+    by (inl e) = old q r e
+    by (inr e) = subst (Says q) e.1 (subst (λ x. Says x n) (sym (is q k e.0)) new)
 
 -- ---- how often something may still be looked for
 

@@ -1,12 +1,11 @@
 -- A turn of a compiled program has no scan.
-use Rattle.std.proofs.Common.{◌≡◌, ℕ, ◌+◌, ◌*◌, Bool, true, false, List, refl, ap, ◌∙◌, arith}
-use Rattle.star_schema.specs.declared.table.TableId.{TableId}
-use Rattle.star_schema.specs.declared.table.TableId.TheVariants.{Lineorder}
+use Rattle.std.proofs.Common.{◌≡◌, ℕ, ◌+◌, ◌*◌, Bool, true, false, refl, ap, ◌∙◌, arith}
+use Rattle.star_schema.specs.declared.table.TableId.{TableId, TheVariants.Lineorder}
 use Rattle.star_plan.specs.Meaning.{Plan}
 use Rattle.star_program.specs.Code.{Code, Stop, Then, Each, scan_depth}
 use Rattle.star_safety.specs.Quote.{turns_met, quote}
 use Rattle.star_compile_laws.specs.Compiled.{turn_code, compiled}
-use Rattle.star_compile_laws.proofs.Carried.{turn_has}
+use Rattle.star_compile_laws.proofs.Pieces.{Law, of_turn}
 
 abbrev pub flat : Code → Bool
 flat Stop = true
@@ -15,8 +14,28 @@ flat (Each t r body rest) = false
 
 pub turn_is_flat : (p : Plan) → flat (turn_code p) ≡ true
 turn_is_flat p =
-    turn_has p (λ code. flat code ≡ true) (λ t o rest made h. h) (λ flag rest h. h)
-    (λ keys values. refl)
+    of_turn law
+    (record {
+      step = λ g n a o x rest makes next. next tt (λ r y h. tt) tt;
+      column = λ g n a c r code ok h next. next tt;
+      compared = λ n a t r ok h. tt;
+      keep = λ g n a d r rest h next. next tt (λ q y h. tt);
+      put = λ n a ks vs at_k at_v. refl;
+    })
+    (λ z. absurd z) (λ z. absurd z) tt tt
+  where
+    law : Law p
+    law = record {
+      Sound = ⊥;
+      Spelled = ⊥;
+      Grade = Unit {0};
+      Point = Unit {0};
+      Holds = λ n a r x. Unit {0};
+      Fact = λ g n a code. flat code ≡ true;
+      node = λ a g. g;
+      conjunct = λ d g. g;
+      last = tt;
+    }
 
 pub flat_depth : (c : Code) → flat c ≡ true → scan_depth c ≡ 0
 flat_depth Stop h = refl

@@ -2,13 +2,11 @@
 use Rattle.std.proofs.Common.{◌≡◌, Bool, true, false, Some, refl, ap}
 use Rattle.std.proofs.lemmas.Bool.{and_parts}
 use Rattle.star_query_meaning.proofs.Choices.{refers_to}
-use Rattle.star_schema.specs.declared.column.ColumnId.{ColumnId}
-use Rattle.star_schema.specs.declared.column.Kind.{Kind}
+use Rattle.star_schema.specs.declared.column.{ColumnId.ColumnId, Kind.Kind}
 use Rattle.star_schema.specs.declared.column.Kind.TheVariants as kind
 use Rattle.star_schema.specs.Schema.{key_of, kind_of, references, table_of}
 use Rattle.star_plan.specs.declared.tree.Join.{Join}
-use Rattle.star_plan.specs.Joins.{is_foreign, is_lone_key, refers}
-use Rattle.star_plan.specs.Names.{same_kind}
+use Rattle.star_plan.specs.{Joins.is_foreign, Joins.is_lone_key, Joins.refers, Names.same_kind}
 use Rattle.star_program.specs.World.{is_text}
 
 -- ---- kinds

@@ -1,6 +1,9 @@
 pub mod PlanWords
 pub mod Entries
-pub mod Carried
+pub mod Contents
+pub mod Limits
+pub mod Pieces
+pub mod Forms
 pub mod Flat
 pub mod Sizes
 pub mod Sayable
@@ -9,8 +12,6 @@ pub mod Joins
 pub mod TurnRows
 pub mod SeenRows
 pub mod Comparisons
-pub mod Pieces
-pub mod TurnPieces
 pub mod Turns
 pub mod Rows
 pub mod Elements
@@ -18,16 +19,11 @@ pub mod KeyCodes
 pub mod Answered
 pub mod QueryAnswers
 pub mod Plans
-mod RevenueTexts
-mod ProfitTexts
+mod Texts
 mod Vectors
 mod ForeignKeys
-mod Constants
-mod Points
-mod FirstWide
-mod AcceptsColumns
+mod Suits
 mod Accepts
-mod AcceptsPlan
 mod Verdicts
 mod OutsideBounds
 mod Worked

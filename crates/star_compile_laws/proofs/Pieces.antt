@@ -1,499 +1,425 @@
--- What the pieces of a compiled program do, from their ends: instructions, operators and tests.
-use Rattle.std.proofs.Common.{◌≡◌, ℕ, ◌+◌, ◌≤◌, ◌<◌, Bool, true, false, List, Option, Some, None, refl, sym, ap, subst, ◌∙◌, arith}
-use Rattle.std.specs.Prelude.{ℤ, pos, ◌+ℤ◌, ◌&&◌, not, nat_lt, unwrap_or}
-use Rattle.std.specs.Option.{is_some, option_map, option_or}
-use Rattle.std.specs.Ordering.{int_cmp, nat_cmp, is_eq, is_lt, is_le}
-use Rattle.std.specs.Cmp.Lexicographic.{slice_cmp, nat_list_cmp_total}
-use Rattle.star_schema.specs.declared.table.TableId.{TableId}
-use Rattle.star_schema.specs.declared.table.TableId.TheVariants.{Lineorder}
-use Rattle.star_schema.specs.declared.column.ColumnId.{ColumnId}
-use Rattle.star_schema.specs.Order.{value_cmp}
-use Rattle.star_schema.specs.Schema.{kind_of, table_of}
-use Rattle.star_schema.specs.Tables as held
-use Rattle.star_schema.specs.Tables.{kind_of_value}
-use Rattle.star_query.specs.declared.token.Relation.{Relation}
-use Rattle.star_query.specs.declared.token.Relation.TheVariants as sign
-use Rattle.star_plan.specs.Meaning.{tests}
-use Rattle.star_plan.specs.Names.{same_kind}
-use Rattle.star_program.specs.declared.fault.Fault.{Fault}
-use Rattle.star_program.specs.declared.op.Edge.TheVariants.{Low, High}
-use Rattle.star_program.specs.declared.op.Op.TheVariants.{Assign}
-use Rattle.star_program.specs.declared.op.Operation.{Operation}
-use Rattle.star_program.specs.declared.op.Operation.TheVariants.{Const, Edge, Find, Binary, Within, Not}
-use Rattle.star_program.specs.declared.op.Operator.{Operator}
+-- A law of a turn by one induction over the pieces of a compiled program: it holds of a piece where
+-- it holds of what follows the piece, at each point that the piece can come to.
+use Rattle.std.proofs.Common.{◌≡◌, ℕ, ◌+◌, Bool, true, false, List, [], ◌∷◌, Option, Some, None, map, refl, subst}
+use Rattle.std.specs.Prelude.{◌&&◌, ◌||◌}
+use Rattle.std.specs.List.{list_all}
+use Rattle.std.proofs.lemmas.Bool.{and_parts}
+use Rattle.star_schema.specs.declared.{table.TableId.TableId, table.TableId.TheVariants.Lineorder, column.ColumnId.ColumnId}
+use Rattle.star_schema.specs.declared.column.Kind.TheVariants as kind
+use Rattle.star_schema.specs.{Schema.is_table, Schema.kind_of, Schema.table_of, Tables.Value}
+use Rattle.star_schema.proofs.Same.{column_same, table_same}
+use Rattle.star_query.specs.Tree.{Comparison, Expression, Measure, column, constant, add, sub, mul, or, and, not, test, count, fold}
+use Rattle.star_plan.specs.declared.tree.Join.{Join}
+use Rattle.star_plan.specs.{Meaning.Plan, Meaning.RowCondition, Names.same_kind, Spelled.IsSpelledPlan, Spelled.condition_is_spelled, Spelled.expression_is_spelled, Spelled.measure_is_spelled}
+use Rattle.star_plan.specs.Sound.{IsSoundPlan, column_is_sound, comparison_is_sound, condition_is_sound, expression_is_sound, in_scope, joins_table, measure_is_sound}
+use Rattle.star_program.specs.declared.op.{Op.TheVariants.Assign, Op.TheVariants.Keep, Op.TheVariants.Put, Operation.Operation, Operator.Operator}
+use Rattle.star_program.specs.declared.op.Operation.TheVariants.{Binary, Const, Find, Load, Not, Within}
 use Rattle.star_program.specs.declared.op.Operator.TheVariants as operator
-use Rattle.star_program.specs.declared.program.Parts.{Parts}
-use Rattle.star_program.specs.declared.value.Value.{Value}
-use Rattle.star_program.specs.declared.value.Value.TheVariants.{Number, Place, Row, Flag}
-use Rattle.star_program.specs.Code.{Code, Then}
-use Rattle.star_program.specs.World.{World, is_text}
-use Rattle.star_program.specs.Values.{Registers, with_entry, number_read, flag_read}
-use Rattle.star_program.specs.declared.fault.TrapKind.{TrapKind}
-use Rattle.star_program.specs.declared.fault.TrapKind.TheVariants.{Wrong, AbsentKey, Overflow}
-use Rattle.star_program.specs.Faults.{unless, fault_of}
-use Rattle.star_program.specs.Effects.{State, Effect, GoesOn, LookUp, marked, answer_of, loaded, fits_register, unless_trap, kinds_in}
-use Rattle.star_program.specs.Private.Doing.{sets, assigns}
-use Rattle.star_program.specs.Run.{End, Ended, follow, meaning}
-use Rattle.star_compile_laws.specs.Compiled.{Env, Rest, binary_code, loaded_in, found_in, one_more, write, test_code, between_code}
-use Rattle.star_compile_laws.specs.Counts.{lookups_in}
-use Rattle.star_compile_laws.proofs.Entries.{entry_same, entry_other}
-use Rattle.star_compile_laws.proofs.TurnRows.{Shows}
-use Rattle.star_compile_laws.proofs.Joins.{holds_numbers, holds_texts}
-use Rattle.star_compile_laws.proofs.Comparisons.{number_gt, number_ge, number_upto, place_lt, place_le, gt_not_le, ge_not_lt, le_not_lt, eq_both, ne_is}
+use Rattle.star_program.specs.{Code.Code, Code.Stop, Code.Then, World.is_column}
+use Rattle.star_compile_laws.specs.Compiled.{Env, Rest, Rests, one_before, beside, binary_code, column_code, column_from, condition_code, conjuncts_code, env_first, expression_code, fact_code, find_code, foreign_of, found_in, keys_code, load_code, loaded_in, one_more, place_code, put_code, row_code, turn_code, values_code, with_found, with_loaded, write}
+use Rattle.star_compile_laws.proofs.Contents.{AllHold, Content, Form, IsLimit, Limit, Makes, OfColumn, OfCondition, OfExpression, OfLimit, OfRow, OfTest, adds, after, all_kept, before, both, column_tested, comparison_code, comparison_form, constant_made, denies, either, fails, finds, form_code, has_form, is_after, is_before, is_within, limit_of, limits, loads, multiplies, negated, numbers_put, operator_of, subtracts, tested_code, within}
+use Rattle.star_compile_laws.proofs.{Entries.entry_added, ForeignKeys.AreForeign, ForeignKeys.are_foreign, Limits.IsForm, Limits.form_is_fit, Limits.tested_in_scope}
 
--- ---- the end of a run, from its first instruction
+-- a law of code: a fact of some code at a point of a turn, where the registers below the next one
+-- hold something
+pub record Law (p : Plan) : Type 1 where
+  -- whether the plan is sound, and whether it is spelled
+  pub Sound : Type 0
+  pub Spelled : Type 0
+  -- what the fact depends on besides: a number, or what the conjuncts come to
+  pub Grade : Type 0
+  pub Point : Type 0
+  pub Holds : ℕ → Point → ℕ → Content → Type 0
+  pub Fact : Grade → ℕ → Point → Code → Type 0
+  -- how it grows by a node of an expression and by a conjunct, and what it is at the put
+  pub node : Expression ColumnId → Grade → Grade
+  pub conjunct : RowCondition → Grade → Grade
+  pub last : Grade
 
--- an instruction that ends the run without a trap has no fault
-pub no_fault : (o : Option Fault) (own : Option TrapKind) (x : Effect) (n : ℕ)
-    (next : Registers → State → End) (e : State)
-    → follow n (unless_trap (option_or (option_map Wrong o) own) x) next ≡ Ended e
-    → follow n (unless_trap own x) next ≡ Ended e
-no_fault None own x n next e h = h
-no_fault (Some f) own x n next e h = absurd (cc)
+-- the grade before an instruction, by what it makes
+abbrev pub made : {G : Type 0} → (Expression ColumnId → G → G) → Content → G → G
+made node (OfExpression a) g = node a g
+made node _ g = g
 
-no_trap : (b : Bool) (kind : TrapKind) (x : Effect) (n : ℕ) (next : Registers → State → End)
-    (e : State) → follow n (unless_trap (unless b kind) x) next ≡ Ended e
-    → follow n x next ≡ Ended e
-no_trap true kind x n next e h = h
-no_trap false kind x n next e h = absurd (cc)
+module _ {p : Plan} (law : Law p) where
+  -- at the next point registers hold what they held before
+  abbrev pub Stays : ℕ → law.Point → ℕ → law.Point → Type 0
+  Stays n a m b = (r : ℕ) (x : Content) → law.Holds n a r x → law.Holds m b r x
 
--- the look-ups so far, with those of some code by the flags of its keeps
-abbrev pub ahead : State → Code → List Bool → ℕ
-ahead s code flags = s.lookups + lookups_in code flags
+  -- each instruction keeps the law
+  pub record IsKept : Type 0 where
+    pub step : (g : law.Grade) (n : ℕ) (a : law.Point) (o : Operation) (x : Content) (rest : Code)
+        → Makes p.joins law.Sound law.Spelled (law.Holds n a) o x
+        → ((b : law.Point) → Stays n a (n + 1) b → law.Holds (n + 1) b n x
+        → law.Fact g (n + 1) b rest)
+        → law.Fact (made law.node x g) n a (Then (Assign n o) rest)
+    pub column : (g : law.Grade) (n : ℕ) (a : law.Point) (c : ColumnId) (r : ℕ) (code : Code)
+        → (law.Sound → column_is_sound p.joins kind.Number c ≡ true)
+        → law.Holds n a r (OfColumn c)
+        → (law.Holds n a r (OfExpression (column c)) → law.Fact g n a code)
+        → law.Fact (law.node (column c) g) n a code
+    pub compared : (n : ℕ) (a : law.Point) (t : Comparison ColumnId Value) (r : ℕ)
+        → (law.Sound → comparison_is_sound p.joins t ≡ true)
+        → law.Holds n a r (OfTest (column_tested t) (comparison_form t))
+        → law.Holds n a r (OfCondition (test t))
+    pub keep : (g : law.Grade) (n : ℕ) (a : law.Point) (d : RowCondition) (r : ℕ) (rest : Code)
+        → law.Holds n a r (OfCondition d)
+        → ((b : law.Point) → Stays n a n b → law.Fact g n b rest)
+        → law.Fact (law.conjunct d g) n a (Then (Keep r) rest)
+    pub put : (n : ℕ) (a : law.Point) (ks vs : List ℕ)
+        → AllHold (law.Holds n a) (map OfColumn p.keys) ks
+        → AllHold (law.Holds n a) (numbers_put p.measures) vs
+        → law.Fact law.last n a (Then (Put 0 ks vs) Stop)
 
-found_sets : (b : Bool) (regs regs' : Registers) (s s' : State)
-    → unless_trap (unless b AbsentKey) (GoesOn regs s') ≡ GoesOn regs' s → s' ≡ s
-found_sets true regs regs' s s' e = cc
-found_sets false regs regs' s s' e = absurd (cc)
+  abbrev pub expression_grade : Expression ColumnId → law.Grade → law.Grade
+  expression_grade (column c) g = law.node (column c) g
+  expression_grade (constant z) g = law.node (constant z) g
+  expression_grade (add a b) g =
+      expression_grade a (expression_grade b (law.node (add a b) g))
+  expression_grade (sub a b) g =
+      expression_grade a (expression_grade b (law.node (sub a b) g))
+  expression_grade (mul a b) g =
+      expression_grade a (expression_grade b (law.node (mul a b) g))
 
--- an operation that sets a register and nothing more looks nothing up
-no_look : (w : World) (f : Parts) (o : Operation) (v : Value) (regs : Registers) (s : State)
-    (t : ℕ) → assigns w f regs s t o ≡ sets regs s t v → (rest : Code) (flags : List Bool)
-    → ahead s rest flags ≡ ahead s (Then (Assign t o) rest) flags
-no_look w f (Find table key) v regs s t e rest flags =
-    let found = found_sets (is_some (w.find table (number_read (regs key))))
-    (with_entry regs t (Row table (unwrap_or (w.find table (number_read (regs key))) 0)))
-    (with_entry regs t v) s (marked LookUp s) e in
-    let more : s.lookups + 1 ≡ s.lookups = ap (λ s. s.lookups) found in
-    absurd (omega arith)
-no_look w f _ v regs s t e rest flags = refl
+  abbrev pub values_grade : List (Measure ColumnId) → law.Grade → law.Grade
+  values_grade [] g = g
+  values_grade (count ∷ ms) g = values_grade ms g
+  values_grade (fold f a ∷ ms) g = expression_grade a (values_grade ms g)
 
-module _ (w : World) (f : Parts) (may : ℕ → Bool) (at : TableId → ℕ) where
-  -- the registers hold what is known of the turn's rows
-  pub record Knows (env : Env) (regs : Registers) : Type 0 where
-    pub fact : regs 0 ≡ Some (Row Lineorder (at Lineorder))
-    pub some : 0 < env.next
-    pub columns : (c : ColumnId) (r : ℕ) → loaded_in env.loaded c ≡ Some r → (r < env.next)
-        × (regs r ≡ Some (loaded w c (at (table_of c)) (is_text c)))
-    pub rows : (t : TableId) (r : ℕ) → found_in env.found t ≡ Some r → (r < env.next)
-        × (regs r ≡ Some (Row t (at t)))
+  abbrev pub conjuncts_grade : List RowCondition → law.Grade → law.Grade
+  conjuncts_grade [] g = g
+  conjuncts_grade (d ∷ ds) g = law.conjunct d (conjuncts_grade ds g)
 
-  -- a piece came to its end: what follows runs to the same end, from registers that keep those from
-  -- before and have what the piece says; nothing is visited or put, and `total` tells how many
-  -- look-ups there are in all, by the flags of the keeps that follow
-  pub record Reached {A : Type 0} (Says : ℕ → Registers → A → Type 0) (k : Env → A → Code)
-      (env : Env) (regs : Registers) (s e : State) (total : List Bool → ℕ) : Type 0 where
-    pub env' : Env
-    pub out : A
-    pub n : ℕ
-    pub regs' : Registers
-    pub s' : State
-    pub knows : Knows env' regs'
-    pub onward : env.next ≤ env'.next
-    pub kept : (q : ℕ) → q < env.next → regs' q ≡ regs q
-    pub says : Says env'.next regs' out
-    pub same : s'.updates_of ≡ s.updates_of
-    pub visits : s'.visits ≡ s.visits
-    pub updates : s'.updates ≡ s.updates
-    pub looked : (flags : List Bool) → ahead s' (k env' out) flags ≡ total flags
-    pub goes : meaning w f may (k env' out) n true regs' s' ≡ Ended e
+  module _ (it : IsKept) (sound : law.Sound → IsSoundPlan p)
+      (spelled : law.Spelled → IsSpelledPlan p) where
+    abbrev js : List Join
+    js = p.joins
 
-  abbrev pub At : Value → ℕ → Registers → ℕ → Type 0
-  At v next regs r = (r < next) × (regs r ≡ Some v)
+    foreign : law.Sound → AreForeign js
+    foreign s = are_foreign js (sound s).joins
 
-  -- a piece and another behind it, with a result of both
-  pub chained_as : {A B C : Type 0} {P : ℕ → Registers → A → Type 0}
-      {Q : ℕ → Registers → B → Type 0} {S : ℕ → Registers → C → Type 0} {k : Env → A → Code}
-      {l : Env → B → Code} {m : Env → C → Code} {env : Env} {regs : Registers} {s e : State}
-      {total : List Bool → ℕ} (p : Reached P k env regs s e total)
-      (q : Reached Q l p.env' p.regs' p.s' e (ahead p.s' (k p.env' p.out))) (out : C)
-      → S q.env'.next q.regs' out
-      → ((flags : List Bool) → ahead q.s' (m q.env' out) flags ≡ ahead q.s' (l q.env' q.out) flags)
-      → meaning w f may (m q.env' out) q.n true q.regs' q.s' ≡ Ended e
-      → Reached S m env regs s e total
-  chained_as p q out says alike goes = record {
-    env' = q.env';
-    out = out;
-    n = q.n;
-    regs' = q.regs';
-    s' = q.s';
-    knows = q.knows;
-    onward = (let a = p.onward in let b = q.onward in omega arith);
-    kept = λ r h. q.kept r (let a = p.onward in omega arith) ∙ p.kept r h;
-    says = says;
-    same = q.same ∙ p.same;
-    visits = q.visits ∙ p.visits;
-    updates = q.updates ∙ p.updates;
-    looked = λ flags. alike flags ∙ q.looked flags ∙ p.looked flags;
-    goes = goes;
-  }
+    -- a point, with what is known there of the columns that are loaded and the rows that are found
+    record Place : Type 0 where
+      env : Env
+      point : law.Point
+      fact : law.Holds env.next point 0 (OfRow Lineorder)
+      columns : (c : ColumnId) (r : ℕ) → loaded_in env.loaded c ≡ Some r
+          → law.Holds env.next point r (OfColumn c)
+      rows : (t : TableId) (r : ℕ) → found_in env.found t ≡ Some r
+          → law.Holds env.next point r (OfRow t)
 
-  pub chained : {A B : Type 0} {P : ℕ → Registers → A → Type 0} {Q : ℕ → Registers → B → Type 0}
-      {k : Env → A → Code} {l : Env → B → Code} {env : Env} {regs : Registers} {s e : State}
-      {total : List Bool → ℕ} (p : Reached P k env regs s e total)
-      → Reached Q l p.env' p.regs' p.s' e (ahead p.s' (k p.env' p.out))
-      → Reached Q l env regs s e total
-  chained p q = chained_as p q q.out q.says (λ flags. refl) q.goes
+    abbrev At : Content → Place → ℕ → Type 0
+    At x a r = law.Holds a.env.next a.point r x
 
-  -- nothing was done
-  pub reached : {A : Type 0} (P : ℕ → Registers → A → Type 0) (k : Env → A → Code) (env : Env)
-      (out : A) (n : ℕ) (regs : Registers) (s e : State) → Knows env regs → P env.next regs out
-      → meaning w f may (k env out) n true regs s ≡ Ended e → Reached P k env regs s e
-      (ahead s (k env out))
-  reached P k env out n regs s e knows says h =
-      record {
-        env' = env;
-        out = out;
-        n = n;
-        regs' = regs;
-        s' = s;
-        knows = knows;
-        onward = omega arith;
-        kept = λ q h. refl;
-        says = says;
-        same = refl;
-        visits = refl;
-        updates = refl;
-        looked = λ flags. refl;
-        goes = h;
-      }
+    abbrev Fact : law.Grade → Place → Code → Type 0
+    Fact g a code = law.Fact g a.env.next a.point code
 
-  pub knows_more : (env : Env) (regs : Registers) (v : Value) → Knows env regs
-      → Knows (one_more env) (with_entry regs env.next v)
-  knows_more env regs v k = record {
-    fact = entry_other regs env.next 0 v k.some ∙ k.fact;
-    some = omega arith;
-    columns =
-        λ c r e. let p = k.columns c r e in
-        (omega (arith, p.0), entry_other regs env.next r v p.0 ∙ p.1);
-    rows =
-        λ t r e. let p = k.rows t r e in
-        (omega (arith, p.0), entry_other regs env.next r v p.0 ∙ p.1);
-  }
+    abbrev MakesAt : Place → Operation → Content → Type 0
+    MakesAt a o x = Makes js law.Sound law.Spelled (law.Holds a.env.next a.point) o x
 
-  -- the value stands in the next register
-  new_at : (env : Env) (regs : Registers) (v : Value)
-      → At v (env.next + 1) (with_entry regs env.next v) env.next
-  new_at env regs v = (omega arith, entry_same regs env.next v)
+    abbrev Onward : Place → Place → Type 0
+    Onward a b = (r : ℕ) (x : Content) → At x a r → At x b r
 
-  -- a piece, wherever it stands: where what it and the code behind it do comes to an end, the piece
-  -- came to its own
-  abbrev pub Runs : {A : Type 0} → (ℕ → Registers → A → Type 0) → (Env → (Env → A → Code) → Code)
-      → Type 0
-  Runs {A} Says piece =
-      (k : Env → A → Code) (env : Env) (n : ℕ) (regs : Registers) (s e : State) → Knows env regs
-      → meaning w f may (piece env k) n true regs s ≡ Ended e → Reached Says k env regs s e
-      (ahead s (piece env k))
+    -- the law holds of what follows, whatever result of this kind it is given
+    abbrev Follows : {A : Type 0} → law.Grade → Place → (Place → A → Type 0) → (Env → A → Code)
+        → Type 0
+    Follows {A} g a Says k = (b : Place) (r : A) → Onward a b → Says b r → Fact g b (k b.env r)
 
-  -- the next register is set
-  is_set : (v : Value) (k : Rest) (env : Env) (n : ℕ) (regs : Registers) (s e : State)
-      → Knows env regs
-      → meaning w f may (k (one_more env) env.next) (n + 1) true (with_entry regs env.next v) s
-      ≡ Ended e → Reached (At v) k env regs s e (ahead s (k (one_more env) env.next))
-  is_set v k env n regs s e knows h = record {
-    env' = one_more env;
-    out = env.next;
-    n = n + 1;
-    regs' = with_entry regs env.next v;
-    s' = s;
-    knows = knows_more env regs v knows;
-    onward = omega arith;
-    kept = λ q h. entry_other regs env.next q v h;
-    says = new_at env regs v;
-    same = refl;
-    visits = refl;
-    updates = refl;
-    looked = λ flags. refl;
-    goes = h;
-  }
+    -- and so of a piece before it
+    abbrev Carries : {A : Type 0} → (law.Grade → law.Grade) → (Place → A → Type 0)
+        → (Env → (Env → A → Code) → Code) → Type 0
+    Carries {A} f Says piece =
+        (g : law.Grade) (a : Place) (k : Env → A → Code) → Follows g a Says k
+        → Fact (f g) a (piece a.env k)
 
-  in_all : {A : Type 0} {P : ℕ → Registers → A → Type 0} {k : Env → A → Code} {env : Env}
-      {regs : Registers} {s e : State} {some total : List Bool → ℕ}
-      → ((flags : List Bool) → some flags ≡ total flags) → Reached P k env regs s e some
-      → Reached P k env regs s e total
-  in_all {P = P} {k = k} {env = env} {regs = regs} {s = s} {e = e} same r =
-      subst (Reached P k env regs s e) (λ i flags. same flags i) r
+    later : {A : Type 0} (g : law.Grade) (a b : Place) (Says : Place → A → Type 0)
+        (k : Env → A → Code) → Onward a b → Follows g a Says k → Follows g b Says k
+    later g a b Says k on h c r more says = h c r (λ q x at. more q x (on q x at)) says
 
-  -- an operation that sets the next register
-  pub wrote : (o : Operation) (v : Value) (k : Rest) (env : Env) (n : ℕ) (regs : Registers)
-      (s e : State) → Knows env regs
-      → assigns w f regs s env.next o ≡ sets regs s env.next v
-      → meaning w f may (write o env k) n true regs s ≡ Ended e → Reached (At v) k env regs s e
-      (ahead s (write o env k))
-  wrote o v k env n regs s e knows d h =
-      let next = meaning w f may (k (one_more env) env.next) (n + 1) true in
-      let g = no_fault (fault_of f true None (kinds_in regs) (Assign env.next o)) _ _ n next e h in
-      in_all (no_look w f o v regs s env.next d (k (one_more env) env.next))
-      (is_set v k env n regs s e knows (subst (λ x. follow n x next ≡ Ended e) d g))
+    -- ---- instructions
 
-  -- ---- operators
+    abbrev moved : (a : Place) (n : ℕ) (q : law.Point) → Stays a.env.next a.point n q → Place
+    moved a n q stays = record {
+      env = record a.env { next = n };
+      point = q;
+      fact = stays 0 (OfRow Lineorder) a.fact;
+      columns = λ c r e. stays r (OfColumn c) (a.columns c r e);
+      rows = λ t r e. stays r (OfRow t) (a.rows t r e);
+    }
 
-  answered : (o : Operator) (l r : ℕ) (k : Rest) (env : Env) (n : ℕ) (regs : Registers)
-      (s e : State) → Knows env regs
-      → meaning w f may (write (Binary o l r) env k) n true regs s ≡ Ended e
-      → Reached (At (answer_of o (regs l) (regs r))) k env regs s e
-      (ahead s (write (Binary o l r) env k))
-  answered o l r k env n regs s e knows h =
-      let v = answer_of o (regs l) (regs r) in
-      let next = meaning w f may (k (one_more env) env.next) (n + 1) true in
-      let g =
-      no_fault (fault_of f true None (kinds_in regs) (Assign env.next (Binary o l r))) _ _ n next e
-      h in
-      is_set v k env n regs s e knows
-      (no_trap (fits_register v) Overflow (sets regs s env.next v) n next e g)
+    of_write : (o : Operation) (x : Content) (g : law.Grade) (a : Place) (k : Rest)
+        → MakesAt a o x → Follows g a (At x) k → Fact (made law.node x g) a (write o a.env k)
+    of_write o x g a k makes h =
+        it.step g a.env.next a.point o x (k (one_more a.env) a.env.next) makes
+        (λ q stays new. h (moved a (a.env.next + 1) q stays) a.env.next stays new)
 
-  pub binary_runs : (left right : Env → Rest → Code) (o : Operator) (v u : Value)
-      → Runs (At v) left → Runs (At u) right
-      → Runs (At (answer_of o (Some v) (Some u))) (binary_code left right o)
-  binary_runs left right o v u first second k env n regs s e knows h =
-      let p = first (λ e x. right e (λ e y. write (Binary o x y) e k)) env n regs s e knows h in
-      let q =
-      second (λ e y. write (Binary o p.out y) e k) p.env' p.n p.regs' p.s' e p.knows p.goes in
-      let at_left = q.kept p.out p.says.0 ∙ p.says.1 in
-      let same : answer_of o (q.regs' p.out) (q.regs' q.out) ≡ answer_of o (Some v) (Some u) =
-      λ i. answer_of o (at_left i) (q.says.1 i) in
-      chained p (chained q (subst (λ x. Reached (At x) k q.env' q.regs' q.s' e
-      (ahead q.s' (write (Binary o p.out q.out) q.env' k))) same
-      (answered o p.out q.out k q.env' q.n q.regs' q.s' e q.knows q.goes)))
+    of_load : (c : ColumnId) (t : TableId) (row : ℕ) → (law.Sound → table_of c ≡ t)
+        → (g : law.Grade) (a : Place) (k : Rest) → At (OfRow t) a row
+        → Follows g a (At (OfColumn c)) k → Fact g a (load_code c row a.env k)
+    of_load c t row of g a k at h =
+        let n = a.env.next in
+        it.step g n a.point (Load c row) (OfColumn c) (k (with_loaded a.env c) n)
+        (loads c t row of at)
+        (λ q stays new. h (record {
+          env = with_loaded a.env c;
+          point = q;
+          fact = stays 0 (OfRow Lineorder) a.fact;
+          columns = entry_added is_column column_same a.env.loaded c n
+              (λ d r. law.Holds (n + 1) q r (OfColumn d)) new
+              (λ d r e. stays r (OfColumn d) (a.columns d r e));
+          rows = λ t r e. stays r (OfRow t) (a.rows t r e);
+        }) n stays new)
 
-  -- ---- tests
+    of_find : (t : TableId) → (law.Sound → joins_table js t ≡ true) → (key : ℕ) (g : law.Grade)
+        (a : Place) (k : Rest) → At (OfColumn (foreign_of js t)) a key
+        → Follows g a (At (OfRow t)) k → Fact g a (find_code t key a.env k)
+    of_find t joined key g a k at h =
+        let n = a.env.next in
+        it.step g n a.point (Find t key) (OfRow t) (k (with_found a.env t) n)
+        (finds t key joined at)
+        (λ q stays new. h (record {
+          env = with_found a.env t;
+          point = q;
+          fact = stays 0 (OfRow Lineorder) a.fact;
+          columns = λ c r e. stays r (OfColumn c) (a.columns c r e);
+          rows = entry_added is_table table_same a.env.found t n
+              (λ d r. law.Holds (n + 1) q r (OfRow d)) new
+              (λ d r e. stays r (OfRow d) (a.rows d r e));
+        }) n stays new)
 
-  pub number_rank : (c : ColumnId) (n : ℕ) (b : Bool) → b ≡ false
-      → number_read (Some (loaded w c n b)) ≡ w.number c n
-  number_rank c n true p = absurd (cc)
-  number_rank c n false p = refl
+    -- ---- columns
 
-  pub as_flag : {total : List Bool → ℕ} (a b : Bool) (k : Rest) (env : Env) (regs : Registers)
-      (s e : State) → a ≡ b → Reached (At (Flag a)) k env regs s e total
-      → Reached (At (Flag b)) k env regs s e total
-  as_flag {total = total} a b k env regs s e p r =
-      subst (λ b. Reached (At (Flag b)) k env regs s e total) p r
+    of_fact : (c : ColumnId) → (law.Sound → table_of c ≡ Lineorder) → (g : law.Grade) (a : Place)
+        (k : Rest) (o : Option ℕ) → loaded_in a.env.loaded c ≡ o
+        → Follows g a (At (OfColumn c)) k → Fact g a (fact_code c a.env k o)
+    of_fact c of g a k (Some r) e h = h a r (λ q x at. at) (a.columns c r e)
+    of_fact c of g a k None e h = of_load c Lineorder 0 of g a k a.fact h
 
-  pub with_not : {total : List Bool → ℕ} (b : Bool) (k : Rest) (env : Env) (regs : Registers)
-      (s e : State) → Reached (At (Flag b)) (λ e y. write (Not y) e k) env regs s e total
-      → Reached (At (Flag (not b))) k env regs s e total
-  with_not b k env regs s e p =
-      chained p (wrote (Not p.out) (Flag (not b)) k p.env' p.n p.regs' p.s' e p.knows
-      (ap (λ o. sets p.regs' p.s' p.env'.next (Flag (not (flag_read o)))) p.says.1) p.goes)
+    of_row : (t : TableId) → (law.Sound → joins_table js t ≡ true) → (g : law.Grade) (a : Place)
+        (k : Rest) (o : Option ℕ) → found_in a.env.found t ≡ o
+        → Follows g a (At (OfRow t)) k → Fact g a (row_code js t a.env k o)
+    of_row t joined g a k (Some r) e h = h a r (λ q x at. at) (a.rows t r e)
+    of_row t joined g a k None e h =
+        let c = foreign_of js t in
+        of_fact c (λ s. (foreign s).fact t (joined s)) g a (λ e r. find_code t r e k)
+        (loaded_in a.env.loaded c) refl
+        (λ b r on at. of_find t joined r g b k at (later g a b (At (OfRow t)) k on h))
 
-  -- one bound, and a test with it
-  bound_test : (x : ℕ) (o : Operation) (v : Value) (test : ℕ → Operation) (b : Bool) (k : Rest)
-      (env : Env) (n : ℕ) (regs : Registers) (s e : State) → Knows env regs → x < env.next
-      → assigns w f regs s env.next o ≡ sets regs s env.next v
-      → ((m t : ℕ) (regs' : Registers) (s' : State) → regs' x ≡ regs x → regs' m ≡ Some v
-      → assigns w f regs' s' t (test m) ≡ sets regs' s' t (Flag b))
-      → meaning w f may (write o env (λ e m. write (test m) e k)) n true regs s ≡ Ended e
-      → Reached (At (Flag b)) k env regs s e (ahead s (write o env (λ e m. write (test m) e k)))
-  bound_test x o v test b k env n regs s e knows below d last h =
-      let p = wrote o v (λ e m. write (test m) e k) env n regs s e knows d h in
-      chained p (wrote (test p.out) (Flag b) k p.env' p.n p.regs' p.s' e p.knows
-      (last p.out p.env'.next p.regs' p.s' (p.kept x below) p.says.1) p.goes)
+    of_place : (c : ColumnId) (g : law.Grade) (a : Place) (k : Rest) (b : Bool)
+        → is_table (table_of c) Lineorder ≡ b
+        → (law.Sound → (b || joins_table js (table_of c)) ≡ true)
+        → Follows g a (At (OfColumn c)) k → Fact g a (place_code js c a.env k b)
+    of_place c g a k true e joined h =
+        of_load c Lineorder 0 (λ s. table_same (table_of c) Lineorder e) g a k a.fact h
+    of_place c g a k false e joined h =
+        of_row (table_of c) joined g a (λ e r. load_code c r e k)
+        (found_in a.env.found (table_of c)) refl
+        (λ b r on at. of_load c (table_of c) r (λ s. refl) g b k at
+        (later g a b (At (OfColumn c)) k on h))
 
-  -- two bounds, and a test with them
-  bounds_test : (x : ℕ) (o1 o2 : Operation) (v1 v2 : Value) (test : ℕ → ℕ → Operation) (b : Bool)
-      (k : Rest) (env : Env) (n : ℕ) (regs : Registers) (s e : State) → Knows env regs
-      → x < env.next
-      → assigns w f regs s env.next o1 ≡ sets regs s env.next v1
-      → ((regs' : Registers) (s' : State) (t : ℕ) → assigns w f regs' s' t o2 ≡ sets regs' s' t v2)
-      → ((m1 m2 t : ℕ) (regs' : Registers) (s' : State) → regs' x ≡ regs x → regs' m1 ≡ Some v1
-      → regs' m2 ≡ Some v2 → assigns w f regs' s' t (test m1 m2) ≡ sets regs' s' t (Flag b))
-      → meaning w f may (write o1 env (λ e m1. write o2 e (λ e m2. write (test m1 m2) e k))) n true
-      regs s ≡ Ended e → Reached (At (Flag b)) k env regs s e
-      (ahead s (write o1 env (λ e m1. write o2 e (λ e m2. write (test m1 m2) e k))))
-  bounds_test x o1 o2 v1 v2 test b k env n regs s e knows below d d2 last h =
-      let p =
-      wrote o1 v1 (λ e m1. write o2 e (λ e m2. write (test m1 m2) e k)) env n regs s e knows d h in
-      let q =
-      wrote o2 v2 (λ e m2. write (test p.out m2) e k) p.env' p.n p.regs' p.s' e p.knows
-      (d2 p.regs' p.s' p.env'.next) p.goes in
-      let below' : x < p.env'.next = (let o = p.onward in omega arith) in
-      chained p (chained q (wrote (test p.out q.out) (Flag b) k q.env' q.n q.regs' q.s' e q.knows
-      (last p.out q.out q.env'.next q.regs' q.s' (q.kept x below' ∙ p.kept x below)
-      (q.kept p.out p.says.0 ∙ p.says.1) q.says.1) q.goes))
+    of_column_from : (c : ColumnId) → (law.Sound → in_scope js (table_of c) ≡ true)
+        → (g : law.Grade) (a : Place) (k : Rest) (o : Option ℕ) → loaded_in a.env.loaded c ≡ o
+        → Follows g a (At (OfColumn c)) k → Fact g a (column_from js c a.env k o)
+    of_column_from c ok g a k (Some r) e h = h a r (λ q x at. at) (a.columns c r e)
+    of_column_from c ok g a k None e h =
+        of_place c g a k (is_table (table_of c) Lineorder) refl ok h
 
-  -- what is value_cmp is the order of the ranks
-  ranked : (o p : Option Value) (y z : ℤ) (g : ℤ → ℤ → Bool) (regs : Registers) (s : State) (t : ℕ)
-      (b : Bool) → number_read o ≡ y → number_read p ≡ z → g y z ≡ b
-      → sets regs s t (Flag (g (number_read o) (number_read p))) ≡ sets regs s t (Flag b)
-  ranked o p y z g regs s t b e1 e2 e3 =
-      (λ i. sets regs s t (Flag (g (e1 i) (e2 i)))) ∙ ap (λ q. sets regs s t (Flag q)) e3
+    of_column : (c : ColumnId) → (law.Sound → in_scope js (table_of c) ≡ true)
+        → Carries (λ g. g) (At (OfColumn c)) (column_code js c)
+    of_column c ok g a k h = of_column_from c ok g a k (loaded_in a.env.loaded c) refl h
 
-  ranked3 : (o p q : Option Value) (y z u : ℤ) (g : ℤ → ℤ → ℤ → Bool) (regs : Registers) (s : State)
-      (t : ℕ) (b : Bool) → number_read o ≡ y → number_read p ≡ z → number_read q ≡ u → g y z u ≡ b
-      → sets regs s t (Flag (g (number_read o) (number_read p) (number_read q)))
-      ≡ sets regs s t (Flag b)
-  ranked3 o p q y z u g regs s t b e1 e2 e3 e4 =
-      (λ i. sets regs s t (Flag (g (e1 i) (e2 i) (e3 i)))) ∙ ap (λ c. sets regs s t (Flag c)) e4
+    -- ---- pieces of two parts
 
-  module _ (c : ColumnId) (x : ℕ) (k : Rest) (env : Env) (n : ℕ) (regs : Registers) (s e : State)
-      (knows : Knows env regs) (below : x < env.next) where
-    number_test : (q : Relation) (z a : ℤ) → number_read (regs x) ≡ z
-        → meaning w f may (test_code q c x (held.Number a) env k) n true regs s ≡ Ended e
-        → Reached (At (Flag (tests q (int_cmp z a)))) k env regs s e
-        (ahead s (test_code q c x (held.Number a) env k))
-    number_test sign.Equal z a at_x h =
-        bound_test x (Const a) (Number a) (λ m. Binary operator.Equal x m) _ k env n regs s e knows
-        below refl
-        (λ m t regs' s' p q. ranked (regs' x) (regs' m) z a (λ y u. is_eq (int_cmp y u)) regs' s' t
-        _ (ap number_read p ∙ at_x) (ap number_read q) refl) h
-    number_test sign.Less z a at_x h =
-        bound_test x (Const a) (Number a) (λ m. Binary operator.Less x m) _ k env n regs s e knows
-        below refl
-        (λ m t regs' s' p q. ranked (regs' x) (regs' m) z a (λ y u. is_lt (int_cmp y u)) regs' s' t
-        _ (ap number_read p ∙ at_x) (ap number_read q) refl) h
-    number_test sign.AtMost z a at_x h =
-        bound_test x (Const a) (Number a) (λ m. Binary operator.LessOrEqual x m) _ k env n regs s e
-        knows below refl
-        (λ m t regs' s' p q. ranked (regs' x) (regs' m) z a (λ y u. is_le (int_cmp y u)) regs' s' t
-        _ (ap number_read p ∙ at_x) (ap number_read q) refl) h
-    number_test sign.Greater z a at_x h =
-        bound_test x (Const a) (Number a) (λ m. Binary operator.Less m x) _ k env n regs s e knows
-        below refl
-        (λ m t regs' s' p q. ranked (regs' m) (regs' x) a z (λ y u. is_lt (int_cmp y u)) regs' s' t
-        _ (ap number_read q) (ap number_read p ∙ at_x) (number_gt z a)) h
-    number_test sign.AtLeast z a at_x h =
-        bound_test x (Const a) (Number a) (λ m. Binary operator.LessOrEqual m x) _ k env n regs s e
-        knows below refl
-        (λ m t regs' s' p q. ranked (regs' m) (regs' x) a z (λ y u. is_le (int_cmp y u)) regs' s' t
-        _ (ap number_read q) (ap number_read p ∙ at_x) (number_ge z a)) h
-    number_test sign.Unequal z a at_x h =
-        as_flag _ _ k env regs s e (ne_is (int_cmp z a)) (with_not _ k env regs s e
-        (bound_test x (Const a) (Number a) (λ m. Binary operator.Equal x m) (is_eq (int_cmp z a))
-        (λ e y. write (Not y) e k) env n regs s e knows below refl
-        (λ m t regs' s' p q. ranked (regs' x) (regs' m) z a (λ y u. is_eq (int_cmp y u)) regs' s' t
-        _ (ap number_read p ∙ at_x) (ap number_read q) refl) h))
+    of_two : (x y z : Content) (left right : Env → Rest → Code) (o : Operator)
+        (f f' : law.Grade → law.Grade) → Carries f (At x) left → Carries f' (At y) right
+        → ((a : Place) (l r : ℕ) → At x a l → At y a r → MakesAt a (Binary o l r) z)
+        → Carries (λ g. f (f' (made law.node z g))) (At z) (binary_code left right o)
+    of_two x y z left right o f f' first second makes g a k h =
+        first (f' (made law.node z g)) a (λ e x. right e (λ e y. write (Binary o x y) e k))
+        (λ b l on at_l. second (made law.node z g) b (λ e y. write (Binary o l y) e k)
+        (λ c r more at_r. of_write (Binary o l r) z g c k (makes c l r (more l x at_l) at_r)
+        (later g a c (At z) k (λ q x at. more q x (on q x at)) h)))
 
-    -- the number lies between
-    number_between : (z a b : ℤ) → number_read (regs x) ≡ z
-        → meaning w f may (between_code c x (held.Number a) (held.Number b) env k) n true regs s
-        ≡ Ended e → Reached (At (Flag (is_le (int_cmp a z) && is_le (int_cmp z b)))) k env regs s e
-        (ahead s (between_code c x (held.Number a) (held.Number b) env k))
-    number_between z a b at_x h =
-        bounds_test x (Const a) (Const (b +ℤ pos 1)) (Number a) (Number (b +ℤ pos 1))
-        (λ m1 m2. Within x m1 m2) _ k env n regs s e knows below refl (λ regs' s' t. refl)
-        (λ m1 m2 t regs' s' p q1 q2. ranked3 (regs' x) (regs' m1) (regs' m2) z a (b +ℤ pos 1)
-        (λ y u v. is_le (int_cmp u y) && is_lt (int_cmp y v)) regs' s' t _ (ap number_read p ∙ at_x)
-        (ap number_read q1) (ap number_read q2)
-        (ap (λ o. is_le (int_cmp a z) && o) (number_upto z b)))
-        h
+    abbrev AllAt : List Content → Place → List ℕ → Type 0
+    AllAt xs a rs = AllHold (law.Holds a.env.next a.point) xs rs
 
-    module _ (i : ℕ) (v : List ℕ) (at_x : number_read (regs x) ≡ pos (w.code c i))
-        (low : (t : List ℕ) → nat_lt (w.code c i) (w.low c t) ≡ is_lt (slice_cmp nat_cmp v t))
-        (high : (t : List ℕ) → nat_lt (w.code c i) (w.high c t) ≡ is_le
-        (slice_cmp nat_cmp v t)) where
-      -- the place lies between
-      text_within : (a b : List ℕ) (l : Rest) → meaning w f may
-          (write (Edge Low c a) env (λ e m1. write (Edge High c b) e
-          (λ e m2. write (Within x m1 m2) e l))) n true regs s ≡ Ended e
-          → Reached (At (Flag
-          (not (is_lt (slice_cmp nat_cmp v a)) && is_le (slice_cmp nat_cmp v b)))) l env regs s e
-          (ahead s (write (Edge Low c a) env (λ e m1. write (Edge High c b) e
-          (λ e m2. write (Within x m1 m2) e l))))
-      text_within a b l h =
-          bounds_test x (Edge Low c a) (Edge High c b) (Place c (w.low c a)) (Place c (w.high c b))
-          (λ m1 m2. Within x m1 m2) _ l env n regs s e knows below refl (λ regs' s' t. refl)
-          (λ m1 m2 t regs' s' p q1 q2. ranked3 (regs' x) (regs' m1) (regs' m2) (pos (w.code c i))
-          (pos (w.low c a)) (pos (w.high c b)) (λ y u v. is_le (int_cmp u y) && is_lt (int_cmp y v))
-          regs' s' t _ (ap number_read p ∙ at_x) (ap number_read q1) (ap number_read q2)
-          (λ j. (place_le (w.code c i) (w.low c a) ∙ ap not (low a)) j
-          && (place_lt (w.code c i) (w.high c b) ∙ high b) j)) h
+    of_before : (x : Content) (xs : List Content) (first : Env → Rest → Code)
+        (others : Env → Rests → Code) (f f' : law.Grade → law.Grade) → Carries f (At x) first
+        → Carries f' (AllAt xs) others
+        → Carries (λ g. f (f' g)) (AllAt (x ∷ xs)) (one_before first others)
+    of_before x xs first others f f' one more g a k h =
+        one (f' g) a (λ e r. others e (λ e rs. k e (r ∷ rs)))
+        (λ b r on at. more g b (λ e rs. k e (r ∷ rs))
+        (λ c rs onward all. h c (r ∷ rs) (λ q y at. onward q y (on q y at))
+        (onward r x at, all)))
 
-      text_test : (q : Relation) (t : List ℕ) → meaning w f may
-          (test_code q c x (held.Text t) env k) n true regs s ≡ Ended e
-          → Reached (At (Flag (tests q (slice_cmp nat_cmp v t)))) k env regs s e
-          (ahead s (test_code q c x (held.Text t) env k))
-      text_test sign.Equal t h =
-          as_flag _ _ k env regs s e (eq_both (slice_cmp nat_cmp v t)) (text_within t t k h)
-      text_test sign.Unequal t h =
-          as_flag _ _ k env regs s e (ap not (eq_both (slice_cmp nat_cmp v t)) ∙ ne_is
-          (slice_cmp nat_cmp v t))
-          (with_not _ k env regs s e (text_within t t (λ e y. write (Not y) e k) h))
-      text_test sign.Less t h =
-          bound_test x (Edge Low c t) (Place c (w.low c t)) (λ m. Binary operator.Less x m) _ k env
-          n regs s e knows below refl
-          (λ m o regs' s' p q. ranked (regs' x) (regs' m) (pos (w.code c i)) (pos (w.low c t))
-          (λ y u. is_lt (int_cmp y u)) regs' s' o _ (ap number_read p ∙ at_x) (ap number_read q)
-          (place_lt (w.code c i) (w.low c t) ∙ low t)) h
-      text_test sign.AtMost t h =
-          bound_test x (Edge High c t) (Place c (w.high c t)) (λ m. Binary operator.Less x m) _ k
-          env n regs s e knows below refl
-          (λ m o regs' s' p q. ranked (regs' x) (regs' m) (pos (w.code c i)) (pos (w.high c t))
-          (λ y u. is_lt (int_cmp y u)) regs' s' o _ (ap number_read p ∙ at_x) (ap number_read q)
-          (place_lt (w.code c i) (w.high c t) ∙ high t)) h
-      text_test sign.Greater t h =
-          bound_test x (Edge High c t) (Place c (w.high c t)) (λ m. Binary operator.LessOrEqual m x)
-          _ k env n regs s e knows below refl
-          (λ m o regs' s' p q. ranked (regs' m) (regs' x) (pos (w.high c t)) (pos (w.code c i))
-          (λ y u. is_le (int_cmp y u)) regs' s' o _ (ap number_read q) (ap number_read p ∙ at_x)
-          (place_le (w.code c i) (w.high c t) ∙ ap not (high t)
-          ∙ gt_not_le (slice_cmp nat_cmp v t))) h
-      text_test sign.AtLeast t h =
-          bound_test x (Edge Low c t) (Place c (w.low c t)) (λ m. Binary operator.LessOrEqual m x) _
-          k env n regs s e knows below refl
-          (λ m o regs' s' p q. ranked (regs' m) (regs' x) (pos (w.low c t)) (pos (w.code c i))
-          (λ y u. is_le (int_cmp y u)) regs' s' o _ (ap number_read q) (ap number_read p ∙ at_x)
-          (place_le (w.code c i) (w.low c t) ∙ ap not (low t) ∙ ge_not_lt (slice_cmp nat_cmp v t)))
-          h
+    -- ---- conditions
 
-      text_between : (a b : List ℕ) → meaning w f may
-          (between_code c x (held.Text a) (held.Text b) env k) n true regs s ≡ Ended e
-          → Reached (At (Flag (is_le (slice_cmp nat_cmp a v) && is_le (slice_cmp nat_cmp v b)))) k
-          env regs s e (ahead s (between_code c x (held.Text a) (held.Text b) env k))
-      text_between a b h =
-          as_flag _ _ k env regs s e (ap (λ o. o && is_le (slice_cmp nat_cmp v b))
-          (sym (le_not_lt (slice_cmp nat_cmp v a))
-          ∙ ap is_le (sym (nat_list_cmp_total.antisymm a v)))) (text_within a b k h)
+    of_beside : (c : ColumnId) (l : Limit) (used : ℕ → Operation) (f : Form)
+        → IsLimit law.Sound law.Spelled c l → (g : law.Grade) (a : Place) (k : Rest)
+        → ((b : Place) (m : ℕ) → Onward a b → At (OfLimit c l) b m
+        → MakesAt b (used m) (OfTest c f))
+        → Follows g a (At (OfTest c f)) k → Fact g a (beside (limit_of c l) used a.env k)
+    of_beside c l used f fits g a k makes h =
+        of_write (limit_of c l) (OfLimit c l) g a (λ e n. write (used n) e k) (limits c l fits)
+        (λ b m on at. of_write (used m) (OfTest c f) g b k (makes b m on at)
+        (later g a b (At (OfTest c f)) k on h))
 
-    text_rank : (i : ℕ) (b : Bool) → b ≡ true
-        → number_read (Some (loaded w c i b)) ≡ pos (w.code c i)
-    text_rank i true p = refl
-    text_rank i false p = absurd (cc)
+    of_form : (c : ColumnId) (f : Form) (x : ℕ) → IsForm law.Sound law.Spelled c f
+        → (g : law.Grade) (a : Place) (k : Rest)
+        → At (OfColumn c) a x → Follows g a (At (OfTest c f)) k
+        → Fact g a (form_code c x f a.env k)
+    of_form c (before o l) x fits g a k at h =
+        of_beside c l (λ n. Binary (operator_of o) x n) (before o l) fits g a k
+        (λ b m on at_m. is_before o c l x m fits (on x (OfColumn c) at) at_m) h
+    of_form c (after o l) x fits g a k at h =
+        of_beside c l (λ n. Binary (operator_of o) n x) (after o l) fits g a k
+        (λ b m on at_m. is_after o c l x m fits (on x (OfColumn c) at) at_m) h
+    of_form c (within l u) x fits g a k at h =
+        of_write (limit_of c l) (OfLimit c l) g a
+        (λ e m. beside (limit_of c u) (λ n. Within x m n) e k) (limits c l fits.0)
+        (λ b m on at_m. of_beside c u (λ n. Within x m n) (within l u) fits.1 g b k
+        (λ d n more at_n. is_within c l u x m n fits.0 fits.1
+        (more x (OfColumn c) (on x (OfColumn c) at)) (more m (OfLimit c l) at_m) at_n)
+        (later g a b (At (OfTest c (within l u))) k on h))
+    of_form c (negated f) x fits g a k at h =
+        of_form c f x fits g a (λ e y. write (Not y) e k) at
+        (λ b y on at_y. of_write (Not y) (OfTest c (negated f)) g b k (fails c f y at_y)
+        (later g a b (At (OfTest c (negated f))) k on h))
 
-    -- by the kind of the value and of the literal
-    pub test_runs : (q : Relation) (i : ℕ) (v lit : held.Value) → Shows w c i v
-        → same_kind (kind_of c) (kind_of_value lit) ≡ true
-        → regs x ≡ Some (loaded w c i (is_text c))
-        → meaning w f may (test_code q c x lit env k) n true regs s ≡ Ended e
-        → Reached (At (Flag (tests q (value_cmp v lit)))) k env regs s e
-        (ahead s (test_code q c x lit env k))
-    test_runs q i (held.Number z) (held.Number a) shows kind at_x h =
-        number_test q z a (ap number_read at_x ∙ number_rank c i (is_text c) shows.0 ∙ shows.1) h
-    test_runs q i (held.Text v) (held.Text t) shows kind at_x h =
-        text_test i v (ap number_read at_x ∙ text_rank i (is_text c) shows.0) shows.1.low
-        shows.1.high
-        q t h
-    test_runs q i (held.Number z) (held.Text t) shows kind at_x h =
-        let a : true ≡ false = sym (holds_texts c kind) ∙ shows.0 in absurd (cc)
-    test_runs q i (held.Text v) (held.Number z) shows kind at_x h =
-        let a : true ≡ false = sym shows.0 ∙ holds_numbers c kind in absurd (cc)
+    of_comparison : (t : Comparison ColumnId Value) (x : ℕ)
+        → (law.Sound → comparison_is_sound js t ≡ true)
+        → (law.Spelled → condition_is_spelled (test t) ≡ true) → (g : law.Grade) (a : Place)
+        (k : Rest) → At (OfColumn (column_tested t)) a x
+        → Follows g a (At (OfCondition (test t))) k → Fact g a (comparison_code x t a.env k)
+    of_comparison t x ok said g a k at h =
+        subst (Fact g a) (has_form x t a.env k)
+        (of_form (column_tested t) (comparison_form t) x
+        (form_is_fit law.Sound law.Spelled js t ok said) g a k at
+        (λ b r on at_r. h b r on (it.compared b.env.next b.point t r ok at_r)))
 
-    pub between_runs : (i : ℕ) (v from upto : held.Value) → Shows w c i v
-        → same_kind (kind_of c) (kind_of_value from) ≡ true
-        → same_kind (kind_of c) (kind_of_value upto) ≡ true
-        → regs x ≡ Some (loaded w c i (is_text c))
-        → meaning w f may (between_code c x from upto env k) n true regs s ≡ Ended e
-        → Reached (At (Flag (is_le (value_cmp from v) && is_le (value_cmp v upto)))) k env regs s e
-        (ahead s (between_code c x from upto env k))
-    between_runs i (held.Number z) (held.Number a) (held.Number b) shows k1 k2 at_x h =
-        number_between z a b (ap number_read at_x ∙ number_rank c i (is_text c) shows.0 ∙ shows.1) h
-    between_runs i (held.Text v) (held.Text a) (held.Text b) shows k1 k2 at_x h =
-        text_between i v (ap number_read at_x ∙ text_rank i (is_text c) shows.0) shows.1.low
-        shows.1.high a b h
-    between_runs i (held.Number z) (held.Text t) u shows k1 k2 at_x h =
-        let a : true ≡ false = sym (holds_texts c k1) ∙ shows.0 in absurd (cc)
-    between_runs i (held.Number z) (held.Number a) (held.Text t) shows k1 k2 at_x h =
-        let a : true ≡ false = sym (holds_texts c k2) ∙ shows.0 in absurd (cc)
-    between_runs i (held.Text v) (held.Number z) u shows k1 k2 at_x h =
-        let a : true ≡ false = sym shows.0 ∙ holds_numbers c k1 in absurd (cc)
-    between_runs i (held.Text v) (held.Text a) (held.Number z) shows k1 k2 at_x h =
-        let a : true ≡ false = sym shows.0 ∙ holds_numbers c k2 in absurd (cc)
+    halves : {S : Type 0} (x y : Bool) → (S → (x && y) ≡ true)
+        → (S → x ≡ true) × (S → y ≡ true)
+    halves x y h = (λ s. (and_parts x y (h s)).0, λ s. (and_parts x y (h s)).1)
+
+    of_condition : (d : RowCondition) → (law.Sound → condition_is_sound js d ≡ true)
+        → (law.Spelled → condition_is_spelled d ≡ true)
+        → Carries (λ g. g) (At (OfCondition d)) (condition_code js d)
+    of_condition (or a b) ok said =
+        let oks = halves (condition_is_sound js a) (condition_is_sound js b) ok in
+        let says = halves (condition_is_spelled a) (condition_is_spelled b) said in
+        of_two (OfCondition a) (OfCondition b) (OfCondition (or a b)) (condition_code js a)
+        (condition_code js b) operator.Or (λ g. g) (λ g. g) (of_condition a oks.0 says.0)
+        (of_condition b oks.1 says.1) (λ q l r at_l at_r. either a b l r at_l at_r)
+    of_condition (and a b) ok said =
+        let oks = halves (condition_is_sound js a) (condition_is_sound js b) ok in
+        let says = halves (condition_is_spelled a) (condition_is_spelled b) said in
+        of_two (OfCondition a) (OfCondition b) (OfCondition (and a b)) (condition_code js a)
+        (condition_code js b) operator.And (λ g. g) (λ g. g) (of_condition a oks.0 says.0)
+        (of_condition b oks.1 says.1) (λ q l r at_l at_r. both a b l r at_l at_r)
+    of_condition (not d) ok said = λ g a k h.
+        of_condition d ok said g a (λ e x. write (Not x) e k)
+        (λ b x on at. of_write (Not x) (OfCondition (not d)) g b k (denies d x at)
+        (later g a b (At (OfCondition (not d))) k on h))
+    of_condition (test t) ok said = λ g a k h.
+        subst (Fact g a) (tested_code js t a.env k)
+        (of_column (column_tested t) (λ s. tested_in_scope js t (ok s)) g a
+        (λ e x. comparison_code x t e k)
+        (λ b x on at. of_comparison t x ok said g b k at
+        (later g a b (At (OfCondition (test t))) k on h)))
+
+    of_conjuncts : (ds : List RowCondition)
+        → (law.Sound → list_all (condition_is_sound js) ds ≡ true)
+        → (law.Spelled → list_all condition_is_spelled ds ≡ true) → (g : law.Grade) (a : Place)
+        (k : Env → Code) → ((b : Place) → Onward a b → Fact g b (k b.env))
+        → Fact (conjuncts_grade ds g) a (conjuncts_code js ds a.env k)
+    of_conjuncts [] ok said g a k h = h a (λ r x at. at)
+    of_conjuncts (d ∷ ds) ok said g a k h =
+        let oks = halves (condition_is_sound js d) (list_all (condition_is_sound js) ds) ok in
+        let says = halves (condition_is_spelled d) (list_all condition_is_spelled ds) said in
+        of_condition d oks.0 says.0 (conjuncts_grade (d ∷ ds) g) a
+        (λ e x. Then (Keep x) (conjuncts_code js ds e k))
+        (λ b r on at. it.keep (conjuncts_grade ds g) b.env.next b.point d r
+        (conjuncts_code js ds b.env k) at
+        (λ q stays. of_conjuncts ds oks.1 says.1 g (moved b b.env.next q stays) k
+        (λ c more. h c (λ q x at. more q x (stays q x (on q x at))))))
+
+    -- ---- keys and values
+
+    of_keys : (cs : List ColumnId)
+        → (law.Sound → list_all (λ c. in_scope js (table_of c)) cs ≡ true)
+        → Carries (λ g. g) (AllAt (map OfColumn cs)) (keys_code js cs)
+    of_keys [] ok = λ g a k h. h a [] (λ q x at. at) tt
+    of_keys (c ∷ cs) ok =
+        let oks = halves (in_scope js (table_of c)) (list_all (λ c. in_scope js (table_of c)) cs)
+        ok in
+        of_before (OfColumn c) (map OfColumn cs) (column_code js c) (keys_code js cs) (λ g. g)
+        (λ g. g) (of_column c oks.0) (of_keys cs oks.1)
+
+    of_expression : (e : Expression ColumnId) → (law.Sound → expression_is_sound js e ≡ true)
+        → (law.Spelled → expression_is_spelled e ≡ true)
+        → Carries (expression_grade e) (At (OfExpression e)) (expression_code js e)
+    of_expression (column c) ok said = λ g a k h.
+        of_column c
+        (λ s. (and_parts (in_scope js (table_of c)) (same_kind (kind_of c) kind.Number) (ok s)).0)
+        (law.node (column c) g) a k
+        (λ b r on at. it.column g b.env.next b.point c r (k b.env r) ok at (h b r on))
+    of_expression (constant z) ok said = λ g a k h.
+        of_write (Const z) (OfExpression (constant z)) g a k (constant_made z said) h
+    of_expression (add a b) ok said =
+        let oks = halves (expression_is_sound js a) (expression_is_sound js b) ok in
+        let says = halves (expression_is_spelled a) (expression_is_spelled b) said in
+        of_two (OfExpression a) (OfExpression b) (OfExpression (add a b)) (expression_code js a)
+        (expression_code js b) operator.Add (expression_grade a) (expression_grade b)
+        (of_expression a oks.0 says.0) (of_expression b oks.1 says.1)
+        (λ q l r at_l at_r. adds a b l r at_l at_r)
+    of_expression (sub a b) ok said =
+        let oks = halves (expression_is_sound js a) (expression_is_sound js b) ok in
+        let says = halves (expression_is_spelled a) (expression_is_spelled b) said in
+        of_two (OfExpression a) (OfExpression b) (OfExpression (sub a b)) (expression_code js a)
+        (expression_code js b) operator.Sub (expression_grade a) (expression_grade b)
+        (of_expression a oks.0 says.0) (of_expression b oks.1 says.1)
+        (λ q l r at_l at_r. subtracts a b l r at_l at_r)
+    of_expression (mul a b) ok said =
+        let oks = halves (expression_is_sound js a) (expression_is_sound js b) ok in
+        let says = halves (expression_is_spelled a) (expression_is_spelled b) said in
+        of_two (OfExpression a) (OfExpression b) (OfExpression (mul a b)) (expression_code js a)
+        (expression_code js b) operator.Mul (expression_grade a) (expression_grade b)
+        (of_expression a oks.0 says.0) (of_expression b oks.1 says.1)
+        (λ q l r at_l at_r. multiplies a b l r at_l at_r)
+
+    of_values : (ms : List (Measure ColumnId))
+        → (law.Sound → list_all (measure_is_sound js) ms ≡ true)
+        → (law.Spelled → list_all measure_is_spelled ms ≡ true)
+        → Carries (values_grade ms) (AllAt (numbers_put ms)) (values_code js ms)
+    of_values [] ok said = λ g a k h. h a [] (λ q x at. at) tt
+    of_values (count ∷ ms) ok said = of_values ms ok said
+    of_values (fold f e ∷ ms) ok said =
+        let oks = halves (expression_is_sound js e) (list_all (measure_is_sound js) ms) ok in
+        let says = halves (expression_is_spelled e) (list_all measure_is_spelled ms) said in
+        of_before (OfExpression e) (numbers_put ms) (expression_code js e) (values_code js ms)
+        (expression_grade e) (values_grade ms) (of_expression e oks.0 says.0)
+        (of_values ms oks.1 says.1)
+
+    -- the law holds of a turn
+    pub of_turn : (a : law.Point) → law.Holds 1 a 0 (OfRow Lineorder)
+        → law.Fact (conjuncts_grade p.conjuncts (values_grade p.measures law.last)) 1 a
+        (turn_code p)
+    of_turn a fact =
+        let values = λ (e : Env) (ks : List ℕ). values_code js p.measures e (put_code ks) in
+        let keys = λ (e : Env). keys_code js p.keys e values in
+        let g = values_grade p.measures law.last in
+        of_conjuncts p.conjuncts (λ s. (sound s).conjuncts) (λ s. (spelled s).conjuncts) g
+        (record {
+          env = env_first;
+          point = a;
+          fact = fact;
+          columns = λ c r e. absurd (cc);
+          rows = λ t r e. absurd (cc);
+        }) keys
+        (λ b on. of_keys p.keys (λ s. (sound s).keys) g b values
+        (λ c ks more at_k. of_values p.measures (λ s. (sound s).measures)
+        (λ s. (spelled s).measures) law.last c (put_code ks)
+        (λ d vs again at_v. it.put d.env.next d.point ks vs
+        (all_kept (law.Holds c.env.next c.point) (law.Holds d.env.next d.point) again
+        (map OfColumn p.keys) ks at_k) at_v)))

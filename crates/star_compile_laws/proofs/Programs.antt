@@ -2,41 +2,25 @@
 -- spells.
 use Rattle.std.proofs.Common.{◌≡◌, ℕ, zero, suc, ◌+◌, ◌≤◌, ◌<◌, Bool, true, false, ◌&&◌, ◌||◌, ◌==◌, List, [], ◌∷◌, ◌++◌, length, map, Option, Some, None, All, refl, sym, ap, subst, ◌∙◌, arith}
 use Rattle.std.specs.Prelude.{nat_lt, nat_le, slice_index_or, if◌then◌else◌}
-use Rattle.std.specs.Int.{is_in_range}
-use Rattle.std.specs.List.{list_all}
+use Rattle.std.specs.{Int.is_in_range, List.list_all}
 use Rattle.std.proofs.lemmas.Bool.{and_parts, and_from, or_right, lt-ltb, ltb-true, le-leb}
-use Rattle.std.proofs.lemmas.List.{length-map}
-use Rattle.std.proofs.lemmas.List.Elements.{All-nil, All-cons, All-append, All-map}
-use Rattle.std.proofs.lemmas.List.Folds.{list_all-append}
-use Rattle.star_schema.specs.declared.column.ColumnId.{ColumnId}
-use Rattle.star_schema.specs.declared.column.ColumnId.TheVariants.{DDatekey}
-use Rattle.star_schema.specs.declared.group.GroupColumn.{GroupColumn}
+use Rattle.std.proofs.lemmas.List.{length-map, Elements.All-nil, Elements.All-cons, Elements.All-append, Elements.All-map, Folds.list_all-append}
+use Rattle.star_schema.specs.declared.{column.ColumnId.ColumnId, column.ColumnId.TheVariants.DDatekey, group.GroupColumn.GroupColumn, group.SortKey.SortKey, table.TableId.TheVariants.Lineorder}
 use Rattle.star_schema.specs.declared.group.GroupColumn.TheVariants as group
-use Rattle.star_schema.specs.declared.group.SortKey.{SortKey}
-use Rattle.star_schema.specs.declared.table.TableId.TheVariants.{Lineorder}
 use Rattle.star_schema.specs.Schema.{column_name, column_of}
 use Rattle.star_query.specs.Tokens.{begins_with_letter, is_word_byte}
 use Rattle.star_query.specs.Spelled as asked
-use Rattle.star_plan.specs.Meaning.{aggregate_of, Plan}
-use Rattle.star_plan.specs.Limits.{IsPlanWithinLimits}
-use Rattle.star_plan.specs.Sound.{IsSoundPlan, is_group_column}
-use Rattle.star_plan.specs.Spelled.{IsSpelledPlan}
-use Rattle.star_program.specs.declared.group.GroupDecl.{GroupDecl}
+use Rattle.star_plan.specs.{Meaning.aggregate_of, Meaning.Plan, Limits.IsPlanWithinLimits, Sound.IsSoundPlan, Sound.is_group_column, Spelled.IsSpelledPlan}
+use Rattle.star_program.specs.declared.{group.GroupDecl.GroupDecl, program.Show.Show}
 use Rattle.star_program.specs.declared.group.GroupKey.TheVariants as key
-use Rattle.star_program.specs.World.{is_text}
-use Rattle.star_program.specs.declared.program.Show.{Show}
+use Rattle.star_program.specs.{World.is_text, Limits.IsSmall, Limits.IsWithinLimits, Text.Numerals.is_show_name, Text.Numerals.is_name_byte, Text.Spellable.IsKey, Text.Spellable.IsShortColumn, Text.Spellable.IsSayable, Text.Spellable.IsSpellable}
 use Rattle.star_program.specs.declared.spelling.statement.Statement.TheVariants as says
 use Rattle.star_program.specs.Code.{code_size, Code, Stop, Then, Each}
-use Rattle.star_program.specs.Limits.{IsSmall, IsWithinLimits}
-use Rattle.star_program.specs.Text.Numerals.{is_show_name, is_name_byte}
 use Rattle.star_program.specs.ShowLines.{has_column, first_unshown, named_columns, reports, shown_fault}
-use Rattle.star_program.specs.Text.Spellable.{IsKey, IsShortColumn, IsSayable, IsSpellable}
 use Rattle.star_program.specs.Text.Statements.{Line, line, lines_of_code, show_line, sort_line, lines_of_program}
 use Rattle.star_compile_laws.specs.Compiled.{compiled, body_code, turn_code, plan_group, key_of_group, plan_show}
 use Rattle.star_query_meaning.specs.Answers.{shown_name}
-use Rattle.star_compile_laws.proofs.Flat.{turn_is_flat, flat_depth}
-use Rattle.star_compile_laws.proofs.Sizes.{body_size, registers_size}
-use Rattle.star_compile_laws.proofs.Sayable.{Spelled, turn_spelled}
+use Rattle.star_compile_laws.proofs.{Flat.turn_is_flat, Flat.flat_depth, Sizes.body_size, Sizes.registers_size, Sayable.Spelled, Sayable.turn_spelled}
 
 -- ---- limits
 
@@ -227,7 +211,7 @@ pub is_spellable : (p : Plan) → IsPlanWithinLimits p → IsSoundPlan p → IsS
 is_spellable p l sound spelled =
     let limits = is_within_limits p l in
     let few = limits.registers in
-    let turn = turn_spelled p spelled.conjuncts spelled.measures (omega arith) in
+    let turn = turn_spelled p spelled (omega arith) in
     let header = line 0 says.Header in
     let registers = line 0 (says.Registers (compiled p).registers) in
     let group = line 0 (says.Group 0 (plan_group p)) in

@@ -2,27 +2,17 @@
 use Rattle.std.proofs.Common.{ℕ, List, refl, ◌∙◌}
 use Rattle.std.specs.Prelude.{All}
 use Rattle.star_schema.specs.declared.table.TableId.{TableId}
-use Rattle.star_schema.specs.Database.{Database, rows_in}
-use Rattle.star_schema.specs.Loadable.{IsSound}
-use Rattle.star_schema.specs.Tables.{IsRowOf}
-use Rattle.star_query.specs.Derives.{Means}
-use Rattle.star_query.specs.Tree.{Tree}
-use Rattle.star_plan.specs.Meaning.{Plan, plan_rows}
-use Rattle.star_plan.specs.Resolved.{IsResolved}
-use Rattle.star_plan.specs.WellNamed.{IsWellNamed}
-use Rattle.star_plan.proofs.Conditions.{no_fault}
-use Rattle.star_plan.proofs.Kept.{kept_sound}
+use Rattle.star_schema.specs.{Database.Database, Database.rows_in, Loadable.IsSound, Tables.IsRowOf}
+use Rattle.star_query.specs.{Derives.Means, Tree.Tree}
+use Rattle.star_plan.specs.{Meaning.Plan, Meaning.plan_rows, Resolved.IsResolved, WellNamed.IsWellNamed}
+use Rattle.star_plan.proofs.{Conditions.no_fault, Kept.kept_sound}
 use Rattle.star_program.specs.World.{World}
 use Rattle.std.proofs.lemmas.List.Sorted.{length_permutation}
 use Rattle.star_query_meaning.specs.Rows.{selected}
 use Rattle.star_query_meaning.proofs.OwnWords.{own_answer, selected_reordered}
-use Rattle.star_world.specs.RowsSeen.{IsWorldOf}
-use Rattle.star_world.specs.WorldOf.{world_of}
-use Rattle.star_compile_laws.specs.Answers.{AnswersTheQuery, ReportsTheQuery}
-use Rattle.star_compile_laws.specs.Counts.{CountsTheRows}
-use Rattle.star_compile_laws.proofs.Answered.{answers_the_plan}
-use Rattle.star_compile_laws.proofs.Rows.{counts_the_rows}
-use Rattle.star_compile_laws.proofs.SeenRows.{sees}
+use Rattle.star_world.specs.{RowsSeen.IsWorldOf, WorldOf.world_of}
+use Rattle.star_compile_laws.specs.{Answers.AnswersTheQuery, Answers.ReportsTheQuery, Counts.CountsTheRows}
+use Rattle.star_compile_laws.proofs.{Answered.answers_the_plan, Rows.counts_the_rows, SeenRows.sees}
 
 pub answers_the_query : (database : Database) (w : World) (query : Tree) (p : Plan)
     → ((t : TableId) → All (IsRowOf t) (rows_in database t))

@@ -4,25 +4,16 @@ use Rattle.std.specs.Prelude.{pos, slice_get, All}
 use Rattle.std.specs.Option.{option_map}
 use Rattle.std.proofs.lemmas.Option.{same_Some, slice_get-map, slice_get-get_or, slice_get_within, get_or_from_slice_get}
 use Rattle.star_plan.proofs.Options.{mapped_gave}
-use Rattle.star_schema.specs.declared.table.TableId.{TableId}
-use Rattle.star_schema.specs.declared.table.Key.{Key}
-use Rattle.star_schema.specs.declared.table.Key.TheVariants.{One, Two}
-use Rattle.star_schema.specs.declared.column.ColumnId.{ColumnId}
+use Rattle.star_schema.specs.declared.{table.TableId.TableId, table.Key.Key, table.Key.TheVariants.One, table.Key.TheVariants.Two, column.ColumnId.ColumnId}
 use Rattle.star_schema.specs.declared.column.Kind.TheVariants as kind
-use Rattle.star_schema.specs.Bounds.{number_in, numbers_at}
-use Rattle.star_schema.specs.Database.{Database, rows_in}
-use Rattle.star_schema.specs.Schema.{key_of, kind_of, place_of, table_of}
+use Rattle.star_schema.specs.{Bounds.number_in, Bounds.numbers_at, Database.Database, Database.rows_in, Schema.key_of, Schema.kind_of, Schema.place_of, Schema.table_of, Texts.text_in, Texts.texts_at}
 use Rattle.star_schema.specs.Tables.{Value, Number, Text, IsRowOf, kind_of_value}
-use Rattle.star_schema.specs.Texts.{text_in, texts_at}
-use Rattle.star_schema.proofs.KeyColumns.{kind_at_place, key_column}
-use Rattle.star_schema.proofs.Same.{column_same}
-use Rattle.star_plan.specs.Joins.{is_lone_key}
-use Rattle.star_plan.specs.Meaning.{Row, value_in}
+use Rattle.star_schema.proofs.{KeyColumns.kind_at_place, KeyColumns.key_column, Same.column_same}
+use Rattle.star_plan.specs.{Joins.is_lone_key, Meaning.Row, Meaning.value_in}
 use Rattle.star_program.specs.World.{World}
 use Rattle.star_world.specs.RowsSeen.{HasNumber, HasText, IsWorldOf}
 use Rattle.star_world.proofs.Loaded.{numbers_len}
-use Rattle.star_compile_laws.proofs.Joins.{of_text}
-use Rattle.star_compile_laws.proofs.TurnRows.{Sees, Shows, row_at}
+use Rattle.star_compile_laws.proofs.{Joins.of_text, TurnRows.Sees, TurnRows.Shows, TurnRows.row_at}
 
 -- a row has a value for a column, of its kind
 record Holds (c : ColumnId) (row : Row) : Type 0 where

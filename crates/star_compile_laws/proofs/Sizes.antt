@@ -3,26 +3,21 @@
 use Rattle.std.proofs.Common.{◌≡◌, ℕ, zero, suc, ◌+◌, ◌*◌, ◌≤◌, Bool, true, false, List, [], ◌∷◌, ◌++◌, length, Option, Some, None, refl, ap, ◌∙◌, arith}
 use Rattle.std.specs.List.{sum_by}
 use Rattle.std.proofs.lemmas.List.Sums.{sum_by-cons}
-use Rattle.star_schema.specs.declared.table.TableId.{TableId}
+use Rattle.star_schema.specs.declared.{table.TableId.TableId, column.ColumnId.ColumnId}
 use Rattle.star_schema.specs.declared.table.TableId.TheVariants.{Date, Customer, Supplier, Part, Lineorder}
-use Rattle.star_schema.specs.declared.column.ColumnId.{ColumnId}
-use Rattle.star_schema.specs.Schema.{is_table, table_of}
+use Rattle.star_schema.specs.{Schema.is_table, Schema.table_of, Tables.Value, Tables.Number, Tables.Text}
 use Rattle.star_schema.proofs.Same.{table_same}
-use Rattle.star_schema.specs.Tables.{Value, Number, Text}
 use Rattle.star_query.specs.declared.token.Relation.{Relation}
 use Rattle.star_query.specs.declared.token.Relation.TheVariants as sign
 use Rattle.star_plan.specs.declared.tree.Join.{Join}
 use Rattle.star_query.specs.Tree.{Expression, column, constant, add, sub, mul, or, and, not, test, compare, between, Measure, count, fold}
 use Rattle.star_plan.specs.Meaning.{Plan, RowCondition}
 use Rattle.star_query.specs.Limits.{operands_of, comparisons_of, measure_operands}
-use Rattle.star_program.specs.declared.op.Op.TheVariants.{Keep}
-use Rattle.star_program.specs.declared.op.Operation.{Operation}
-use Rattle.star_program.specs.declared.op.Operation.TheVariants.{Binary, Const, Not}
-use Rattle.star_program.specs.declared.op.Operator.{Operator}
+use Rattle.star_program.specs.declared.op.{Op.TheVariants.Keep, Operation.Operation, Operation.TheVariants.Binary, Operation.TheVariants.Const, Operation.TheVariants.Not, Operator.Operator}
 use Rattle.star_program.specs.declared.op.Operator.TheVariants as operator
 use Rattle.star_program.specs.Code.{Code, Stop, Then, Each, code_size}
 use Rattle.star_program.specs.Faults.{target_of}
-use Rattle.star_compile_laws.specs.Compiled.{Env, Rest, Rests, one_before, beside, binary_code, column_code, start_of, end_behind, equal_code, find_code, env_first, loaded_in, found_in, one_more, with_loaded, with_found, foreign_of, fact_code, row_code, place_code, column_from, test_code, between_code, condition_code, expression_code, conjuncts_code, keys_code, values_code, put_code, body_code, write, load_code, writes_one, register_count}
+use Rattle.star_compile_laws.specs.Compiled.{Env, Rest, Rests, one_before, binary_code, column_code, find_code, env_first, loaded_in, found_in, one_more, with_loaded, with_found, foreign_of, fact_code, row_code, place_code, column_from, test_code, between_code, condition_code, expression_code, conjuncts_code, keys_code, values_code, put_code, body_code, write, load_code, writes_one, register_count}
 use Rattle.star_compile_laws.proofs.Entries.{one_if, missing, entry_falls}
 
 -- ---- tables whose rows are not found
@@ -132,12 +127,8 @@ of_test sign.Equal c x (Number a) env k m h = omega (arith, h (behind 2 env) (be
 of_test sign.Equal c x (Text t) env k m h = omega (arith, h (behind 3 env) (behind 2 env).next)
 of_test sign.Unequal c x (Number a) env k m h = omega (arith, h (behind 3 env) (behind 2 env).next)
 of_test sign.Unequal c x (Text t) env k m h = omega (arith, h (behind 4 env) (behind 3 env).next)
-of_test sign.AtMost c x (Number a) env k m h = omega (arith, h (behind 2 env) (behind 1 env).next)
-of_test sign.AtMost c x (Text t) env k m h = omega (arith, h (behind 2 env) (behind 1 env).next)
-of_test sign.Greater c x (Number a) env k m h = omega (arith, h (behind 2 env) (behind 1 env).next)
-of_test sign.Greater c x (Text t) env k m h = omega (arith, h (behind 2 env) (behind 1 env).next)
-of_test sign.Less c x v env k m h = omega (arith, h (behind 2 env) (behind 1 env).next)
-of_test sign.AtLeast c x v env k m h = omega (arith, h (behind 2 env) (behind 1 env).next)
+of_test _ c x (Number a) env k m h = omega (arith, h (behind 2 env) (behind 1 env).next)
+of_test _ c x (Text t) env k m h = omega (arith, h (behind 2 env) (behind 1 env).next)
 
 module _ (js : List Join) where
   of_row : (t : TableId) (env : Env) (k : Rest) (m : ℕ) (o : Option ℕ)

@@ -1,39 +1,29 @@
 -- A turn of a compiled program, and its scan.
-use Rattle.std.proofs.Common.{◌≡◌, ℕ, zero, suc, ◌+◌, ◌≤◌, ◌<◌, ◌++◌, Bool, true, false, List, [], ◌∷◌, Some, None, length, add-zero, append-nil, refl, sym, ap, subst, ◌∙◌, arith}
+use Rattle.std.proofs.Common.{◌≡◌, ℕ, zero, suc, ◌+◌, ◌<◌, Bool, true, false, List, [], ◌∷◌, Option, Some, None, length, add-zero, refl, sym, ap, subst, ◌∙◌, arith}
 use mathlib.Core.List.{reverse_aux}
-use Rattle.std.proofs.lemmas.Bool.{and_parts}
-use Rattle.std.specs.Prelude.{pos, ◌&&◌, nat_lt, map, filter, if◌then◌else◌}
-use Rattle.std.specs.List.{list_all, sum_by}
-use Rattle.std.proofs.lemmas.List.Sums.{sum_by-cons}
-use Rattle.star_schema.specs.declared.table.TableId.{TableId}
-use Rattle.star_schema.specs.declared.table.TableId.TheVariants.{Lineorder}
-use Rattle.star_schema.specs.declared.column.ColumnId.{ColumnId}
-use Rattle.star_schema.specs.Schema.{table_of}
+use Rattle.std.proofs.lemmas.{Bool.and_parts, List.Sums.sum_by-cons}
+use Rattle.std.specs.Prelude.{pos, ◌&&◌, not, nat_lt, map, filter, if◌then◌else◌, unwrap_or}
+use Rattle.std.specs.{List.list_all, List.sum_by, Ordering.is_le, Ordering.is_lt}
+use Rattle.star_schema.specs.declared.{table.TableId.TableId, table.TableId.TheVariants.Lineorder, column.ColumnId.ColumnId}
+use Rattle.star_schema.specs.declared.column.Kind.TheVariants as kind
+use Rattle.star_schema.specs.Schema.{kind_of, table_of}
 use Rattle.star_schema.specs.Tables as held
 use Rattle.star_query.specs.declared.token.Fold.TheVariants.{Sum, Min, Max}
-use Rattle.star_query.specs.Tree.{Expression, Measure, count, fold}
-use Rattle.star_plan.specs.Meaning.{Joined, joined_value, holds, all_hold, number_with, measured, aggregate_of, Plan, RowCondition}
-use Rattle.star_plan.specs.Sound.{in_scope, condition_is_sound, expression_is_sound, measure_is_sound, IsSoundPlan}
+use Rattle.star_query.specs.Tree.{Expression, Measure, add, column, constant, count, fold, mul, sub}
+use Rattle.star_plan.specs.Meaning.{Joined, joined_value, holds, all_hold, number_with, measured, aggregate_of, Plan, RowCondition, value_number}
+use Rattle.star_plan.specs.{Names.same_kind, Sound.in_scope, Sound.IsSoundPlan}
 use Rattle.star_program.specs.declared.key.KeyValue.TheVariants as key
-use Rattle.star_program.specs.declared.op.Op.TheVariants.{Keep, Put}
-use Rattle.star_program.specs.declared.program.Parts.{Parts}
-use Rattle.star_program.specs.Code.{Code, Stop, Then}
-use Rattle.star_program.specs.World.{World, is_text}
-use Rattle.star_program.specs.declared.value.Value.{Value}
-use Rattle.star_program.specs.declared.value.Value.TheVariants.{Number, Row}
-use Rattle.star_program.specs.Values.{Registers, with_entry, number_read, flag_read, key_read}
-use Rattle.star_program.specs.Faults.{group_at, fault_of}
-use Rattle.star_program.specs.Puts.{Update, aligned, overflows}
-use Rattle.star_program.specs.Effects.{State, with_update, update_of, loaded, kinds_in, effect_of}
-use Rattle.star_program.specs.Private.Doing.{keeps, puts}
+use Rattle.star_program.specs.declared.{fault.TrapKind.TrapKind, op.Op.TheVariants.Assign, op.Op.TheVariants.Keep, op.Op.TheVariants.Put, op.Operation.Operation, op.Operation.TheVariants.Find, program.Parts.Parts, value.Value.Value, value.Value.TheVariants.Flag, value.Value.TheVariants.Number, value.Value.TheVariants.Row}
+use Rattle.star_program.specs.declared.op.Operator.TheVariants as operator
+use Rattle.star_program.specs.{Code.Code, Code.Stop, Code.Then, World.World, World.is_text, Puts.Update, Puts.aligned, Private.Doing.keeps}
+use Rattle.star_program.specs.Values.{Registers, with_entry, number_read, flag_read, key_read, row_read}
+use Rattle.star_program.specs.Effects.{Effect, State, Updates, answer_of, compared, loaded, mark_of, marked, result_of, trap_of, unless_trap, update_of, with_update}
 use Rattle.star_program.specs.Run.{End, Ended, Trapped, Limited, follow, after, begin, turns, scans, meaning}
-use Rattle.star_compile_laws.specs.Compiled.{Env, Rest, Rests, one_before, column_code, conjuncts_code, env_first, expression_code, keys_code, values_code, put_code, turn_code, body_code}
-use Rattle.star_compile_laws.specs.Answers.{coded, update_of_row}
-use Rattle.star_compile_laws.specs.Counts.{turn_lookups}
-use Rattle.star_compile_laws.proofs.Entries.{one_if}
-use Rattle.star_compile_laws.proofs.TurnRows.{Shows, IsTurn, numbers}
-use Rattle.star_compile_laws.proofs.Pieces.{ahead, no_fault, Knows, Reached, Runs, At, chained_as, reached}
-use Rattle.star_compile_laws.proofs.TurnPieces.{here, column_runs, condition_runs, expression_runs}
+use Rattle.star_compile_laws.specs.Compiled.{body_code, compiled, foreign_of, plan_group, turn_code}
+use Rattle.star_compile_laws.specs.{Answers.coded, Answers.update_of_row, Counts.lookups_in, Counts.turn_lookups}
+use Rattle.star_compile_laws.proofs.Contents.{AllHold, Content, Makes, OfColumn, OfCondition, OfExpression, OfLimit, OfRow, OfTest, adds, both, column_tested, constant_made, denies, edge, either, fails, finds, is_after, is_before, is_within, limits, loads, multiplies, number, numbers_put, operator_of, subtracts}
+use Rattle.star_compile_laws.proofs.{Entries.entry_other, Entries.entry_same, Entries.one_if, Forms.comparison_says, Forms.form_value, Forms.limit_value, Joins.holds_numbers, Limits.tested_in_scope, TurnRows.Shows, TurnRows.IsTurn, TurnRows.numbers, TurnRows.place_in}
+use Rattle.star_compile_laws.proofs.Pieces.{IsKept, Law, Stays, conjuncts_grade, expression_grade, made, of_turn, values_grade}
 
 -- the updates of each group, with that of the row where it is selected
 abbrev pub put_if : World → Plan → Joined → Bool → (ℕ → List Update) → ℕ → List Update
@@ -41,182 +31,158 @@ put_if w p row true us = with_update us 0 (update_of_row w p row)
 put_if w p row false us = us
 
 -- what a turn leaves: the update of the row where it is selected, and `lookups` look-ups in all
-pub record Turned (w : World) (p : Plan) (row : Joined) (selected : Bool) (s e : State)
-    (lookups : ℕ) : Type 0 where
-  pub put : e.updates_of ≡ put_if w p row selected s.updates_of
-  pub visits : e.visits ≡ s.visits
-  pub updates : e.updates ≡ s.updates + one_if selected
-  pub looked : e.lookups ≡ lookups
+abbrev pub turned : World → Plan → Joined → Bool → State → (lookups : ℕ) → State
+turned w p row selected s lookups = record s {
+  updates_of = put_if w p row selected s.updates_of;
+  lookups = lookups;
+  updates = s.updates + one_if selected;
+}
 
-module _ (w : World) (f : Parts) (may : ℕ → Bool) (at : TableId → ℕ) (p : Plan) (row : Joined)
-    (turn : IsTurn w p.joins at row) where
-  -- ---- conjuncts
+-- an effect that ends a run is not a trap
+untrapped : (o : Option TrapKind) (x : Effect) (n : ℕ) (next : Registers → State → End) (e : State)
+    → follow n (unless_trap o x) next ≡ Ended e → follow n x next ≡ Ended e
+untrapped None x n next e h = h
+untrapped (Some trap) x n next e h = absurd (cc)
 
-  -- the turn has ended with nothing put
-  record Ends (s e : State) (total : List Bool → ℕ) : Type 0 where
-    same : e.updates_of ≡ s.updates_of
-    visits : e.visits ≡ s.visits
-    updates : e.updates ≡ s.updates
-    looked : (flags : List Bool) → e.lookups ≡ total flags
+record Point : Type 0 where
+  number : ℕ
+  regs : Registers
+  state : State
 
-  -- it goes on, or it has ended so
-  abbrev Kept : Bool → (Env → Code) → Env → Registers → State → State → (List Bool → ℕ) → Type 0
-  Kept true k env regs s e total =
-      Reached w f may at {A = Unit {0}} (λ n r u. Unit {0}) (λ e u. k e) env regs s e total
-  Kept false k env regs s e total = Ends s e total
+abbrev all_so : List Bool → Bool
+all_so [] = true
+all_so (b ∷ bs) = b && all_so bs
 
-  kept_after : {A : Type 0} {P : ℕ → Registers → A → Type 0} {l : Env → A → Code} (b : Bool)
-      (k : Env → Code) (env : Env) (regs : Registers) (s e : State) (before total : List Bool → ℕ)
-      (q : Reached w f may at P l env regs s e before) (after : List Bool → ℕ)
-      → ((flags : List Bool) → after flags ≡ total flags)
-      → Kept b k q.env' q.regs' q.s' e after → Kept b k env regs s e total
-  kept_after true k env regs s e before total q after alike r = record {
-    env' = r.env';
-    out = r.out;
-    n = r.n;
-    regs' = r.regs';
-    s' = r.s';
-    knows = r.knows;
-    onward = (let a = q.onward in let b = r.onward in omega arith);
-    kept = λ x h. r.kept x (let a = q.onward in omega arith) ∙ q.kept x h;
-    says = r.says;
-    same = r.same ∙ q.same;
-    visits = r.visits ∙ q.visits;
-    updates = r.updates ∙ q.updates;
-    looked = λ flags. r.looked flags ∙ alike flags;
-    goes = r.goes;
+module _ (w : World) (may : ℕ → Bool) (at : TableId → ℕ) (p : Plan) (row : Joined)
+    (turn : IsTurn w p.joins at row) (sound : IsSoundPlan p) (e : State) where
+  abbrev f : Parts
+  f = compiled p
+
+  -- ---- what registers hold
+
+  abbrev here : ColumnId → Value
+  here c = loaded w c (at (table_of c)) (is_text c)
+
+  abbrev value_of : Content → Value
+  value_of (OfRow t) = Row t (at t)
+  value_of (OfColumn c) = here c
+  value_of (OfLimit c l) = limit_value w c l
+  value_of (OfTest c x) = form_value w c (here c) x
+  value_of (OfCondition d) = Flag (holds d row)
+  value_of (OfExpression a) = Number (number_with (λ c. joined_value c row) a)
+
+  abbrev Holds : ℕ → Point → ℕ → Content → Type 0
+  Holds n a r x = (r < n) × (a.regs r ≡ Some (value_of x))
+
+  -- a run from here that ends has put the row where the conjuncts that follow hold
+  abbrev law : Law p
+  law = record {
+    Sound = Unit {0};
+    Spelled = ⊥;
+    Grade = List Bool;
+    Point = Point;
+    Holds = Holds;
+    Fact = λ flags n a code. meaning w f may code a.number true a.regs a.state ≡ Ended e
+        → e ≡ turned w p row (all_so flags) a.state (a.state.lookups + lookups_in code flags);
+    node = λ a flags. flags;
+    conjunct = λ d flags. holds d row ∷ flags;
+    last = [];
   }
-  kept_after false k env regs s e before total q after alike r = record {
-    same = r.same ∙ q.same;
-    visits = r.visits ∙ q.visits;
-    updates = r.updates ∙ q.updates;
-    looked = λ flags. r.looked flags ∙ alike flags;
-  }
 
-  -- by the keep at the end of a conjunct, and the conjuncts behind it
-  kept_by : (b c : Bool) (more : List Bool) (k : Env → Code) (x : ℕ) (rest : Code) (env : Env)
-      (n : ℕ) (regs : Registers) (s e : State)
-      → follow n (keeps regs s b) (meaning w f may rest (n + 1) true) ≡ Ended e
-      → (meaning w f may rest (n + 1) true regs s ≡ Ended e
-      → Kept c k env regs s e (λ flags. ahead s rest (more ++ flags)))
-      → Kept (b && c) k env regs s e (λ flags. ahead s (Then (Keep x) rest) (b ∷ (more ++ flags)))
-  kept_by true c more k x rest env n regs s e h g = g h
-  kept_by false c more k x rest env n regs s e h g =
-      let same : s ≡ e = cc in
-      record {
-        same = ap (λ x. x.updates_of) (sym same);
-        visits = ap (λ x. x.visits) (sym same);
-        updates = ap (λ x. x.updates) (sym same);
-        looked = λ flags. ap (λ x. x.lookups) (sym same) ∙ sym (add-zero s.lookups);
-      }
+  number_of : (c : ColumnId) (i : ℕ) (b : Bool) → b ≡ false
+      → number_read (Some (loaded w c i b)) ≡ w.number c i
+  number_of c i true h = absurd (cc)
+  number_of c i false h = refl
 
-  -- what the conjuncts say of the row
-  abbrev flags_of : List RowCondition → List Bool
-  flags_of cs = map (λ c. holds c row) cs
+  result : (n : ℕ) (a : Point) (o : Operation) (x : Content)
+      → Makes p.joins (Unit {0}) ⊥ (Holds n a) o x → result_of w f a.regs a.state o ≡ value_of x
+  result n a _ _ (loads c t row of at_row) =
+      λ i. loaded w c ((ap row_read at_row.1 ∙ ap at (sym (of tt))) i) (is_text c)
+  result n a _ _ (finds t key joined at_key) =
+      let c = foreign_of p.joins t in
+      let fk = turn.keys t (joined tt) in
+      let found : w.find t (number_read (a.regs key)) ≡ Some (at t) =
+      ap (λ x. w.find t (number_read x)) at_key.1
+      ∙ ap (w.find t) (number_of c (at (table_of c)) (is_text c) fk.1
+      ∙ ap (λ q. w.number c (at q)) fk.0)
+      ∙ turn.found t (joined tt) in
+      ap (λ o. Row t (unwrap_or o 0)) found
+  result n a _ _ (limits c (number z) is) = refl
+  result n a _ _ (limits c (edge k text) is) = refl
+  result n a _ _ (is_before o c l x m is at_x at_m) =
+      λ i. answer_of (operator_of o) (at_x.1 i) (at_m.1 i)
+  result n a _ _ (is_after o c l x m is at_x at_m) =
+      λ i. answer_of (operator_of o) (at_m.1 i) (at_x.1 i)
+  result n a _ _ (is_within c l u x m q is also at_x at_m at_q) =
+      λ i. Flag (is_le (compared (at_m.1 i) (at_x.1 i)) && is_lt (compared (at_x.1 i) (at_q.1 i)))
+  result n a _ _ (fails c f x at_x) = λ i. Flag (not (flag_read (at_x.1 i)))
+  result n a _ _ (denies d x at_x) = λ i. Flag (not (flag_read (at_x.1 i)))
+  result n a _ _ (either c d x y at_x at_y) = λ i. answer_of operator.Or (at_x.1 i) (at_y.1 i)
+  result n a _ _ (both c d x y at_x at_y) = λ i. answer_of operator.And (at_x.1 i) (at_y.1 i)
+  result n a _ _ (constant_made z said) = refl
+  result n a _ _ (adds c d x y at_x at_y) = λ i. answer_of operator.Add (at_x.1 i) (at_y.1 i)
+  result n a _ _ (subtracts c d x y at_x at_y) = λ i. answer_of operator.Sub (at_x.1 i) (at_y.1 i)
+  result n a _ _ (multiplies c d x y at_x at_y) = λ i. answer_of operator.Mul (at_x.1 i) (at_y.1 i)
 
-  conjuncts_run : (cs : List RowCondition) → list_all (condition_is_sound p.joins) cs ≡ true
-      → (k : Env → Code) (env : Env) (n : ℕ) (regs : Registers) (s e : State)
-      → Knows w f may at env regs → meaning w f may (conjuncts_code p.joins cs env k) n true regs s
+  -- ---- instructions
+
+  -- a find is a look-up, and no other operation is
+  counted : (o : Operation) (t : ℕ) (b : Bool) (rest : Code) (flags : List Bool)
+      (regs : Registers) (s : State)
+      → (let s' = marked (mark_of f regs (Assign t o)) s in
+      e ≡ turned w p row b s' (s'.lookups + lookups_in rest flags))
+      → e ≡ turned w p row b s (s.lookups + lookups_in (Then (Assign t o) rest) flags)
+  counted (Find table key) t b rest flags regs s h = h ∙ ap (turned w p row b s) (omega arith)
+  counted _ t b rest flags regs s h = h
+
+  made_is : (x : Content) (flags : List Bool) → made law.node x flags ≡ flags
+  made_is (OfExpression a) flags = refl
+  made_is _ flags = refl
+
+  step : (flags : List Bool) (n : ℕ) (a : Point) (o : Operation) (x : Content) (rest : Code)
+      → Makes p.joins (Unit {0}) ⊥ (Holds n a) o x
+      → ((b : Point) → Stays law n a (n + 1) b → Holds (n + 1) b n x
+      → law.Fact flags (n + 1) b rest)
+      → law.Fact (made law.node x flags) n a (Then (Assign n o) rest)
+  step flags n a o x rest makes next =
+      subst (λ g. law.Fact g n a (Then (Assign n o) rest)) (sym (made_is x flags))
+      (λ h. let v = value_of x in
+      let s = marked (mark_of f a.regs (Assign n o)) a.state in
+      let goes = untrapped (trap_of w f true a.regs a.state (Assign n o)) _ a.number
+      (meaning w f may rest (a.number + 1) true) e h in
+      counted o n (all_so flags) rest flags a.regs a.state
+      (next (record { number = a.number + 1; regs = with_entry a.regs n v; state = s })
+      (λ r y at. (omega (arith, at.0), entry_other a.regs n r v at.0 ∙ at.1))
+      (omega arith, entry_same a.regs n v)
+      (subst (λ v. meaning w f may rest (a.number + 1) true (with_entry a.regs n v) s ≡ Ended e)
+      (result n a o x makes) goes)))
+
+  kept_by : (b : Bool) (flags : List Bool) (a : Point) (r : ℕ) (rest : Code)
+      → (meaning w f may rest (a.number + 1) true a.regs a.state ≡ Ended e
+      → e ≡ turned w p row (all_so flags) a.state (a.state.lookups + lookups_in rest flags))
+      → follow a.number (keeps a.regs a.state b) (meaning w f may rest (a.number + 1) true)
       ≡ Ended e
-      → Kept (all_hold cs row) k env regs s e
-      (λ flags. ahead s (conjuncts_code p.joins cs env k) (flags_of cs ++ flags))
-  conjuncts_run [] ok k env n regs s e knows h =
-      reached w f may at (λ n r u. Unit {0}) (λ e u. k e) env tt n regs s e knows tt h
-  conjuncts_run (c ∷ cs) ok k env n regs s e knows h =
-      let oks =
-      and_parts (condition_is_sound p.joins c) (list_all (condition_is_sound p.joins) cs) ok in
-      let whole = conjuncts_code p.joins (c ∷ cs) env k in
-      let q =
-      condition_runs w f may at p.joins row turn c oks.0
-      (λ e x. Then (Keep x) (conjuncts_code p.joins cs e k)) env n regs s e knows h in
-      let rest = conjuncts_code p.joins cs q.env' k in
-      let g =
-      no_fault (fault_of f true None (kinds_in q.regs') (Keep q.out)) None
-      (keeps q.regs' q.s' (flag_read (q.regs' q.out))) q.n (meaning w f may rest (q.n + 1) true) e
-      q.goes in
-      kept_after (holds c row && all_hold cs row) k env regs s e (ahead s whole)
-      (λ flags. ahead s whole (flags_of (c ∷ cs) ++ flags)) q
-      (λ flags. ahead q.s' (Then (Keep q.out) rest) (flags_of (c ∷ cs) ++ flags))
-      (λ flags. q.looked (flags_of (c ∷ cs) ++ flags))
-      (kept_by (holds c row) (all_hold cs row) (flags_of cs) k q.out rest q.env' q.n q.regs' q.s' e
-      (subst (λ o. follow q.n (keeps q.regs' q.s' (flag_read o))
-      (meaning w f may rest (q.n + 1) true)
-      ≡ Ended e) q.says.1 g)
-      (conjuncts_run cs oks.1 k q.env' (q.n + 1) q.regs' q.s' e q.knows))
+      → e ≡ turned w p row (b && all_so flags) a.state
+      (a.state.lookups + lookups_in (Then (Keep r) rest) (b ∷ flags))
+  kept_by true flags a r rest next h = next h
+  kept_by false flags a r rest next h =
+      let same : a.state ≡ e = cc in
+      sym same
+      ∙ (λ i. record a.state {
+        lookups = sym (add-zero a.state.lookups) i;
+        updates = sym (add-zero a.state.updates) i;
+      })
 
-  -- ---- keys and values
-
-  abbrev Stand : List Value → ℕ → Registers → List ℕ → Type 0
-  Stand [] next regs [] = Unit {0}
-  Stand (v ∷ vs) next regs (r ∷ rs) = (r < next) × (regs r ≡ Some v) × Stand vs next regs rs
-  Stand _ next regs _ = ⊥
-
-  consed : (v : Value) (vs : List Value) (k : Env → List ℕ → Code) (l : Env → ℕ → Code) (env : Env)
-      (regs : Registers) (s e : State) (total : List Bool → ℕ)
-      (q : Reached w f may at (At w f may at v) l env regs s e total)
-      → Reached w f may at (Stand vs) (λ e xs. k e (q.out ∷ xs)) q.env' q.regs' q.s' e
-      (ahead q.s' (l q.env' q.out))
-      → Reached w f may at (Stand (v ∷ vs)) k env regs s e total
-  consed v vs k l env regs s e total q r =
-      let a = q.says.0 in let b = r.onward in
-      chained_as w f may at q r (q.out ∷ r.out)
-      (omega arith, r.kept q.out q.says.0 ∙ q.says.1, r.says) (λ flags. refl) r.goes
-
-  stand_kept : (vs : List Value) (rs : List ℕ) (next next' : ℕ) (regs regs' : Registers)
-      → next ≤ next' → ((q : ℕ) → q < next → regs' q ≡ regs q) → Stand vs next regs rs
-      → Stand vs next' regs' rs
-  stand_kept [] [] next next' regs regs' h g q = tt
-  stand_kept (v ∷ vs) (r ∷ rs) next next' regs regs' h g q =
-      (omega (arith, q.0), g r q.0 ∙ q.1, stand_kept vs rs next next' regs regs' h g q.2)
-  stand_kept [] (r ∷ rs) next next' regs regs' h g q = absurd q
-  stand_kept (v ∷ vs) [] next next' regs regs' h g q = absurd q
-
-  before_runs : (v : Value) (vs : List Value) (first : Env → Rest → Code)
-      (others : Env → Rests → Code)
-      → Runs w f may at (At w f may at v) first → Runs w f may at (Stand vs) others
-      → Runs w f may at (Stand (v ∷ vs)) (one_before first others)
-  before_runs v vs first others runs more k env n regs s e knows h =
-      let q = runs (λ e x. others e (λ e xs. k e (x ∷ xs))) env n regs s e knows h in
-      consed v vs k (λ e x. others e (λ e xs. k e (x ∷ xs))) env regs s e
-      (ahead s (one_before first others env k)) q
-      (more (λ e xs. k e (q.out ∷ xs)) q.env' q.n q.regs' q.s' e q.knows q.goes)
-
-  keys_run : (cs : List ColumnId) → list_all (λ c. in_scope p.joins (table_of c)) cs ≡ true
-      → Runs w f may at (Stand (map (here w f may at) cs)) (keys_code p.joins cs)
-  keys_run [] ok =
-      λ k env n regs s e knows h. reached w f may at (Stand []) k env [] n regs s e knows tt h
-  keys_run (c ∷ cs) ok =
-      let oks =
-      and_parts (in_scope p.joins (table_of c)) (list_all (λ c. in_scope p.joins (table_of c)) cs)
-      ok in
-      before_runs (here w f may at c) (map (here w f may at) cs) (column_code p.joins c)
-      (keys_code p.joins cs)
-      (column_runs w f may at p.joins row turn c oks.0) (keys_run cs oks.1)
-
-  abbrev values_of : List (Measure ColumnId) → List Value
-  values_of [] = []
-  values_of (count ∷ ms) = values_of ms
-  values_of (fold f a ∷ ms) = Number (number_with (λ c. joined_value c row) a) ∷ values_of ms
-
-  value_runs : (a : Expression ColumnId) (ms : List (Measure ColumnId))
-      → expression_is_sound p.joins a ≡ true
-      → Runs w f may at (Stand (values_of ms)) (values_code p.joins ms)
-      → Runs w f may at (Stand (Number (number_with (λ c. joined_value c row) a) ∷ values_of ms))
-      (one_before (expression_code p.joins a) (values_code p.joins ms))
-  value_runs a ms ok more =
-      before_runs (Number (number_with (λ c. joined_value c row) a)) (values_of ms) (expression_code p.joins a)
-      (values_code p.joins ms)
-      (expression_runs w f may at p.joins row turn a ok) more
-
-  values_run : (ms : List (Measure ColumnId)) → list_all (measure_is_sound p.joins) ms ≡ true
-      → Runs w f may at (Stand (values_of ms)) (values_code p.joins ms)
-  values_run [] ok =
-      λ k env n regs s e knows h. reached w f may at (Stand []) k env [] n regs s e knows tt h
-  values_run (count ∷ ms) ok = values_run ms ok
-  values_run (fold f a ∷ ms) ok =
-      let oks =
-      and_parts (expression_is_sound p.joins a) (list_all (measure_is_sound p.joins) ms) ok in
-      value_runs a ms oks.0 (values_run ms oks.1)
+  keep : (flags : List Bool) (n : ℕ) (a : Point) (d : RowCondition) (r : ℕ) (rest : Code)
+      → Holds n a r (OfCondition d)
+      → ((b : Point) → Stays law n a n b → law.Fact flags n b rest)
+      → law.Fact (holds d row ∷ flags) n a (Then (Keep r) rest)
+  keep flags n a d r rest at next h =
+      let go = meaning w f may rest (a.number + 1) true in
+      kept_by (holds d row) flags a r rest
+      (next (record { number = a.number + 1; regs = a.regs; state = a.state }) (λ q y at. at))
+      (subst (λ o. follow a.number (keeps a.regs a.state (flag_read o)) go ≡ Ended e) at.1
+      (untrapped (trap_of w f true a.regs a.state (Keep r)) _ a.number go e h))
 
   -- ---- the put
 
@@ -228,127 +194,118 @@ module _ (w : World) (f : Parts) (may : ℕ → Bool) (at : TableId → ℕ) (p 
   key_shown c (held.Number z) true q shows = let a : true ≡ false = sym q ∙ shows.0 in absurd (cc)
   key_shown c (held.Text v) false q shows = let a : true ≡ false = sym shows.0 ∙ q in absurd (cc)
 
-  keys_stand : (cs : List ColumnId) → list_all (λ c. in_scope p.joins (table_of c)) cs ≡ true
-      → (ks : List ℕ) (next : ℕ) (regs : Registers) → Stand (map (here w f may at) cs) next regs ks
-      → map (λ r. key_read (regs r)) ks ≡ map (λ c. coded w c (joined_value c row)) cs
-  keys_stand [] ok [] next regs q = refl
-  keys_stand (c ∷ cs) ok (r ∷ rs) next regs q =
+  keys_stand : (n : ℕ) (a : Point) (cs : List ColumnId)
+      → list_all (λ c. in_scope p.joins (table_of c)) cs ≡ true
+      → (ks : List ℕ) → AllHold (Holds n a) (map OfColumn cs) ks
+      → map (λ r. key_read (a.regs r)) ks ≡ map (λ c. coded w c (joined_value c row)) cs
+  keys_stand n a [] ok [] q = refl
+  keys_stand n a (c ∷ cs) ok (r ∷ rs) q =
       let oks =
       and_parts (in_scope p.joins (table_of c)) (list_all (λ c. in_scope p.joins (table_of c)) cs)
       ok in
-      λ i. (ap key_read q.1 ∙ key_shown c (joined_value c row) (is_text c) refl
+      λ i. (ap key_read q.0.1 ∙ key_shown c (joined_value c row) (is_text c) refl
       (turn.shows c oks.0)) i
-      ∷ keys_stand cs oks.1 rs next regs q.2 i
-  keys_stand [] ok (r ∷ rs) next regs q = absurd q
-  keys_stand (c ∷ cs) ok [] next regs q = absurd q
+      ∷ keys_stand n a cs oks.1 rs q.1 i
+  keys_stand n a [] ok (r ∷ rs) q = absurd q
+  keys_stand n a (c ∷ cs) ok [] q = absurd q
 
-  values_stand : (ms : List (Measure ColumnId)) (vs : List ℕ) (next : ℕ) (regs : Registers)
-      → Stand (values_of ms) next regs vs → aligned (pos 1) (map aggregate_of ms)
-      (map (λ r. number_read (regs r)) vs) ≡ map (measured (λ c. joined_value c row)) ms
-  values_stand [] [] next regs q = refl
-  values_stand [] (r ∷ rs) next regs q = absurd q
-  values_stand (count ∷ ms) vs next regs q =
-      ap (λ xs. pos 1 ∷ xs) (values_stand ms vs next regs q)
-  values_stand (fold Sum a ∷ ms) (r ∷ rs) next regs q =
-      λ i. number_read (q.1 i) ∷ values_stand ms rs next regs q.2 i
-  values_stand (fold Min a ∷ ms) (r ∷ rs) next regs q =
-      λ i. number_read (q.1 i) ∷ values_stand ms rs next regs q.2 i
-  values_stand (fold Max a ∷ ms) (r ∷ rs) next regs q =
-      λ i. number_read (q.1 i) ∷ values_stand ms rs next regs q.2 i
-  values_stand (fold f a ∷ ms) [] next regs q = absurd q
+  values_stand : (n : ℕ) (a : Point) (ms : List (Measure ColumnId)) (vs : List ℕ)
+      → AllHold (Holds n a) (numbers_put ms) vs
+      → aligned (pos 1) (map aggregate_of ms) (map (λ r. number_read (a.regs r)) vs)
+      ≡ map (measured (λ c. joined_value c row)) ms
+  values_stand n a [] [] q = refl
+  values_stand n a [] (r ∷ rs) q = absurd q
+  values_stand n a (count ∷ ms) vs q = ap (λ xs. pos 1 ∷ xs) (values_stand n a ms vs q)
+  values_stand n a (fold Sum x ∷ ms) (r ∷ rs) q =
+      λ i. number_read (q.0.1 i) ∷ values_stand n a ms rs q.1 i
+  values_stand n a (fold Min x ∷ ms) (r ∷ rs) q =
+      λ i. number_read (q.0.1 i) ∷ values_stand n a ms rs q.1 i
+  values_stand n a (fold Max x ∷ ms) (r ∷ rs) q =
+      λ i. number_read (q.0.1 i) ∷ values_stand n a ms rs q.1 i
+  values_stand n a (fold g x ∷ ms) [] q = absurd q
 
-  -- with one more update
-  record Puts (u : Update) (s e : State) : Type 0 where
-    put : e.updates_of ≡ with_update s.updates_of 0 u
-    visits : e.visits ≡ s.visits
-    updates : e.updates ≡ s.updates + 1
-    lookups : e.lookups ≡ s.lookups
-
-  put_goes : (regs : Registers) (s e : State) (u : Update) (b : Bool) (n : ℕ)
-      → follow n (puts regs s 0 u b) (meaning w f may Stop (n + 1) true) ≡ Ended e
-      → Puts u s e
-  put_goes regs s e u true n h = absurd (cc)
-  put_goes regs s e u false n h =
-      let same : record s { updates_of = with_update s.updates_of 0 u; updates = s.updates + 1 }
-      ≡ e =
-      cc in
-      record {
-        put = ap (λ x. x.updates_of) (sym same);
-        visits = ap (λ x. x.visits) (sym same);
-        updates = ap (λ x. x.updates) (sym same);
-        lookups = ap (λ x. x.lookups) (sym same);
-      }
-
-  put_runs : (group_at f 0).aggregates ≡ map aggregate_of p.measures
-      → list_all (λ c. in_scope p.joins (table_of c)) p.keys ≡ true
-      → (ks vs : List ℕ) (next : ℕ) (n : ℕ) (regs : Registers) (s e : State)
-      → Stand (map (here w f may at) p.keys) next regs ks
-      → Stand (values_of p.measures) next regs vs
-      → meaning w f may (Then (Put 0 ks vs) Stop) n true regs s ≡ Ended e
-      → Puts (update_of_row w p row) s e
-  put_runs same_aggregates ok ks vs next n regs s e key_at value_at h =
-      let d = group_at f 0 in
-      let g =
-      no_fault (fault_of f true None (kinds_in regs) (Put 0 ks vs)) _
-      (effect_of w f regs s (Put 0 ks vs)) n (meaning w f may Stop (n + 1) true) e h in
-      subst (λ u. Puts u s e)
-      (λ i. record {
-        keys = keys_stand p.keys ok ks next regs key_at i;
-        values =
-            (ap (λ gs. aligned (pos 1) gs (map (λ r. number_read (regs r)) vs)) same_aggregates
-            ∙ values_stand p.measures vs next regs value_at) i;
+  put : (n : ℕ) (a : Point) (ks vs : List ℕ) → AllHold (Holds n a) (map OfColumn p.keys) ks
+      → AllHold (Holds n a) (numbers_put p.measures) vs
+      → law.Fact [] n a (Then (Put 0 ks vs) Stop)
+  put n a ks vs at_k at_v h =
+      let s = a.state in
+      let u = update_of (plan_group p) a.regs ks vs in
+      let goes : Ended (marked (Updates 0 u) s) ≡ Ended e =
+      untrapped (trap_of w f true a.regs s (Put 0 ks vs)) _ a.number
+      (meaning w f may Stop (a.number + 1) true) e h in
+      let same : marked (Updates 0 u) s ≡ e = cc in
+      let row_put : u ≡ update_of_row w p row =
+      λ i. record {
+        keys = keys_stand n a p.keys sound.keys ks at_k i;
+        values = values_stand n a p.measures vs at_v i;
+      } in
+      sym same
+      ∙ (λ i. record s {
+        updates_of = with_update s.updates_of 0 (row_put i);
+        lookups = sym (add-zero s.lookups) i;
+        updates = s.updates + 1;
       })
-      (put_goes regs s e (update_of d regs ks vs)
-      (overflows d.shape d.aggregates (s.updates_of 0) (update_of d regs ks vs)) n g)
 
   -- ---- a turn
 
-  turn_kept : (group_at f 0).aggregates ≡ map aggregate_of p.measures → IsSoundPlan p
-      → (b : Bool) (regs : Registers) (s e : State) (total : List Bool → ℕ)
-      → Kept b (λ e. keys_code p.joins p.keys e
-      (λ e ks. values_code p.joins p.measures e (put_code ks))) env_first regs s e total
-      → Turned w p row b s e (total [])
-  turn_kept same_aggregates ok false regs s e total q = record {
-    put = q.same;
-    visits = q.visits;
-    updates = q.updates ∙ sym (add-zero s.updates);
-    looked = q.looked [];
-  }
-  turn_kept same_aggregates ok true regs s e total q =
-      let r =
-      keys_run p.keys ok.keys (λ e ks. values_code p.joins p.measures e (put_code ks)) q.env' q.n
-      q.regs' q.s' e q.knows q.goes in
-      let t =
-      values_run p.measures ok.measures (put_code r.out) r.env' r.n r.regs' r.s' e r.knows r.goes in
-      let u =
-      put_runs same_aggregates ok.keys r.out t.out t.env'.next t.n t.regs' t.s' e
-      (stand_kept (map (here w f may at) p.keys) r.out r.env'.next t.env'.next r.regs' t.regs'
-      t.onward t.kept r.says) t.says t.goes in
-      record {
-        put = u.put ∙ ap (λ us. with_update us 0 (update_of_row w p row))
-            (t.same ∙ r.same ∙ q.same);
-        visits = u.visits ∙ t.visits ∙ r.visits ∙ q.visits;
-        updates = u.updates ∙ ap (λ n. n + 1) (t.updates ∙ r.updates ∙ q.updates);
-        looked = u.lookups ∙ sym (add-zero t.s'.lookups) ∙ t.looked [] ∙ r.looked [] ∙ q.looked [];
-      }
+  shown_number : (c : ColumnId) (i : ℕ) (v : held.Value) (b : Bool) → is_text c ≡ b → b ≡ false
+      → Shows w c i v → loaded w c i b ≡ Number (value_number v)
+  shown_number c i (held.Number z) false p q shows = ap Number shows.1
+  shown_number c i (held.Text v) false p q shows =
+      let a : true ≡ false = sym shows.0 ∙ p in absurd (cc)
+  shown_number c i v true p q shows = absurd (cc)
 
-  pub turn_runs : (group_at f 0).aggregates ≡ map aggregate_of p.measures → IsSoundPlan p
-      → (n : ℕ) (regs : Registers) (s e : State) → regs 0 ≡ Some (Row Lineorder (at Lineorder))
+  kept : IsKept law
+  kept = record {
+    step = step;
+    column = λ flags n a c r code ok h next.
+        (let oks = and_parts (in_scope p.joins (table_of c)) (same_kind (kind_of c) kind.Number)
+        (ok tt) in
+        next (
+          h.0,
+          h.1 ∙ ap Some (shown_number c (at (table_of c)) (joined_value c row) (is_text c)
+              refl (holds_numbers c oks.1) (turn.shows c oks.0)),
+        ));
+    compared = λ n a t r ok h. (let c = column_tested t in (
+      h.0,
+      h.1 ∙ ap Some (comparison_says w p.joins t (at (table_of c)) row (ok tt)
+          (turn.shows c (tested_in_scope p.joins t (ok tt)))),
+    ));
+    keep = keep;
+    put = put;
+  }
+
+  flags_free : (a : Expression ColumnId) (flags : List Bool) → expression_grade law a flags ≡ flags
+  flags_free (column c) flags = refl
+  flags_free (constant z) flags = refl
+  flags_free (add a b) flags = flags_free a _ ∙ flags_free b flags
+  flags_free (sub a b) flags = flags_free a _ ∙ flags_free b flags
+  flags_free (mul a b) flags = flags_free a _ ∙ flags_free b flags
+
+  no_flags : (ms : List (Measure ColumnId)) → values_grade law ms [] ≡ []
+  no_flags [] = refl
+  no_flags (count ∷ ms) = no_flags ms
+  no_flags (fold f a ∷ ms) = flags_free a (values_grade law ms []) ∙ no_flags ms
+
+  flags_of : (ds : List RowCondition)
+      → conjuncts_grade law ds (values_grade law p.measures []) ≡ map (λ d. holds d row) ds
+  flags_of [] = no_flags p.measures
+  flags_of (d ∷ ds) = ap (λ flags. holds d row ∷ flags) (flags_of ds)
+
+  all_so_is : (ds : List RowCondition) → all_so (map (λ d. holds d row) ds) ≡ all_hold ds row
+  all_so_is [] = refl
+  all_so_is (d ∷ ds) = ap (λ b. holds d row && b) (all_so_is ds)
+
+  pub turn_runs : (n : ℕ) (regs : Registers) (s : State)
+      → regs 0 ≡ Some (Row Lineorder (at Lineorder))
       → meaning w f may (turn_code p) n true regs s ≡ Ended e
-      → Turned w p row (all_hold p.conjuncts row) s e (s.lookups + turn_lookups p row)
-  turn_runs same_aggregates ok n regs s e fact h =
-      subst (λ flags. Turned w p row (all_hold p.conjuncts row) s e (ahead s (turn_code p) flags))
-      (append-nil (flags_of p.conjuncts))
-      (turn_kept same_aggregates ok (all_hold p.conjuncts row) regs s e
-      (λ flags. ahead s (turn_code p) (flags_of p.conjuncts ++ flags))
-      (conjuncts_run p.conjuncts ok.conjuncts _ env_first n regs s e
-      (record {
-        fact = fact;
-        some = omega arith;
-        columns = λ c r e. absurd (cc);
-        rows = λ t r e.
-            absurd (cc);
-      }) h))
+      → e ≡ turned w p row (all_hold p.conjuncts row) s (s.lookups + turn_lookups p row)
+  turn_runs n regs s fact h =
+      subst (λ b. e ≡ turned w p row b s (s.lookups + turn_lookups p row)) (all_so_is p.conjuncts)
+      (subst (λ flags. e ≡ turned w p row (all_so flags) s
+      (s.lookups + lookups_in (turn_code p) flags)) (flags_of p.conjuncts)
+      (of_turn law kept (λ z. sound) (λ z. absurd z)
+      (record { number = n; regs = regs; state = s }) (omega arith, fact) h))
 
 -- ---- the scan
 
@@ -360,9 +317,8 @@ pub record Scanned (us : List Update) (visited looked : ℕ) (s e : State) : Typ
   pub lookups : e.lookups ≡ s.lookups + looked
   pub updates : e.updates ≡ s.updates + length us
 
-module _ (w : World) (f : Parts) (may : ℕ → Bool) (p : Plan) (at : ℕ → TableId → ℕ)
-    (row : ℕ → Joined) (turn : (i : ℕ) → i < w.size Lineorder → IsTurn w p.joins (at i) (row i))
-    (here_at : (i : ℕ) → at i Lineorder ≡ i) where
+module _ (w : World) (may : ℕ → Bool) (p : Plan) (sound : IsSoundPlan p) (row : ℕ → Joined)
+    (turn : (i : ℕ) → i < w.size Lineorder → IsTurn w p.joins (place_in w p.joins i) (row i)) where
   abbrev pub updates_of_rows : List ℕ → List Update
   updates_of_rows is =
       map (λ i. update_of_row w p (row i)) (filter (λ i. all_hold p.conjuncts (row i)) is)
@@ -396,7 +352,7 @@ module _ (w : World) (f : Parts) (may : ℕ → Bool) (p : Plan) (at : ℕ → T
 
   turns_run : (go : ℕ → State → End) → ((i : ℕ) → i < w.size Lineorder → (s e : State) → go i s
       ≡ Ended e
-      → Turned w p (row i) (all_hold p.conjuncts (row i)) s e (s.lookups + looked_up i))
+      → e ≡ turned w p (row i) (all_hold p.conjuncts (row i)) s (s.lookups + looked_up i))
       → (k i : ℕ) → i + k ≡ w.size Lineorder → (s e : State) → turns may k i go s ≡ Ended e
       → Scanned (updates_of_rows (numbers k i)) k (sum_by looked_up (numbers k i)) s e
   turns_run go each zero i q s e h =
@@ -417,15 +373,15 @@ module _ (w : World) (f : Parts) (may : ℕ → Bool) (p : Plan) (at : ℕ → T
       record {
         put =
             r.put
-            ∙ ap (λ us. reverse_aux (updates_of_rows (numbers k (i + 1))) (us 0)) t.put
+            ∙ ap (λ z. reverse_aux (updates_of_rows (numbers k (i + 1))) (z.updates_of 0)) t
             ∙ sym (one_put selected i s.updates_of later);
-        visits = (let x = r.visits in let y = t.visits in omega arith);
+        visits = (let x = r.visits in let y = ap (λ z. z.visits) t in omega arith);
         lookups =
-            (let x = r.lookups in let y = t.looked in
+            (let x = r.lookups in let y = ap (λ z. z.lookups) t in
             omega (arith, x, y, sum_by-cons looked_up i (numbers k (i + 1))));
         updates =
             r.updates
-            ∙ ap (λ n. n + length (updates_of_rows (numbers k (i + 1)))) t.updates
+            ∙ ap (λ z. z.updates + length (updates_of_rows (numbers k (i + 1)))) t
             ∙ one_length selected i later (λ i. update_of_row w p (row i)) s.updates;
       }
 
@@ -434,20 +390,19 @@ module _ (w : World) (f : Parts) (may : ℕ → Bool) (p : Plan) (at : ℕ → T
   scan_ends true n go e h = h
   scan_ends false n go e h = absurd (cc)
 
-  pub scan_runs : (group_at f 0).aggregates ≡ map aggregate_of p.measures → IsSoundPlan p
-      → (n : ℕ) (inside : Bool) (regs : Registers) (s e : State)
-      → meaning w f may (body_code p) n inside regs s ≡ Ended e
+  pub scan_runs : (n : ℕ) (inside : Bool) (regs : Registers) (s e : State)
+      → meaning w (compiled p) may (body_code p) n inside regs s ≡ Ended e
       → Scanned (updates_of_rows (numbers (w.size Lineorder) 0)) (w.size Lineorder)
       (sum_by looked_up (numbers (w.size Lineorder) 0)) s e
-  scan_runs same_aggregates ok n inside regs s e h =
+  scan_runs n inside regs s e h =
       let go : ℕ → State → End =
-      λ i. meaning w f may (turn_code p) (n + 1) true (with_entry regs 0 (Row Lineorder i)) in
+      λ i. meaning w (compiled p) may (turn_code p) (n + 1) true
+      (with_entry regs 0 (Row Lineorder i)) in
       let a =
       after_ends (turns may (w.size Lineorder) 0 go s) (λ s. Ended s) e
-      (scan_ends (nat_lt 0 f.registers) n
+      (scan_ends (nat_lt 0 (compiled p).registers) n
       (λ _. after (turns may (w.size Lineorder) 0 go s) (λ s. Ended s)) e h) in
       let same : a.0 ≡ e = (let q = a.2 in cc) in
-      turns_run go (λ i below s e h. turn_runs w f may (at i) p (row i) (turn i below)
-      same_aggregates ok (n + 1) (with_entry regs 0 (Row Lineorder i)) s e
-      (ap (λ x. Some (Row Lineorder x)) (sym (here_at i))) h)
+      turns_run go (λ i below s e h. turn_runs w may (place_in w p.joins i) p (row i)
+      (turn i below) sound e (n + 1) (with_entry regs 0 (Row Lineorder i)) s refl h)
       (w.size Lineorder) 0 (omega arith) s e (a.1 ∙ ap Ended same)

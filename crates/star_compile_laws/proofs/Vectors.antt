@@ -1,16 +1,11 @@
 -- The program of the first query, by computation.
 use Rattle.std.proofs.Common.{◌≡◌, [], ◌∷◌, refl}
 use Rattle.std.specs.Prelude.{pos, codes}
-use Rattle.star_schema.specs.declared.table.TableId.TheVariants.{Date, Lineorder}
+use Rattle.star_schema.specs.declared.{table.TableId.TheVariants.Date, table.TableId.TheVariants.Lineorder, group.Shape.TheVariants.Plain, group.Aggregate.TheVariants.Sum, group.GroupColumn.TheVariants.Aggregate}
 use Rattle.star_schema.specs.declared.column.ColumnId.TheVariants.{DYear, LoOrderdate, LoDiscount, LoQuantity, LoExtendedprice}
-use Rattle.star_schema.specs.declared.group.Shape.TheVariants.{Plain}
-use Rattle.star_schema.specs.declared.group.Aggregate.TheVariants.{Sum}
-use Rattle.star_schema.specs.declared.group.GroupColumn.TheVariants.{Aggregate}
 use Rattle.star_schema.specs.Schema.{column_of}
-use Rattle.star_program.specs.declared.op.Op.TheVariants.{Assign, Keep, Put}
+use Rattle.star_program.specs.declared.{op.Op.TheVariants.Assign, op.Op.TheVariants.Keep, op.Op.TheVariants.Put, op.Operator.TheVariants.Equal, op.Operator.TheVariants.Less, op.Operator.TheVariants.Mul, program.Parts.Parts}
 use Rattle.star_program.specs.declared.op.Operation.TheVariants.{Const, Load, Find, Binary, Within}
-use Rattle.star_program.specs.declared.op.Operator.TheVariants.{Equal, Less, Mul}
-use Rattle.star_program.specs.declared.program.Parts.{Parts}
 use Rattle.star_program.specs.Code.{Stop, Then, Each}
 use Rattle.star_compile_laws.specs.Compiled.{compiled}
 use Rattle.star_compile_laws.proofs.Plans.{q11}

@@ -1,34 +1,46 @@
 -- What refuses a compiled program, if anything does.
-use Rattle.std.proofs.Common.{◌≡◌, inl, inr, ℕ, ◌≤◌, ◌<◌, Bool, true, false, Option, Some, None, refl, sym, ap, subst, ◌∙◌, arith}
+use Rattle.std.proofs.Common.{◌≡◌, ◌⊎◌, ◌+◌, inl, inr, ℕ, ◌≤◌, ◌<◌, Bool, true, false, Option, Some, None, refl, sym, ap, subst, ◌∙◌, arith}
 use Rattle.std.proofs.lemmas.Bool.{false_from_ne_true, le-leb, leb-true}
-use Rattle.std.specs.Prelude.{nat_le}
-use Rattle.std.specs.List.{list_all}
-use Rattle.std.specs.Option.{option_map, option_or}
-use Rattle.star_schema.specs.declared.table.TableId.TheVariants.{Lineorder}
+use Rattle.std.specs.Prelude.{nat_eq, nat_le, pos, if◌then◌else◌}
+use Rattle.std.specs.{List.list_all, Option.option_map, Option.option_or}
+use Rattle.star_schema.specs.declared.{table.TableId.TheVariants.Lineorder, column.ColumnId.ColumnId}
 use Rattle.star_common.specs.First.{first_answer}
-use Rattle.star_plan.specs.Meaning.{Plan}
-use Rattle.star_plan.specs.Sound.{IsSoundPlan}
-use Rattle.star_plan.specs.Spelled.{IsSpelledPlan}
-use Rattle.star_plan.specs.Fits.{measure_fits, Fits}
-use Rattle.star_program.specs.World.{World}
-use Rattle.star_program.specs.ShowLines.{shown_fault}
+use Rattle.star_plan.specs.{Meaning.Plan, Sound.IsSoundPlan, Spelled.IsSpelledPlan, Fits.measure_fits, Fits.Fits}
+use Rattle.star_interval.specs.Range.{Range, fits_i64}
+use Rattle.star_program.specs.declared.op.Op.TheVariants.{Assign, Keep, Put}
+use Rattle.star_program.specs.{Code.Code, Code.Each, Code.Stop, Code.Then, World.World, ShowLines.shown_fault}
 use Rattle.star_safety.specs.Admissible.{Refusal, TooCostly, Refused, BadShow, cost_refusal, first_refusal}
 use Rattle.star_safety.specs.declared.reason.Reason.{Reason}
-use Rattle.star_safety.specs.declared.reason.Reason.TheVariants.{Overflow}
 use Rattle.star_safety.specs.Standing.{instructions_of, reason_of}
 use Rattle.star_safety.proofs.Forward.{first_standing}
-use Rattle.star_compile_laws.specs.Compiled.{compiled}
+use Rattle.star_compile_laws.specs.{Compiled.compiled, Compiled.turn_code, Judged.IsOverflow}
 use Rattle.star_schema.specs.Columns.{AreBoundsI64}
-use Rattle.star_compile_laws.specs.Judged.{IsOverflow}
-use Rattle.star_compile_laws.specs.Wide.{turn_wide}
-use Rattle.star_compile_laws.proofs.AcceptsPlan.{Accepted, AreColumnsI64, first_instruction, instructions_judged}
-use Rattle.star_compile_laws.proofs.Points.{or_none_right}
-use Rattle.star_compile_laws.proofs.Flat.{quote_is}
-use Rattle.star_compile_laws.proofs.Programs.{shows_what_is_there}
+use Rattle.star_compile_laws.specs.Wide.{Computed, computed, first_wide, given, too_wide, turn_wide}
+use Rattle.star_compile_laws.proofs.{Accepts.Judged, Accepts.or_none_right, Accepts.program_judged, Suits.AreColumnsI64, Flat.quote_is, Programs.shows_what_is_there}
 
 not_at_most : (n m : ℕ) → m < n → nat_le n m ≡ false
 not_at_most n m h =
     false_from_ne_true (nat_le n m) (λ e. let p = leb-true n m e in absurd (omega arith))
+
+-- a turn's number is too wide, or none is
+only_wide : (bounds : ColumnId → Range) (known : ℕ → Computed) (at : ℕ) (code : Code)
+    → (first_wide bounds known at code ≡ None)
+    ⊎ IsOverflow (option_map Refused (first_wide bounds known at code))
+only_wide bounds known at Stop = inl refl
+only_wide bounds known at (Each t r body rest) = inl refl
+only_wide bounds known at (Then (Keep r) rest) = only_wide bounds known (at + 1) rest
+only_wide bounds known at (Then (Put g ks vs) rest) = only_wide bounds known (at + 1) rest
+only_wide bounds known at (Then (Assign t o) rest) =
+    let n = computed bounds known o in
+    by (fits_i64 n.range) n
+    (only_wide bounds (λ r. if nat_eq r t then n else known r) (at + 1) rest)
+  where
+    by : {later : Option (ℕ × Reason)} (b : Bool) (n : Computed)
+        → (later ≡ None) ⊎ IsOverflow (option_map Refused later)
+        → ((if b then later else Some (at, too_wide bounds n)) ≡ None)
+        ⊎ IsOverflow (option_map Refused (if b then later else Some (at, too_wide bounds n)))
+    by true n h = h
+    by false n h = inr (at, n.range.low, n.range.high, _, refl)
 
 module _ (w : World) (most : ℕ) (p : Plan) where
   abbrev rows : ℕ
@@ -72,11 +84,10 @@ module _ (w : World) (most : ℕ) (p : Plan) where
     abbrev nodes : Bool
     nodes = list_all (measure_fits w.bounds) p.measures
 
-    abbrev IsJudged : Option (ℕ × Reason) → Type 0
-    IsJudged = Accepted (AreColumnsI64 w p) nodes
-
-    judged : IsJudged reason
-    judged = subst IsJudged (first_standing w (compiled p)) (instructions_judged w p sound)
+    judged : Judged (AreColumnsI64 w p) nodes reason (turn_wide w.bounds p)
+    judged =
+        subst (λ o. Judged (AreColumnsI64 w p) nodes o (turn_wide w.bounds p))
+        (first_standing w (compiled p)) (program_judged w p sound)
 
     -- ---- what is accepted fits
 
@@ -85,56 +96,39 @@ module _ (w : World) (most : ℕ) (p : Plan) where
     cheap true q e = (refl, e)
     cheap false q e = absurd (cc)
 
-    fit_when : (o : Option (ℕ × Reason)) → IsJudged o → option_map Refused o ≡ None
-        → nodes ≡ true
-    fit_when o (inl h) e = h.1
-    fit_when o (inr h) e =
-        let over = h.0 in
-        let bad : Some (Refused (over.0, Overflow over.1.low over.1.high over.2)) ≡ None =
-        sym (ap (option_map Refused) over.3) ∙ e in absurd (cc)
+    not_refused : (o : Option (ℕ × Reason)) → option_map Refused o ≡ None → o ≡ None
+    not_refused None e = refl
+    not_refused (Some r) e = absurd (cc)
 
     pub accepted_fits : first_refusal w most (compiled p) ≡ None → Fits rows most w.bounds p
     accepted_fits e =
         let c = cheap (nat_le rows most) (option_map Refused reason) (sym told ∙ e) in
-        record { visits = leb-true rows most c.0; nodes = fit_when reason judged c.1 }
+        record {
+          visits = leb-true rows most c.0;
+          nodes = judged.fit (not_refused reason c.1);
+        }
 
     -- ---- what fits is accepted
-
-    none_when : (o : Option (ℕ × Reason)) → IsJudged o → AreColumnsI64 w p → nodes ≡ true
-        → o ≡ None
-    none_when o (inl h) s e = h.0
-    none_when o (inr h) s e = let wrong = h.1 s in absurd (cc)
 
     pub fitting_accepted : AreBoundsI64 w.bounds → IsSpelledPlan p → Fits rows most w.bounds p
         → first_refusal w most (compiled p) ≡ None
     fitting_accepted bounds spelled fits =
         within fits.visits
-        ∙ ap (option_map Refused)
-        (none_when reason judged (bounds, spelled.conjuncts) fits.nodes)
+        ∙ ap (option_map Refused) (judged.none (bounds, spelled) fits.nodes)
 
     -- ---- and nothing else refuses it
 
-    over_when : (o : Option (ℕ × Reason)) → IsJudged o → first_refusal w most (compiled p)
-        ≡ option_map Refused o → (Fits rows most w.bounds p → ⊥)
-        → IsOverflow (first_refusal w most (compiled p))
-    over_when o (inl h) e wide = absurd (wide (accepted_fits (e ∙ ap (option_map Refused) h.0)))
-    over_when o (inr h) e wide =
-        let over = h.0 in (
-          over.0,
-          over.1.low,
-          over.1.high,
-          over.2,
-          e ∙ ap (option_map Refused) over.3,
-        )
+    -- the first instruction that does is told
+    pub first : rows ≤ most
+        → first_refusal w most (compiled p) ≡ option_map Refused (turn_wide w.bounds p)
+    first few = within few ∙ ap (option_map Refused) judged.first
 
     pub overflows : rows ≤ most → (Fits rows most w.bounds p → ⊥)
         → IsOverflow (first_refusal w most (compiled p))
-    overflows few wide = over_when reason judged (within few) wide
-
-    -- and the first instruction that does is told
-    pub first : rows ≤ most
-        → first_refusal w most (compiled p) ≡ option_map Refused (turn_wide w.bounds p)
-    first few =
-        within few
-        ∙ ap (option_map Refused)
-        (sym (first_standing w (compiled p)) ∙ first_instruction w p sound)
+    overflows few wide = by (only_wide w.bounds (λ r. given (pos 0)) 2 (turn_code p))
+      where
+        by : (turn_wide w.bounds p ≡ None) ⊎ IsOverflow (option_map Refused (turn_wide w.bounds p))
+            → IsOverflow (first_refusal w most (compiled p))
+        by (inl none) =
+            absurd (wide (accepted_fits (first few ∙ ap (option_map Refused) none)))
+        by (inr over) = subst IsOverflow (sym (first few)) over

@@ -3,35 +3,19 @@
 use Rattle.std.proofs.Common.{◌≡◌, ◌^◌, ◌-◌, ℕ, List, [], ◌∷◌, Some, None, pos, refl}
 use Rattle.std.specs.Prelude.{codes, if◌then◌else◌, map}
 use Rattle.star_common.proofs.Tables.{Gives, Gives2}
-use Rattle.star_schema.specs.declared.column.ColumnId.{ColumnId}
+use Rattle.star_schema.specs.declared.{column.ColumnId.ColumnId, group.GroupColumn.TheVariants.Key, group.GroupColumn.TheVariants.Aggregate, group.Shape.TheVariants.Plain}
 use Rattle.star_schema.specs.declared.column.ColumnId.TheVariants.{CCustkey, CNation, LoCustkey, LoDiscount, LoExtendedprice, LoQuantity, LoRevenue}
-use Rattle.star_schema.specs.declared.group.GroupColumn.TheVariants.{Key, Aggregate}
-use Rattle.star_schema.specs.declared.group.Shape.TheVariants.{Plain}
-use Rattle.star_schema.specs.Bounds.{numbers_at}
-use Rattle.star_schema.specs.Database.{Database, rows_in}
-use Rattle.star_schema.specs.Dictionary.{dictionary_of}
-use Rattle.star_schema.specs.Loadable.{keys_of}
-use Rattle.star_schema.specs.Schema.{column_of, place_of}
-use Rattle.star_schema.specs.Tables.{Value, Number, Text}
-use Rattle.star_schema.specs.Texts.{texts_at}
+use Rattle.star_schema.specs.{Bounds.numbers_at, Database.Database, Database.rows_in, Dictionary.dictionary_of, Loadable.keys_of, Schema.column_of, Schema.place_of, Tables.Value, Tables.Number, Tables.Text, Texts.texts_at}
 use Rattle.star_interval.specs.Range.{Range, is_i64, is_i128, only}
 use Rattle.star_query.specs.declared.token.Relation.TheVariants.{AtMost, Less}
 use Rattle.star_query.specs.Tree.{add, column, count, mul}
 use Rattle.star_plan.specs.Meaning.{Plan, plan_rows}
 use Rattle.star_program.specs.declared.key.KeyValue.TheVariants.{Code}
-use Rattle.star_program.specs.Puts.{Update}
-use Rattle.star_program.specs.Run.{End, Ended, run_of}
-use Rattle.star_program.specs.World.{is_text}
-use Rattle.star_safety.specs.declared.reason.Reached.{Reached}
-use Rattle.star_safety.specs.declared.reason.Reason.{Reason}
-use Rattle.star_safety.specs.declared.reason.Reason.TheVariants.{Overflow}
+use Rattle.star_program.specs.{Puts.Update, Run.End, Run.Ended, Run.run_of, World.is_text}
+use Rattle.star_safety.specs.declared.reason.{Reached.Reached, Reason.Reason, Reason.TheVariants.Overflow}
 use Rattle.star_world.specs.WorldOf.{world_of}
-use Rattle.star_compile_laws.specs.Answers.{update_of_row}
-use Rattle.star_compile_laws.specs.Compiled.{compiled}
-use Rattle.star_compile_laws.specs.Counts.{lookups_of}
-use Rattle.star_compile_laws.specs.Wide.{turn_wide}
-use Rattle.star_compile_laws.proofs.PlanWords.{compare, summed}
-use Rattle.star_compile_laws.proofs.Plans.{q11}
+use Rattle.star_compile_laws.specs.{Answers.update_of_row, Compiled.compiled, Counts.lookups_of, Wide.turn_wide}
+use Rattle.star_compile_laws.proofs.{PlanWords.compare, PlanWords.summed, Plans.q11}
 
 abbrev number : ℕ → Value
 number n = Number (pos n)

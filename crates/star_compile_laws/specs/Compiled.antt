@@ -1,31 +1,17 @@
 -- The program of a plan.
 use Rattle.std.specs.Prelude.{ℕ, ◌+◌, pos, ◌+ℤ◌, Bool, true, false, List, [], ◌∷◌, ◌++◌, map, Option, Some, None, if◌then◌else◌}
-use Rattle.star_schema.specs.declared.table.TableId.{TableId}
-use Rattle.star_schema.specs.declared.table.TableId.TheVariants.{Lineorder}
-use Rattle.star_schema.specs.declared.column.ColumnId.{ColumnId}
-use Rattle.star_schema.specs.declared.column.ColumnId.TheVariants.{LoOrderdate}
-use Rattle.star_schema.specs.declared.group.GroupColumn.{GroupColumn}
-use Rattle.star_schema.specs.Schema.{is_table, table_of}
-use Rattle.star_schema.specs.Tables.{Value, Number, Text}
+use Rattle.star_schema.specs.declared.{table.TableId.TableId, table.TableId.TheVariants.Lineorder, column.ColumnId.ColumnId, column.ColumnId.TheVariants.LoOrderdate, group.GroupColumn.GroupColumn}
+use Rattle.star_schema.specs.{Schema.is_table, Schema.table_of, Tables.Value, Tables.Number, Tables.Text}
 use Rattle.star_query.specs.declared.token.Relation.{Relation}
 use Rattle.star_query.specs.declared.token.Relation.TheVariants as sign
 use Rattle.star_plan.specs.declared.tree.Join.{Join}
 use Rattle.star_query.specs.Tree.{Expression, column, constant, add, sub, mul, or, and, not, test, compare, between, Measure, count, fold}
 use Rattle.star_plan.specs.Meaning.{aggregate_of, Plan, RowCondition}
-use Rattle.star_program.specs.declared.group.GroupDecl.{GroupDecl}
-use Rattle.star_program.specs.declared.group.GroupKey.{GroupKey}
+use Rattle.star_program.specs.declared.{group.GroupDecl.GroupDecl, group.GroupKey.GroupKey, op.Edge.TheVariants.Low, op.Edge.TheVariants.High, op.Op.TheVariants.Assign, op.Op.TheVariants.Keep, op.Op.TheVariants.Put, op.Operation.Operation, op.Operator.Operator, program.Parts.Parts, program.Show.Show}
 use Rattle.star_program.specs.declared.group.GroupKey.TheVariants as key
-use Rattle.star_program.specs.declared.op.Edge.TheVariants.{Low, High}
-use Rattle.star_program.specs.declared.op.Op.TheVariants.{Assign, Keep, Put}
-use Rattle.star_program.specs.declared.op.Operation.{Operation}
 use Rattle.star_program.specs.declared.op.Operation.TheVariants.{Const, Edge, Load, Find, Binary, Within, Not}
-use Rattle.star_program.specs.declared.op.Operator.{Operator}
 use Rattle.star_program.specs.declared.op.Operator.TheVariants as operator
-use Rattle.star_program.specs.declared.program.Parts.{Parts}
-use Rattle.star_program.specs.declared.program.Show.{Show}
-use Rattle.star_program.specs.Code.{Code, Stop, Then, Each}
-use Rattle.star_program.specs.Faults.{target_of}
-use Rattle.star_program.specs.World.{is_column, is_text}
+use Rattle.star_program.specs.{Code.Code, Code.Stop, Code.Then, Code.Each, Faults.target_of, World.is_column, World.is_text}
 use Rattle.star_query_meaning.specs.Answers.{shown_name}
 
 -- ---- what is known where an instruction stands

@@ -4,12 +4,8 @@ use Rattle.std.specs.List.{sum_by}
 use Rattle.star_schema.specs.declared.table.TableId.TheVariants.{Lineorder}
 use Rattle.star_query.specs.Tree.{Tree}
 use Rattle.star_plan.specs.Meaning.{Joined, Plan, Tables, holds, joined_rows}
-use Rattle.star_program.specs.declared.op.Op.TheVariants.{Assign, Keep}
-use Rattle.star_program.specs.declared.op.Operation.TheVariants.{Find}
-use Rattle.star_program.specs.Code.{Code, Then}
-use Rattle.star_program.specs.Effects.{State}
-use Rattle.star_program.specs.Run.{Ended, run_while}
-use Rattle.star_program.specs.World.{World}
+use Rattle.star_program.specs.declared.op.{Op.TheVariants.Assign, Op.TheVariants.Keep, Operation.TheVariants.Find}
+use Rattle.star_program.specs.{Code.Code, Code.Then, Effects.State, Run.Ended, Run.run_while, World.World}
 use Rattle.star_query_meaning.specs.Rows.{selected}
 use Rattle.star_compile_laws.specs.Compiled.{compiled, turn_code}
 

@@ -1,18 +1,12 @@
 -- Which number of a query's program is the first that may leave 64 bits, by the bounds of the columns
 -- alone (interval analysis: Moore, Interval Analysis, 1966).
 use Rattle.std.specs.Prelude.{ℕ, ℤ, pos, ◌+◌, ◌+ℤ◌, ◌-ℤ◌, ◌*ℤ◌, Bool, false, ◌||◌, nat_eq, filter, map, Option, Some, None, if◌then◌else◌}
-use Rattle.star_schema.specs.declared.column.ColumnId.{ColumnId}
-use Rattle.star_schema.specs.declared.column.TheConstants.{COLUMNS}
+use Rattle.star_schema.specs.declared.column.{ColumnId.ColumnId, TheConstants.COLUMNS}
 use Rattle.star_interval.specs.Range.{Range, corner_range, fits_i64, only}
 use Rattle.star_plan.specs.Meaning.{Plan}
-use Rattle.star_program.specs.declared.op.Op.TheVariants.{Assign}
-use Rattle.star_program.specs.declared.op.Operation.{Operation}
-use Rattle.star_program.specs.declared.op.Operation.TheVariants.{Binary, Const, Load}
-use Rattle.star_program.specs.declared.op.Operator.TheVariants.{Add, Mul, Sub}
-use Rattle.star_program.specs.Code.{Code, Then}
-use Rattle.star_program.specs.World.{is_column, is_text}
-use Rattle.star_safety.specs.declared.reason.Reason.{Reason}
-use Rattle.star_safety.specs.declared.reason.Reason.TheVariants.{Overflow}
+use Rattle.star_program.specs.declared.op.{Op.TheVariants.Assign, Operation.Operation, Operation.TheVariants.Binary, Operation.TheVariants.Const, Operation.TheVariants.Load, Operator.TheVariants.Add, Operator.TheVariants.Mul, Operator.TheVariants.Sub}
+use Rattle.star_program.specs.{Code.Code, Code.Then, World.is_column, World.is_text}
+use Rattle.star_safety.specs.declared.reason.Reason.{Reason, TheVariants.Overflow}
 use Rattle.star_compile_laws.specs.Compiled.{turn_code}
 
 -- what is known of a number: its range, and the columns that it is computed from

@@ -4,11 +4,9 @@ ghost use Rattle.std.specs.Prelude.{◌≡◌, ◌↔◌, ◌≤◌, ◌<◌, �
 ghost use Rattle.std.specs.Option.{option_map};
 ghost use Rattle.star_schema.specs.Database.{Database, rows_in};
 ghost use Rattle.star_schema.specs.declared.table.TableId.TheVariants.{Lineorder};
-ghost use Rattle.star_plan.specs.Fits.{Fits};
 ghost use Rattle.star_plan.specs.Meaning.{Plan};
 ghost use Rattle.star_plan.specs.Sound.{IsSoundPlan};
 ghost use Rattle.star_plan.specs.Spelled.{IsSpelledPlan};
-ghost use Rattle.star_program.specs.World.{World};
 ghost use Rattle.star_world.specs.WorldOf.{world_of};
 ghost use Rattle.star_safety.specs.Admissible.{Refused, TooCostly, first_refusal};
 ghost use Rattle.star_schema.specs.Columns.{bounds_in};
@@ -18,36 +16,15 @@ ghost use Rattle.star_schema.specs.Columns.{AreBoundsI64};
 ghost use Rattle.star_compile_laws.specs.Judged.{IsOverflow};
 ghost use Rattle.star_compile_laws.specs.Wide.{turn_wide};
 
-/// Nothing refuses the program of a query that fits. Else lineorder's rows are over the limit on
-/// visits, and the program is refused for its quote, which is their number; or one of its
+/// Nothing refuses the program of a query that fits the tables. Else lineorder's rows are over the
+/// limit on visits, and the program is refused for its quote, which is their number; or one of its
 /// instructions is refused since a range leaves 64 bits: the first of them, in the order in which a
 /// turn computes. There is no other refusal.
 ///
-/// What isn't refused fits, and what else is refused is refused so, over any catalogue and for any
-/// constants. What fits isn't refused where the bounds of the columns of numbers are of 64 bits,
-/// and where the numbers of the query have at most 18 digits: a query is asked for the ranges of
-/// what it aggregates alone, and its program for those of all columns that it loads, and of the
-/// constants of its conditions.
-pub fn compiled_programs_are_accepted_where_they_fit()
-    ensures fitting { (w : World) (most : ℕ) (p : Plan)
-        → AreBoundsI64 w.bounds → IsSoundPlan p → IsSpelledPlan p
-        → Fits (w.size Lineorder) most w.bounds p → first_refusal w most (compiled p) ≡ None }
-    ensures accepted { (w : World) (most : ℕ) (p : Plan)
-        → IsSoundPlan p → first_refusal w most (compiled p) ≡ None
-        → Fits (w.size Lineorder) most w.bounds p }
-    ensures costly { (w : World) (most : ℕ) (p : Plan)
-        → most < w.size Lineorder
-        → first_refusal w most (compiled p) ≡ Some (TooCostly (w.size Lineorder)) }
-    ensures wide { (w : World) (most : ℕ) (p : Plan)
-        → IsSoundPlan p → w.size Lineorder ≤ most → (Fits (w.size Lineorder) most w.bounds p → ⊥)
-        → IsOverflow (first_refusal w most (compiled p)) }
-    ensures first { (w : World) (most : ℕ) (p : Plan)
-        → IsSoundPlan p → w.size Lineorder ≤ most
-        → first_refusal w most (compiled p) ≡ option_map Refused (turn_wide w.bounds p) }
-{}
-
-/// So it is over the world of five tables, by the bounds of their columns and the number of
-/// lineorder's rows.
+/// What isn't refused fits, and what else is refused is refused so, for any constants. What fits
+/// isn't refused where the bounds of the columns of numbers are of 64 bits, and where the numbers of
+/// the query have at most 18 digits: a query is asked for the ranges of what it aggregates alone,
+/// and its program for those of all columns that it loads, and of the constants of its conditions.
 pub fn compiled_programs_are_accepted_where_they_fit_the_tables()
     ensures fits { (database : Database) (most : ℕ) (p : Plan)
         → AreBoundsI64 (bounds_in (rows_in database)) → IsSoundPlan p → IsSpelledPlan p

@@ -13,21 +13,14 @@ ghost use Rattle.star_plan.specs.Sound.{IsSoundPlan};
 ghost use Rattle.star_plan.specs.WellNamed.{IsWellNamed};
 ghost use Rattle.star_program.specs.World.{World};
 ghost use Rattle.star_world.specs.RowsSeen.{IsWorldOf};
-ghost use Rattle.star_compile_laws.specs.Answers.{AnswersThePlan, AnswersTheQuery, PutsTheRows, ReportsTheQuery};
+ghost use Rattle.star_compile_laws.specs.Answers.{AnswersThePlan, AnswersTheQuery, ReportsTheQuery};
 ghost use Rattle.star_compile_laws.specs.Counts.{CountsTheRows};
 
 use star_world::law::sound_rows_have_a_world;
 
-/// Where a run of a compiled program comes to its end, it has put the selected rows and no other,
-/// in their order.
-pub fn compiled_programs_put_the_selected_rows()
-    ensures { (database : Database) (w : World) (p : Plan)
-        → ((table : TableId) → All (IsRowOf table) (rows_in database table))
-        → IsWorldOf database w → IsSoundPlan p → PutsTheRows (rows_in database) w p }
-{}
-
-/// And its outcome is the plan's answer: the groups of the selected rows with their aggregates, in
-/// the plan's order, cut to its items, under their names.
+/// Where a run of a compiled program comes to its end, its outcome is the plan's answer: the groups
+/// of the selected rows with their aggregates, in the plan's order, cut to its items, under their
+/// names.
 pub fn compiled_programs_answer_their_plans()
     ensures { (database : Database) (w : World) (p : Plan)
         → ((table : TableId) → All (IsRowOf table) (rows_in database table))

@@ -6,9 +6,7 @@ use Rattle.star_program.specs.declared.outcome.Cell.{Cell}
 use Rattle.star_program.specs.declared.outcome.Cell.TheVariants as cell
 use Rattle.star_report.specs.Columns.{ColumnKind, NumberKey, TextKey, Total, IsCellOfKind, is_field}
 use Rattle.star_report.specs.Report.{cell_text}
-use Rattle.star_report.proofs.Bytes.{Lacks}
-use Rattle.star_report.proofs.Numbers.{number_lacks, number_no_all, number_no_null, number_same}
-use Rattle.star_report.proofs.Quotes.{text_apart, text_lacks, text_same}
+use Rattle.star_report.proofs.{Bytes.Lacks, Numbers.number_lacks, Numbers.number_no_all, Numbers.number_no_null, Numbers.number_same, Quotes.text_apart, Quotes.text_lacks, Quotes.text_same}
 
 both : (p q : Bool) → IsTrue (p && q) → IsTrue p × IsTrue q
 both true true h = (h, h)

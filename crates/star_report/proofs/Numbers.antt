@@ -1,8 +1,6 @@
 -- What is printed of a number tells which number it is, and that it is neither ALL nor NULL.
 use Rattle.std.proofs.Common.{◌≡◌, ◌<◌, ◌^◌, ◌∙◌, ℕ, suc, ℤ, pos, negsuc, List, [], ◌∷◌, ap, arith, codes, drop, refl, subst, sym}
-use Rattle.std.specs.Char.{digit_value}
-use Rattle.std.specs.Fmt.{decimal, signed_decimal}
-use Rattle.std.specs.Str.Parse.{AllDigits, digits_value}
+use Rattle.std.specs.{Char.digit_value, Fmt.decimal, Fmt.signed_decimal, Str.Parse.AllDigits, Str.Parse.digits_value}
 use Rattle.std.proofs.lemmas.Fmt.{decimal_is_IsNumeral_wide}
 use Rattle.star_report.specs.Columns.{HasDigits}
 use Rattle.star_report.proofs.Bytes.{Lacks}

@@ -3,8 +3,7 @@ use Rattle.std.specs.Prelude.{◌||◌, ◌<◌, ◌^◌, Bool, not, IsTrue, ℕ
 use Rattle.std.specs.List.{AllZip, list_all}
 use Rattle.star_schema.specs.Records.{ends_line, is_bar}
 use Rattle.star_schema.specs.Tables as table
-use Rattle.star_program.specs.declared.outcome.Cell.{Cell}
-use Rattle.star_program.specs.declared.outcome.Cell.TheVariants.{Number, Text, All, Null}
+use Rattle.star_program.specs.declared.outcome.Cell.{Cell, TheVariants.Number, TheVariants.Text, TheVariants.All, TheVariants.Null}
 
 -- a column of a report: a key of numbers, a key of texts, or an aggregate
 pub data ColumnKind : Type 0 where

@@ -1,12 +1,9 @@
 -- The printed rows: a line of names and a line for each row, fields parted by bars (this project's
 -- profile; ALL: Gray et al. 1997, section 3.3).
 use Rattle.std.specs.Prelude.{◌||◌, ◌++◌, if◌then◌else◌, Bool, ℕ, List, codes, map, nat_eq}
-use Rattle.std.specs.Cmp.Lexicographic.{pointwise}
-use Rattle.std.specs.Fmt.{signed_decimal}
-use Rattle.std.specs.List.{flat_map, join_with_byte, starts_with}
+use Rattle.std.specs.{Cmp.Lexicographic.pointwise, Fmt.signed_decimal, List.flat_map, List.join_with_byte, List.starts_with}
 use Rattle.star_common.specs.Quotes.{quoted}
-use Rattle.star_program.specs.declared.outcome.Cell.{Cell}
-use Rattle.star_program.specs.declared.outcome.Cell.TheVariants.{Number, Text, All, Null}
+use Rattle.star_program.specs.declared.outcome.Cell.{Cell, TheVariants.Number, TheVariants.Text, TheVariants.All, TheVariants.Null}
 
 -- a text that could be read as ALL, or as a text in quotes
 abbrev pub is_ambiguous : List ℕ → Bool

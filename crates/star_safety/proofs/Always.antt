@@ -6,39 +6,22 @@ use Rattle.star_schema.specs.Groups.{members, numbers_for}
 use Rattle.star_schema.specs.declared.group.Aggregate.TheVariants.{Count}
 use Rattle.std.specs.Prelude.{slice_index_or}
 use Rattle.star_interval.specs.Range.{Holds}
-use Rattle.star_program.specs.declared.program.Parts.{Parts}
+use Rattle.star_program.specs.declared.{program.Parts.Parts, value.Value.TheVariants.Row, fault.Fault.TheVariants.BadRegister, fault.Fault.TheVariants.WrittenTwice}
 use Rattle.star_program.specs.Code.{Code, Stop, Then, Each, code_size}
-use Rattle.star_program.specs.World.{World, IsLoaded}
-use Rattle.star_program.specs.declared.value.Value.TheVariants.{Row}
-use Rattle.star_program.specs.Values.{Registers, no_registers, with_entry}
-use Rattle.star_program.specs.declared.fault.Fault.TheVariants.{BadRegister, WrittenTwice}
-use Rattle.star_program.specs.Faults.{unless, group_at}
-use Rattle.star_program.specs.Keys.{key_value_cmp}
+use Rattle.star_program.specs.{World.World, World.IsLoaded, Values.Registers, Values.no_registers, Values.with_entry, Faults.unless, Faults.group_at, Keys.key_value_cmp, Run.End, Run.visited, Run.turns, Run.meaning}
 use Rattle.star_program.specs.Effects.{State, empty_state, Effect, GoesOn, EndsTurn, Traps, act}
-use Rattle.star_program.specs.Run.{End, visited, turns, meaning}
 use Rattle.star_common.proofs.Firsts.{or_none}
 use Rattle.star_program.proofs.Unless.{unless_none}
-use Rattle.star_safety.specs.Ranges.{KnownRow, AllKnown}
-use Rattle.star_safety.specs.Tallies.{Shares}
+use Rattle.star_safety.specs.{Ranges.KnownRow, Ranges.AllKnown, Tallies.Shares, Refusals.op_reason, Refusals.scan_reason, Standing.at_place, Private.Forward.code_puts_to, Private.Forward.open_with, Private.Forward.none_open, Quote.turns_met, Quote.quote, Moments.sum_of, Moments.picked, Moments.IsMoment, Moments.all_shares, Private.Throughout.HoldsThroughout, Private.Throughout.InEachTurn, Private.Throughout.Onward, Private.Throughout.Throughout, Laws.IsAccepted, Laws.TotalsLie, Fitting.Agrees}
 use Rattle.star_safety.proofs.Tally.{Tally, Tallies, no_tallies, plus_all, times_all, tallies_of, tally_of, tally_sum, sum_range_is}
 use Rattle.star_safety.specs.Contexts.{Context, at_first, after_op, in_scan, after_scan, at_end}
 use Rattle.star_safety.specs.declared.reason.Reason.TheVariants.{Faulty}
-use Rattle.star_safety.specs.Refusals.{op_reason, scan_reason}
-use Rattle.star_safety.specs.Standing.{at_place}
-use Rattle.star_safety.specs.Private.Forward.{code_puts_to, open_with, none_open}
-use Rattle.star_safety.specs.Quote.{turns_met, quote}
-use Rattle.star_safety.specs.Moments.{sum_of, picked, IsMoment, all_shares}
-use Rattle.star_safety.specs.Private.Throughout.{HoldsThroughout, InEachTurn, Onward, Throughout}
-use Rattle.star_safety.specs.Laws.{IsAccepted, TotalsLie}
-use Rattle.star_safety.proofs.TallyOrder.{AtMost, at_most_trans, at_most_plus, at_most_turn}
+use Rattle.star_safety.proofs.{TallyOrder.AtMost, TallyOrder.at_most_trans, TallyOrder.at_most_plus, TallyOrder.at_most_turn, Gains.op_gain, Gains.gain, Gains.whole_gain, Room.has_room}
 use Rattle.star_safety.proofs.Tallied.{sum_up, sum_down, IsTallied, tallied_more, tallied_members, sums_lie, shares_lie}
-use Rattle.star_safety.specs.Fitting.{Agrees}
 use Rattle.star_safety.proofs.Instructions.{unmapped_none, agrees_entry, AreTallied, IsGood, act_good}
-use Rattle.star_safety.proofs.Gains.{op_gain, gain, whole_gain}
 use Rattle.star_safety.proofs.Turns.{Safe, all_tallied_more, safe_more, safe_turns, at_start}
 use Rattle.star_safety.proofs.Sound.{quoted_each, in_time, at_place_none, IsReady, ready_then, ready_in, ready_after, op_room}
 use Rattle.star_safety.proofs.Runs.{AllFit, sound, not_refused, ready_first, all_fit, few_puts, nothing_tallied, safe_ends}
-use Rattle.star_safety.proofs.Room.{has_room}
 
 -- ---- one moment
 

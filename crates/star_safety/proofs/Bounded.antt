@@ -4,18 +4,12 @@ use Rattle.std.proofs.Common.{◌≡◌, ℕ, zero, suc, ◌+◌, ◌*◌, ◌�
 use Rattle.std.specs.Prelude.{nat_lt, if◌then◌else◌}
 use Rattle.std.proofs.lemmas.Bool.{lt-ltb}
 use Rattle.std.proofs.Math.Nat.{mul-le-mul_right}
-use Rattle.star_program.specs.declared.op.Op.{Op}
-use Rattle.star_program.specs.declared.op.Op.TheVariants.{Assign, Keep, Put}
+use Rattle.star_program.specs.declared.{op.Op.Op, op.Op.TheVariants.Assign, op.Op.TheVariants.Keep, op.Op.TheVariants.Put, program.Parts.Parts, value.Value.TheVariants.Row, fault.TrapKind.TrapKind}
 use Rattle.star_program.specs.declared.op.Operation.TheVariants.{Const, Edge, Load, Find, Binary, Within, Not, Read}
-use Rattle.star_program.specs.declared.program.Parts.{Parts}
 use Rattle.star_program.specs.Code.{Code, Stop, Then, Each, code_size}
-use Rattle.star_program.specs.World.{World}
-use Rattle.star_program.specs.declared.value.Value.TheVariants.{Row}
-use Rattle.star_program.specs.Values.{Registers, no_registers, with_entry, flag_read}
-use Rattle.star_program.specs.declared.fault.TrapKind.{TrapKind}
+use Rattle.star_program.specs.{World.World, Values.Registers, Values.no_registers, Values.with_entry, Values.flag_read, ShowLines.shown_fault}
 use Rattle.star_program.specs.Effects.{State, empty_state, Effect, GoesOn, EndsTurn, Traps, trap_of, unless_trap, effect_of, act}
 use Rattle.star_program.specs.Run.{End, Ended, Trapped, Limited, follow, after, visited, begin, turns, scans, meaning, unless_unshown, run_of, bounded_run_of}
-use Rattle.star_program.specs.ShowLines.{shown_fault}
 use Rattle.star_safety.specs.Quote.{turns_met, quote}
 use Rattle.star_safety.proofs.Sound.{quoted_each, in_time}
 

@@ -2,17 +2,14 @@
 use Rattle.std.proofs.Common.{◌≡◌, ℕ, zero, suc, ◌+◌, ◌<◌, Bool, true, false, refl, subst, sym, arith}
 use Rattle.std.specs.Prelude.{nat_lt}
 use Rattle.std.proofs.lemmas.Bool.{ltb-true}
-use Rattle.star_program.specs.declared.program.Parts.{Parts}
-use Rattle.star_program.specs.declared.value.Value.TheVariants.{Row}
+use Rattle.star_program.specs.declared.{program.Parts.Parts, value.Value.TheVariants.Row}
 use Rattle.star_program.specs.Code.{Code, Stop, Then, Each, code_size}
-use Rattle.star_program.specs.World.{World}
-use Rattle.star_program.specs.Values.{Registers, with_entry}
+use Rattle.star_program.specs.{World.World, Values.Registers, Values.with_entry}
 use Rattle.star_program.specs.Effects.{State, Effect, GoesOn, EndsTurn, Traps, act}
 use Rattle.star_program.specs.Run.{End, Ended, Trapped, Limited, EndsWith, after, follow, meaning, meaning_of, scans, turns, visited}
-use Rattle.star_safety.specs.Tallies.{Shares}
+use Rattle.star_safety.specs.{Tallies.Shares, Private.Throughout.HoldsThroughout, Private.Throughout.InEachTurn, Private.Throughout.Onward, Private.Throughout.Throughout}
 use Rattle.star_safety.specs.Contexts.{Context, after_op, in_scan, after_scan, at_end}
 use Rattle.star_safety.specs.Moments.{AtEveryMoment, HoldsFrom, IsMetFrom, Moment, all_shares, behind, behind_scan, first_moment, in_turn, itself, moment}
-use Rattle.star_safety.specs.Private.Throughout.{HoldsThroughout, InEachTurn, Onward, Throughout}
 use Rattle.star_safety.proofs.BeforePuts.{moment_of}
 
 -- ---- from the whole run to a moment

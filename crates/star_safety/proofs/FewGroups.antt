@@ -3,14 +3,9 @@ use Rattle.std.proofs.Common.{◌≡◌, ◌⊎◌, ℕ, zero, suc, ◌*◌, ◌
 use Rattle.std.specs.Prelude.{nat_le, filter, if◌then◌else◌}
 use Rattle.std.specs.List.{Contains, IsDistinct, flat_map, list_all, sum_by}
 use Rattle.std.specs.Option.{is_none}
-use Rattle.std.proofs.lemmas.List.{length-append, length-map}
-use Rattle.std.proofs.lemmas.List.Elements.{Contains-append_left, Contains-append_right, Contains-append_cases}
-use Rattle.std.proofs.lemmas.List.Sums.{sum_by-cons}
-use Rattle.std.proofs.lemmas.Map.Made.{length-le_from_is_member}
-use Rattle.std.proofs.lemmas.Map.Views.{Contains-from_any, list_any-from_Contains}
+use Rattle.std.proofs.lemmas.{List.length-append, List.length-map, List.Elements.Contains-append_left, List.Elements.Contains-append_right, List.Elements.Contains-append_cases, List.Sums.sum_by-cons, Map.Made.length-le_from_is_member, Map.Views.Contains-from_any, Map.Views.list_any-from_Contains}
 use Rattle.star_common.proofs.Members.{contains_here, contains_later, contains_cases, contains_none, contains_mapped, from_contains_map}
-use Rattle.star_schema.specs.declared.group.Shape.{Shape}
-use Rattle.star_schema.specs.declared.group.Shape.TheVariants.{Plain, Cube, Rollup}
+use Rattle.star_schema.specs.declared.group.Shape.{Shape, TheVariants.Plain, TheVariants.Cube, TheVariants.Rollup}
 use Rattle.star_schema.specs.Groups.{IsMasked, is_grouping}
 use Rattle.star_program.specs.declared.key.KeyValue.{KeyValue}
 use Rattle.star_program.specs.Puts.{masks}

@@ -2,17 +2,11 @@
 use Rattle.std.proofs.Common.{ℕ, ◌+◌, ◌≤◌, Bool, true, false, List, [], ◌∷◌, ◌++◌, None, arith}
 use Rattle.std.specs.Prelude.{nat_eq, slice_index_or, if◌then◌else◌}
 use Rattle.star_schema.specs.declared.table.TableId.{TableId}
-use Rattle.star_program.specs.declared.group.GroupDecl.{GroupDecl}
-use Rattle.star_program.specs.declared.op.Op.{Op}
-use Rattle.star_program.specs.declared.op.Op.TheVariants.{Put}
-use Rattle.star_program.specs.declared.program.Parts.{Parts}
-use Rattle.star_program.specs.Code.{Code, Stop, Then, Each}
-use Rattle.star_program.specs.Faults.{group_at}
-use Rattle.star_program.specs.World.{World}
-use Rattle.star_safety.specs.Ranges.{AllKnown, range_at}
+use Rattle.star_program.specs.declared.{group.GroupDecl.GroupDecl, op.Op.Op, op.Op.TheVariants.Put, program.Parts.Parts}
+use Rattle.star_program.specs.{Code.Code, Code.Stop, Code.Then, Code.Each, Faults.group_at, World.World}
+use Rattle.star_safety.specs.{Ranges.AllKnown, Ranges.range_at, Moments.all_shares}
 use Rattle.star_safety.specs.Contexts.{Context, put_known, put_share, after_op, in_scan, after_scan, at_end}
 use Rattle.star_safety.proofs.Tally.{Tally, no_tally, once, plus, times, Tallies, no_tallies, plus_all, times_all, tally_of, tallies_of}
-use Rattle.star_safety.specs.Moments.{all_shares}
 use Rattle.star_safety.proofs.TallyOrder.{AtMost, at_most_refl, at_most_trans, at_most_both, at_most_spread, at_most_product, at_most_nothing}
 
 -- ---- an instruction

@@ -3,48 +3,29 @@ use Rattle.std.proofs.Common.{◌≡◌, ℕ, zero, suc, ◌<◌, Bool, true, fa
 use Rattle.std.proofs.lemmas.Bool.{eq-eqb}
 use Rattle.std.specs.Prelude.{ℤ, pos, ◌+ℤ◌, ◌-ℤ◌, ◌*ℤ◌, map, nat_eq, not, if◌then◌else◌, unwrap_or, slice_index_or}
 use Rattle.std.specs.Option.{option_map, option_or}
-use Rattle.star_schema.specs.declared.table.TableId.{TableId}
-use Rattle.star_schema.specs.declared.column.ColumnId.{ColumnId}
-use Rattle.star_schema.specs.declared.group.Aggregate.{Aggregate}
-use Rattle.star_schema.specs.declared.group.Aggregate.TheVariants.{Count}
-use Rattle.star_schema.specs.Schema.{table_of, references}
-use Rattle.star_schema.specs.Groups.{numbers_for}
+use Rattle.star_schema.specs.declared.{table.TableId.TableId, column.ColumnId.ColumnId, group.Aggregate.Aggregate, group.Aggregate.TheVariants.Count}
+use Rattle.star_schema.specs.{Schema.table_of, Schema.references, Groups.numbers_for}
 use Rattle.star_interval.specs.Range.{Holds, only, corner_range, is_i64, fits_i64}
 use Rattle.star_interval.specs.Laws.{KeepsValues}
-use Rattle.star_interval.proofs.Sums.{sums_held, differences_held}
-use Rattle.star_interval.proofs.Products.{products_held}
-use Rattle.star_program.specs.declared.group.GroupDecl.{GroupDecl}
-use Rattle.star_program.specs.declared.op.Op.{Op}
-use Rattle.star_program.specs.declared.op.Op.TheVariants.{Assign, Keep, Put}
+use Rattle.star_interval.proofs.{Sums.sums_held, Sums.differences_held, Products.products_held}
+use Rattle.star_program.specs.declared.{group.GroupDecl.GroupDecl, op.Op.Op, op.Op.TheVariants.Assign, op.Op.TheVariants.Keep, op.Op.TheVariants.Put, op.Operator.Operator, op.Operator.TheVariants.Add, op.Operator.TheVariants.Sub, op.Operator.TheVariants.Mul, op.Operator.TheVariants.Less, program.Parts.Parts, value.Value.Value, fault.Fault.Fault, fault.TrapKind.TrapKind, fault.TrapKind.TheVariants.Wrong, fault.TrapKind.TheVariants.Overflow}
 use Rattle.star_program.specs.declared.op.Operation.TheVariants.{Const, Edge, Load, Find, Binary, Within, Not, Read}
-use Rattle.star_program.specs.declared.op.Operator.{Operator}
-use Rattle.star_program.specs.declared.op.Operator.TheVariants.{Add, Sub, Mul, Less}
-use Rattle.star_program.specs.declared.program.Parts.{Parts}
 use Rattle.star_program.specs.World.{World, IsLoaded, IsRowNumberOf, edge_of, is_text}
-use Rattle.star_program.specs.declared.value.Value.{Value}
 use Rattle.star_program.specs.declared.value.Value.TheVariants.{Number, Text, Place, Row, Flag}
 use Rattle.star_program.specs.Values.{register_kind, Registers, with_entry, number_read, flag_read, row_read}
-use Rattle.star_program.specs.declared.fault.Fault.{Fault}
 use Rattle.star_program.specs.Faults.{unless, kind_fault, operand_fault, is_number_kind, is_row_kind, is_row_of, both_fault, binary_fault, numbers_fault, keys_fault, place_fault, target_fault, target_of, operands_fault, group_at, fault_of}
 use Rattle.star_program.specs.Puts.{Update, aligned, overflows, own_groups, total_over}
 use Rattle.star_program.specs.Effects.{State, Effect, GoesOn, EndsTurn, Traps, answer_of, loaded, update_of, result_trap, effect_of, unless_trap, kinds_in, act}
 use Rattle.star_program.specs.Private.Doing.{sets, sets_answer, sets_found, keeps, puts, puts_update, does}
-use Rattle.star_program.specs.declared.fault.TrapKind.{TrapKind}
-use Rattle.star_program.specs.declared.fault.TrapKind.TheVariants.{Wrong, Overflow}
 use Rattle.star_common.proofs.Firsts.{or_none}
 use Rattle.star_program.proofs.Unless.{unless_none}
 use Rattle.star_schema.proofs.Same.{table_same}
 use Rattle.star_safety.specs.Ranges.{Known, KnownNumber, KnownText, KnownPlace, KnownRow, KnownFlag, known_kind, AllKnown, range_at, origin_at, known_number, loaded_known, known_arithmetic, answer_known, kinds_known}
-use Rattle.star_safety.specs.Tallies.{Share, read_range}
+use Rattle.star_safety.specs.{Tallies.Share, Tallies.read_range, Fitting.FromColumn, Fitting.FitsValue, Fitting.FitsAt, Fitting.Agrees, Contexts.Context, Contexts.put_known, Contexts.after_op}
 use Rattle.star_safety.proofs.Tally.{Tally, no_tally, plus, Tallies, no_tallies, plus_all, tally_of}
-use Rattle.star_safety.specs.Fitting.{FromColumn, FitsValue, FitsAt, Agrees}
-use Rattle.star_safety.specs.Contexts.{Context, put_known, after_op}
-use Rattle.star_safety.proofs.Gains.{put_tally, op_gain}
-use Rattle.star_safety.specs.declared.reason.Reason.{Reason}
-use Rattle.star_safety.specs.declared.reason.Reason.TheVariants.{Faulty}
+use Rattle.star_safety.proofs.{Gains.put_tally, Gains.op_gain, Numbers.holds_itself, Numbers.fits_held, TallyOrder.AtMost, TallyOrder.at_most_plus}
+use Rattle.star_safety.specs.declared.reason.Reason.{Reason, TheVariants.Faulty}
 use Rattle.star_safety.specs.Refusals.{refuses, is_some_table, refers_to, overflow_of, target_again, kind_reason, source_reason, range_reason, op_reason}
-use Rattle.star_safety.proofs.Numbers.{holds_itself, fits_held}
-use Rattle.star_safety.proofs.TallyOrder.{AtMost, at_most_plus}
 use Rattle.star_safety.proofs.Tallied.{IsTallied, tallied_more, tallied_put, no_overflow, read_holds, tallies_fit, tallies_fit_less}
 
 -- ---- no fault, and no reason

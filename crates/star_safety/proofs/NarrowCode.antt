@@ -2,18 +2,14 @@
 -- each number that it puts.
 use Rattle.std.proofs.Common.{◌≡◌, ℕ, ◌+◌, Bool, None}
 use Rattle.star_schema.specs.declared.table.TableId.{TableId}
-use Rattle.star_program.specs.declared.op.Op.{Op}
-use Rattle.star_program.specs.declared.program.Parts.{Parts}
+use Rattle.star_program.specs.declared.{op.Op.Op, program.Parts.Parts}
 use Rattle.star_program.specs.Code.{Code, Stop, Then, Each, code_size}
 use Rattle.star_program.specs.World.{World}
 use Rattle.star_common.proofs.Firsts.{or_none}
 use Rattle.star_safety.specs.Contexts.{Context, at_first, after_op, in_scan, after_scan, at_end}
-use Rattle.star_safety.specs.Private.Forward.{open_with, first_reason}
-use Rattle.star_safety.specs.Ranges.{KnownRow}
+use Rattle.star_safety.specs.{Private.Forward.open_with, Private.Forward.first_reason, Ranges.KnownRow, Standing.at_place}
 use Rattle.star_safety.specs.Refusals.{kind_reason, source_reason, range_reason, op_reason, scan_reason}
-use Rattle.star_safety.specs.Standing.{at_place}
-use Rattle.star_safety.proofs.Sound.{at_place_none}
-use Rattle.star_safety.proofs.NarrowRanges.{Fits, zero_narrow, entry_narrow, after_narrow}
+use Rattle.star_safety.proofs.{Sound.at_place_none, NarrowRanges.Fits, NarrowRanges.zero_narrow, NarrowRanges.entry_narrow, NarrowRanges.after_narrow}
 
 -- at the first instruction
 pub first_fits : (parts : Parts) → Fits parts at_first

@@ -3,25 +3,15 @@
 use Rattle.std.proofs.Common.{◌≡◌, ℕ, zero, suc, ◌+◌, ◌*◌, ◌^◌, ◌≤◌, ◌<◌, Bool, true, false, List, [], ◌∷◌, ◌++◌, Option, Some, None, refl, arith, FitsSigned, w64}
 use Rattle.std.specs.Prelude.{ℤ, pos, negsuc, ◌+ℤ◌, ◌-ℤ◌, ◌*ℤ◌, map, nat_eq, slice_index_or, unsigned_abs, if◌then◌else◌}
 use Rattle.std.specs.List.{AllByRecursion}
-use Rattle.star_schema.specs.declared.column.ColumnId.{ColumnId}
-use Rattle.star_schema.specs.declared.group.Aggregate.{Aggregate}
-use Rattle.star_schema.specs.declared.group.Aggregate.TheVariants.{Sum, Count, Min, Max}
+use Rattle.star_schema.specs.declared.{column.ColumnId.ColumnId, group.Aggregate.Aggregate, group.Aggregate.TheVariants.Sum, group.Aggregate.TheVariants.Count, group.Aggregate.TheVariants.Min, group.Aggregate.TheVariants.Max}
 use Rattle.star_interval.specs.Range.{Range, FitsI64, FitsI128, fits_i64, only, hull, multiple_range}
-use Rattle.star_program.specs.declared.op.Op.{Op}
-use Rattle.star_program.specs.declared.op.Op.TheVariants.{Assign, Keep, Put}
-use Rattle.star_program.specs.declared.op.Operation.{Operation}
+use Rattle.star_program.specs.declared.{op.Op.Op, op.Op.TheVariants.Assign, op.Op.TheVariants.Keep, op.Op.TheVariants.Put, op.Operation.Operation, op.Operator.Operator, program.Parts.Parts}
 use Rattle.star_program.specs.declared.op.Operation.TheVariants.{Const, Edge, Load, Find, Binary, Within, Not, Read}
-use Rattle.star_program.specs.declared.op.Operator.{Operator}
 use Rattle.star_program.specs.declared.op.Operator.TheVariants.{Add, Sub, Mul, Less, LessOrEqual, Equal, And, Or}
-use Rattle.star_program.specs.declared.program.Parts.{Parts}
-use Rattle.star_program.specs.Faults.{group_at}
-use Rattle.star_program.specs.Puts.{aligned}
-use Rattle.star_program.specs.Values.{with_entry}
-use Rattle.star_program.specs.World.{World, is_text}
-use Rattle.star_safety.specs.Bounds.{NamesI64}
+use Rattle.star_program.specs.{Faults.group_at, Puts.aligned, Values.with_entry, World.World, World.is_text}
+use Rattle.star_safety.specs.{Bounds.NamesI64, Refusals.overflow_of, Refusals.range_reason}
 use Rattle.star_safety.specs.Contexts.{Context, put_known, put_share, result_known, after_op}
 use Rattle.star_safety.specs.Ranges.{Known, KnownNumber, KnownText, KnownPlace, KnownRow, KnownFlag, AllKnown, range_at, known_number, loaded_known, answer_known}
-use Rattle.star_safety.specs.Refusals.{overflow_of, range_reason}
 use Rattle.star_safety.specs.Tallies.{Share, sum_range, most_of, hull_with, hull_of, read_range, widened}
 use Rattle.star_safety.proofs.Instructions.{not_refuses_none}
 use Rattle.star_safety.proofs.Sizes.{Small, small_more, sum_abs, difference_abs, product_abs, fits_small, small_fits, i64_small, only_small, hull_small, corner_small, widened_small, multiple_small}

@@ -1,51 +1,29 @@
 -- Each key of an update is one of the values that are known of it before the run.
 use Rattle.std.proofs.Common.{◌≡◌, ℕ, zero, suc, ◌+◌, ◌<◌, Bool, true, false, List, [], ◌∷◌, ◌++◌, Option, Some, None, length, map, refl, sym, ap, subst, ◌∙◌, arith, ⊎_elim, zero-add}
 use Rattle.std.specs.Prelude.{ℤ, pos, negsuc, ◌+ℤ◌, ◌-ℤ◌, nat_eq, nat_lt, slice_index_or, if◌then◌else◌}
-use Rattle.std.specs.List.{AllByRecursion, Contains, range_with_len}
-use Rattle.std.specs.Option.{option_map}
-use Rattle.std.proofs.lemmas.Bool.{and_parts, eqb-true, lt-ltb}
+use Rattle.std.specs.{List.AllByRecursion, List.Contains, List.range_with_len, Option.option_map}
+use Rattle.std.proofs.lemmas.{Bool.and_parts, Bool.eqb-true, Bool.lt-ltb, Int.ints, List.length-map, List.Elements.Contains-append_right, List.FromFn.length-range_with_len, List.FromFn.get_or-range_with_len}
 use Rattle.star_program.proofs.Unless.{unless_none}
-use Rattle.std.proofs.lemmas.Int.{ints}
-use Rattle.std.proofs.lemmas.List.{length-map}
-use Rattle.std.proofs.lemmas.List.Elements.{Contains-append_right}
-use Rattle.std.proofs.lemmas.List.FromFn.{length-range_with_len, get_or-range_with_len}
-use Rattle.star_common.proofs.Firsts.{or_none}
-use Rattle.star_common.proofs.Members.{contains_here, contains_cases, contains_mapped, contains_none}
+use Rattle.star_common.proofs.{Firsts.or_none, Members.contains_here, Members.contains_cases, Members.contains_mapped, Members.contains_none}
 use Rattle.star_schema.proofs.Same.{column_same}
 use Rattle.star_schema.specs.declared.column.ColumnId.{ColumnId}
 use Rattle.star_interval.specs.Range.{Range, Holds}
-use Rattle.star_program.specs.declared.group.GroupKey.{GroupKey}
+use Rattle.star_program.specs.declared.{group.GroupKey.GroupKey, key.KeyValue.KeyValue, op.Op.Op, op.Op.TheVariants.Assign, op.Op.TheVariants.Keep, op.Op.TheVariants.Put, op.Operation.Operation, op.Operator.TheVariants.Add, op.Operator.TheVariants.Sub, op.Operator.TheVariants.Mul, program.Parts.Parts, value.Value.Value, fault.Fault.TheVariants.BadRegister, fault.Fault.TheVariants.WrongKind, fault.Fault.TheVariants.BadGroup, fault.TrapKind.TrapKind, fault.TrapKind.TheVariants.Wrong}
 use Rattle.star_program.specs.declared.group.GroupKey.TheVariants as declared
-use Rattle.star_program.specs.declared.key.KeyValue.{KeyValue}
 use Rattle.star_program.specs.declared.key.KeyValue.TheVariants as key
-use Rattle.star_program.specs.declared.op.Op.{Op}
-use Rattle.star_program.specs.declared.op.Op.TheVariants.{Assign, Keep, Put}
-use Rattle.star_program.specs.declared.op.Operation.{Operation}
-use Rattle.star_program.specs.declared.op.Operator.TheVariants.{Add, Sub, Mul}
 use Rattle.star_program.specs.declared.op.Operation.TheVariants.{Const, Edge, Load, Find, Binary, Within, Not, Read}
-use Rattle.star_program.specs.declared.program.Parts.{Parts}
-use Rattle.star_program.specs.declared.value.Value.{Value}
 use Rattle.star_program.specs.declared.value.Value.TheVariants.{Number, Text, Place, Row, Flag}
 use Rattle.star_program.specs.Code.{Code, Stop, Then, Each, code_size}
 use Rattle.star_program.specs.Effects.{State, Effect, GoesOn, EndsTurn, Traps, kinds_in, trap_of, effect_of, unless_trap, update_of, act}
 use Rattle.star_program.specs.Faults.{group_at, fault_of, fits_key, keys_fault, kind_fault, numbers_fault, operand_fault, place_fault, target_fault, unless}
-use Rattle.star_program.specs.Puts.{Update}
+use Rattle.star_program.specs.{Puts.Update, Values.Registers, Values.key_read, Values.register_kind, Values.with_entry, World.World, World.is_column, World.is_text}
 use Rattle.star_program.specs.Run.{End, Ended, Trapped, Limited, EndsWith, after, follow, meaning, scans, turns, visited}
-use Rattle.star_program.specs.Values.{Registers, key_read, register_kind, with_entry}
-use Rattle.star_program.specs.World.{World, is_column, is_text}
-use Rattle.star_program.specs.declared.fault.Fault.TheVariants.{BadRegister, WrongKind, BadGroup}
-use Rattle.star_program.specs.declared.fault.TrapKind.{TrapKind}
-use Rattle.star_program.specs.declared.fault.TrapKind.TheVariants.{Wrong}
 use Rattle.star_safety.specs.Contexts.{Context, after_op, after_scan, at_end, in_scan, key_share, known_share, op_key_shares, operation_known, put_share, result_known}
-use Rattle.star_safety.specs.Fitting.{Agrees, FitsAt}
-use Rattle.star_safety.specs.Private.Throughout.{InEachTurn, Onward, Throughout}
+use Rattle.star_safety.specs.{Fitting.Agrees, Fitting.FitsAt, Private.Throughout.InEachTurn, Private.Throughout.Onward, Private.Throughout.Throughout}
 use Rattle.star_safety.specs.MostRows.{all_key_shares, each_values, numbers_to, possible_values, width, range_width}
 use Rattle.star_safety.specs.Ranges.{Known, KnownNumber, KnownText, KnownPlace, KnownRow, KnownFlag, AllKnown, loaded_known}
 use Rattle.star_safety.specs.Tallies.{Share, Shares, hull_of, hull_with, most_of}
-use Rattle.star_safety.proofs.BeforePuts.{moment_of}
-use Rattle.star_safety.proofs.FewGroups.{sizes}
-use Rattle.star_safety.proofs.Instructions.{unmapped_none}
-use Rattle.star_safety.proofs.Numbers.{holds_hull_left, holds_hull_right}
+use Rattle.star_safety.proofs.{BeforePuts.moment_of, FewGroups.sizes, Instructions.unmapped_none, Numbers.holds_hull_left, Numbers.holds_hull_right}
 
 -- ---- the values of a key
 

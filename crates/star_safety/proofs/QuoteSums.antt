@@ -6,9 +6,8 @@ use Rattle.star_program.specs.declared.program.Parts.{Parts}
 use Rattle.star_program.specs.Code.{Code, Stop, Then, Each, code_size}
 use Rattle.star_program.specs.World.{World}
 use Rattle.star_safety.specs.Contexts.{Context, after_op, after_scan, at_end, at_first, in_scan}
-use Rattle.star_safety.specs.Quote.{quote, turns_met}
+use Rattle.star_safety.specs.{Quote.quote, Quote.turns_met, Told.rows_together, Told.turns_of}
 use Rattle.star_safety.specs.Standing.{Act, Enclosing, Scan, Standing, instructions_of, standing}
-use Rattle.star_safety.specs.Told.{rows_together, turns_of}
 
 together : (first b c d e : ℕ) → b ≡ d → c ≡ e → first + b + c ≡ first + (d + e)
 together first b c d e h k = omega (arith, h, k)

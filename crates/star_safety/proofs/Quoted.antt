@@ -6,13 +6,10 @@ use Rattle.star_common.specs.First.{first_answer}
 use Rattle.star_schema.specs.declared.table.TableId.{TableId}
 use Rattle.star_program.specs.declared.program.Parts.{Parts}
 use Rattle.star_program.specs.Code.{Code, Stop, Then, Each, code_size, scan_depth}
-use Rattle.star_program.specs.Limits.{IsWithinLimits}
-use Rattle.star_program.specs.ShowLines.{shown_fault}
-use Rattle.star_program.specs.World.{World}
+use Rattle.star_program.specs.{Limits.IsWithinLimits, ShowLines.shown_fault, World.World}
 use Rattle.star_safety.specs.Admissible.{TooCostly, Refused, BadShow, cost_refusal, first_refusal}
-use Rattle.star_safety.specs.Quote.{turns_met, quote}
+use Rattle.star_safety.specs.{Quote.turns_met, Quote.quote, Standing.instructions_of, Standing.reason_of}
 use Rattle.star_safety.specs.declared.reason.Reason.{Reason}
-use Rattle.star_safety.specs.Standing.{instructions_of, reason_of}
 use Rattle.star_safety.proofs.Nested.{body_nested, rest_nested, met_within}
 
 module _ (size : TableId → ℕ) (small : (t : TableId) → size t < 2 ^ 32) where

@@ -7,8 +7,7 @@ use Rattle.star_common.specs.First.{first_answer}
 use Rattle.star_common.proofs.Firsts.{all_without_answer, first_answer_none, or_none}
 use Rattle.star_program.specs.declared.program.Parts.{Parts}
 use Rattle.star_program.specs.World.{World}
-use Rattle.star_safety.specs.Quote.{quote}
-use Rattle.star_safety.specs.Standing.{instructions_of, reason_of}
+use Rattle.star_safety.specs.{Quote.quote, Standing.instructions_of, Standing.reason_of}
 use Rattle.star_safety.specs.Admissible.{Refused, BadShow, cost_refusal, IsAdmissible, first_refusal}
 use Rattle.star_safety.proofs.Instructions.{both_none, unmapped_none}
 

@@ -1,10 +1,8 @@
 -- Updates that are tallied within their bits are such as a put of the newest asks for.
 use Rattle.std.proofs.Common.{◌≡◌, ℕ, zero, suc, ◌+◌, ◌^◌, ◌<◌, true, List, [], ◌∷◌, length, refl, subst, arith, zero-add}
 use Rattle.std.specs.Prelude.{ℤ, pos, negsuc, slice_index_or}
-use Rattle.std.proofs.lemmas.Bool.{and_parts}
-use Rattle.std.proofs.lemmas.List.{length-map}
-use Rattle.star_schema.specs.declared.group.Aggregate.{Aggregate}
-use Rattle.star_schema.specs.declared.group.Aggregate.TheVariants.{Sum, Count}
+use Rattle.std.proofs.lemmas.{Bool.and_parts, List.length-map}
+use Rattle.star_schema.specs.declared.group.Aggregate.{Aggregate, TheVariants.Sum, TheVariants.Count}
 use Rattle.star_schema.specs.Groups.{numbers_for}
 use Rattle.star_program.specs.declared.group.GroupDecl.{GroupDecl}
 use Rattle.star_program.specs.Puts.{Update}

@@ -1,49 +1,23 @@
 -- The report of an accepted program has no more rows than are known before its run.
 use Rattle.std.proofs.Common.{◌≡◌, ℕ, suc, ◌≤◌, Bool, true, false, List, [], ◌∷◌, Option, Some, None, length, map, replicate, refl, sym, ap, subst, ◌∙◌, arith, ⊎_elim, inl, inr, true≢false}
 use Rattle.std.specs.Prelude.{pos, slice_index_or}
-use Rattle.std.specs.List.{AllByRecursion, Contains, IsDistinct}
-use Rattle.std.specs.List.Sorted.{IsStrictlySortedBy}
-use Rattle.std.specs.Cmp.Lexicographic.{slice_cmp}
-use Rattle.std.specs.Ordering.{is_lt, ordering_reverse, ordering_then}
-use Rattle.std.specs.declared.cmp.Ordering.{Ordering}
-use Rattle.std.specs.declared.cmp.Ordering.TheVariants.{Less, Equal, Greater}
-use Rattle.std.proofs.lemmas.Cmp.{int_cmp_total, lists_total, nat_cmp_total}
-use Rattle.std.proofs.lemmas.List.{length-map, length-replicate}
+use Rattle.std.specs.{List.AllByRecursion, List.Contains, List.IsDistinct, List.Sorted.IsStrictlySortedBy, Cmp.Lexicographic.slice_cmp, Ordering.is_lt, Ordering.ordering_reverse, Ordering.ordering_then}
+use Rattle.std.specs.declared.cmp.Ordering.{Ordering, TheVariants.Less, TheVariants.Equal, TheVariants.Greater}
+use Rattle.std.proofs.lemmas.{Cmp.int_cmp_total, Cmp.lists_total, Cmp.nat_cmp_total, List.length-map, List.length-replicate}
 use Rattle.star_common.proofs.Members.{at_each, contains_here, contains_later, contains_mapped, from_contains_map, of_each}
-use Rattle.star_schema.specs.declared.group.GroupColumn.{GroupColumn}
+use Rattle.star_schema.specs.declared.group.{GroupColumn.GroupColumn, Direction.Direction, Direction.TheVariants.Ascending, Direction.TheVariants.Descending, SortKey.SortKey}
 use Rattle.star_schema.specs.declared.group.GroupColumn.TheVariants as column
-use Rattle.star_schema.specs.declared.group.Direction.{Direction}
-use Rattle.star_schema.specs.declared.group.Direction.TheVariants.{Ascending, Descending}
-use Rattle.star_schema.specs.declared.group.SortKey.{SortKey}
 use Rattle.star_schema.specs.Groups.{GroupRow, IsGroup, IsMasked, is_grouping, members, totals_of}
 use Rattle.star_schema.specs.Order.{key_cmp, row_cmp, sort_cmp, total_cmp, value_cmp}
 use Rattle.star_schema.specs.Tables.{Value, Number, Text}
-use Rattle.star_program.specs.declared.group.GroupDecl.{GroupDecl}
-use Rattle.star_program.specs.declared.group.GroupKey.{GroupKey}
-use Rattle.star_program.specs.declared.key.KeyValue.{KeyValue}
-use Rattle.star_program.specs.declared.outcome.Outcome.{Outcome}
-use Rattle.star_program.specs.declared.program.Parts.{Parts}
-use Rattle.star_program.specs.Effects.{State, empty_state}
-use Rattle.star_program.specs.Faults.{group_at}
-use Rattle.star_program.specs.Keys.{key_value_cmp}
-use Rattle.star_program.specs.Outcome.{AreReportRows, IsOutcome, decoded_row, shown_cells}
-use Rattle.star_program.specs.Puts.{Update}
+use Rattle.star_program.specs.declared.{group.GroupDecl.GroupDecl, group.GroupKey.GroupKey, key.KeyValue.KeyValue, outcome.Outcome.Outcome, program.Parts.Parts}
+use Rattle.star_program.specs.{Effects.State, Effects.empty_state, Faults.group_at, Keys.key_value_cmp, Outcome.AreReportRows, Outcome.IsOutcome, Outcome.decoded_row, Outcome.shown_cells, Puts.Update, ShowLines.shown_fault, Values.no_registers, World.World}
 use Rattle.star_program.specs.Run.{End, Ended, Trapped, Limited, EndsWith, run_of, unless_unshown}
-use Rattle.star_program.specs.ShowLines.{shown_fault}
-use Rattle.star_program.specs.Values.{no_registers}
-use Rattle.star_program.specs.World.{World}
 use Rattle.star_group.specs.OwnKeys.{key_eq}
 use Rattle.star_group.proofs.GroupKeys.{key_decides}
-use Rattle.star_safety.specs.Contexts.{at_first}
-use Rattle.star_safety.specs.Laws.{IsAccepted}
-use Rattle.star_safety.specs.Moments.{all_shares}
-use Rattle.star_safety.specs.MostRows.{all_key_shares, most_report_rows, rows_of_groupings}
-use Rattle.star_safety.specs.Tallies.{most_of}
-use Rattle.star_safety.proofs.Always.{accepted_throughout}
-use Rattle.star_safety.proofs.FewGroups.{AreAmong, IsOne, few_groups, sizes}
+use Rattle.star_safety.specs.{Contexts.at_first, Laws.IsAccepted, Moments.all_shares, MostRows.all_key_shares, MostRows.most_report_rows, MostRows.rows_of_groupings, Tallies.most_of}
+use Rattle.star_safety.proofs.{Always.accepted_throughout, FewGroups.AreAmong, FewGroups.IsOne, FewGroups.few_groups, FewGroups.sizes, Runs.ends, Tally.most_is}
 use Rattle.star_safety.proofs.PutKeys.{AreListed, KeysAmong, all_listed, each_listed, kept, same_many, sizes_are}
-use Rattle.star_safety.proofs.Runs.{ends}
-use Rattle.star_safety.proofs.Tally.{most_is}
 
 -- ---- no row stands before itself
 

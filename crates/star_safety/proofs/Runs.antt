@@ -3,40 +3,21 @@ use Rattle.std.proofs.Common.{◌≡◌, ℕ, zero, suc, ◌+◌, ◌*◌, ◌^�
 use Rattle.std.specs.Prelude.{List, pos, neg_ℤ, nat_le, nat_lt, not, unsigned_abs}
 use Rattle.std.proofs.Math.Nat.{mul-le-mul_right, mul-le-mul_left}
 use Rattle.std.proofs.lemmas.Bool.{and_from, le-leb, lt-ltb, or_parts}
-use Rattle.star_program.specs.declared.program.Parts.{Parts}
+use Rattle.star_program.specs.declared.{program.Parts.Parts, value.Value.TheVariants.Row, fault.Fault.TheVariants.BadRegister, fault.Fault.TheVariants.WrittenTwice}
 use Rattle.star_program.specs.Code.{Code, Stop, Then, Each, code_size}
-use Rattle.star_program.specs.World.{World, IsLoaded}
-use Rattle.star_program.specs.declared.value.Value.TheVariants.{Row}
-use Rattle.star_program.specs.Values.{Registers, no_registers, with_entry}
-use Rattle.star_program.specs.declared.fault.Fault.TheVariants.{BadRegister, WrittenTwice}
-use Rattle.star_program.specs.Faults.{unless, group_at}
-use Rattle.star_program.specs.Effects.{State, empty_state, act}
+use Rattle.star_program.specs.{World.World, World.IsLoaded, Values.Registers, Values.no_registers, Values.with_entry, Faults.unless, Faults.group_at, Effects.State, Effects.empty_state, Effects.act, ShowLines.shown_fault}
 use Rattle.star_program.specs.Run.{End, Ended, Trapped, Limited, EndsWith, turns, after, meaning, meaning_of, unless_unshown, run_while}
-use Rattle.star_program.specs.ShowLines.{shown_fault}
 use Rattle.star_program.proofs.Unless.{unless_none}
-use Rattle.star_safety.specs.Laws.{IsAccepted}
-use Rattle.star_safety.specs.Ranges.{KnownRow}
-use Rattle.star_safety.specs.Tallies.{Share, most_of}
+use Rattle.star_safety.specs.{Laws.IsAccepted, Ranges.KnownRow, Tallies.Share, Tallies.most_of, Refusals.op_reason, Refusals.scan_reason, Private.Forward.code_puts_to, Private.Forward.open_with, Private.Forward.none_open, Private.Forward.first_reason, Standing.instructions_of, Standing.reason_of, Standing.at_place, Quote.turns_met, Quote.quote, Fitting.Agrees, Moments.all_shares}
 use Rattle.star_safety.proofs.Tally.{no_tally, plus, times, Tallies, no_tallies, plus_all, times_all, tally_of, sum_fits, sum_range_is, most_is}
 use Rattle.star_safety.specs.Contexts.{Context, at_first, after_op, in_scan, after_scan, at_end}
 use Rattle.star_safety.specs.declared.reason.Reason.TheVariants.{Faulty}
-use Rattle.star_safety.specs.Refusals.{op_reason, scan_reason}
-use Rattle.star_safety.specs.Private.Forward.{code_puts_to, open_with, none_open, first_reason}
-use Rattle.star_safety.specs.Standing.{instructions_of, reason_of, at_place}
-use Rattle.star_safety.specs.Quote.{turns_met, quote}
 use Rattle.star_common.proofs.Firsts.{first_answer_none, or_none}
 use Rattle.star_safety.proofs.TallyOrder.{AtMost, at_most_refl, at_most_trans, at_most_plus, at_most_assoc, at_most_both, at_most_once}
 use Rattle.star_safety.proofs.Gains.{op_gain, op_counted, gain, gained, whole_gain}
-use Rattle.star_safety.proofs.Forward.{first_standing}
-use Rattle.star_safety.proofs.Tallied.{tallies_fit, all_tallies_fit}
-use Rattle.star_safety.specs.Fitting.{Agrees}
-use Rattle.star_safety.proofs.Instructions.{unmapped_none, agrees_entry, AreTallied, act_good}
+use Rattle.star_safety.proofs.{Forward.first_standing, Tallied.tallies_fit, Tallied.all_tallies_fit, Instructions.unmapped_none, Instructions.agrees_entry, Instructions.AreTallied, Instructions.act_good, Sizes.Small, NarrowRanges.AllNarrow, NarrowRanges.sum_small, NarrowCode.end_fits, NarrowCode.first_fits}
 use Rattle.star_safety.proofs.Turns.{Safe, all_tallied_more, safe_more, safe_follow, safe_scans, safe_each}
 use Rattle.star_safety.proofs.Sound.{quoted_each, in_time, at_place_none, IsReady, ready_then, ready_in, ready_after, op_room}
-use Rattle.star_safety.proofs.Sizes.{Small}
-use Rattle.star_safety.proofs.NarrowRanges.{AllNarrow, sum_small}
-use Rattle.star_safety.proofs.NarrowCode.{end_fits, first_fits}
-use Rattle.star_safety.specs.Moments.{all_shares}
 
 abbrev pub AllFit : Parts → Tallies → Type 0
 AllFit parts m = (g : ℕ) → tallies_fit (group_at parts g).aggregates 0 (m g) ≡ true

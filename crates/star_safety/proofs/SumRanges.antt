@@ -2,12 +2,8 @@
 use Rattle.std.proofs.Common.{ℕ, ◌^◌, ◌<◌, sym, subst}
 use Rattle.star_program.specs.declared.program.Parts.{Parts}
 use Rattle.star_program.specs.World.{World}
-use Rattle.star_safety.specs.Laws.{IsAccepted, SumsFit}
-use Rattle.star_safety.specs.Moments.{all_shares}
-use Rattle.star_safety.specs.Tallies.{most_of}
-use Rattle.star_safety.proofs.NarrowRanges.{sum_fits}
-use Rattle.star_safety.proofs.Runs.{all_narrow, few_puts}
-use Rattle.star_safety.proofs.Tally.{most_is}
+use Rattle.star_safety.specs.{Laws.IsAccepted, Laws.SumsFit, Moments.all_shares, Tallies.most_of}
+use Rattle.star_safety.proofs.{NarrowRanges.sum_fits, Runs.all_narrow, Runs.few_puts, Tally.most_is}
 
 few_shares : (w : World) (parts : Parts) → IsAccepted w parts → (g place : ℕ)
     → most_of (all_shares w parts g place) < 2 ^ 63

@@ -5,11 +5,9 @@ use Rattle.std.specs.Prelude.{ℤ, pos, negsuc, neg_ℤ, ◌+ℤ◌, ◌*ℤ◌,
 use Rattle.std.specs.Int.{int_min, int_max}
 use Rattle.std.proofs.lemmas.Int.{ints, clamps}
 use borrow.Author.Differences.{up, down}
-use Rattle.star_schema.specs.declared.group.Aggregate.{Aggregate}
-use Rattle.star_schema.specs.declared.group.Aggregate.TheVariants.{Sum, Count, Min, Max}
+use Rattle.star_schema.specs.declared.group.Aggregate.{Aggregate, TheVariants.Sum, TheVariants.Count, TheVariants.Min, TheVariants.Max}
 use Rattle.star_interval.specs.Range.{Range, IsOrdered, hull, corner_range, multiple_range}
-use Rattle.star_interval.proofs.Ranges.{range_same}
-use Rattle.star_interval.proofs.Sums.{sum_ends}
+use Rattle.star_interval.proofs.{Ranges.range_same, Sums.sum_ends}
 use Rattle.star_safety.specs.Tallies.{Share, Shares, widened, sum_range, most_of, hull_with, hull_of, aggregate_range}
 
 -- of the numbers that updates give an aggregate

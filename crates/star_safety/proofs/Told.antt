@@ -1,20 +1,14 @@
 -- The context of each instruction is told by the scans round it and the instructions before it.
 use Rattle.std.proofs.Common.{◌≡◌, ℕ, ◌+◌, ◌*◌, ◌≤◌, Bool, true, false, List, [], ◌∷◌, ◌++◌, length, Option, Some, None, refl, sym, ap, subst, ◌∙◌, arith, append_assoc, append-nil, length-append}
 use Rattle.std.specs.Prelude.{◌&&◌, ◌||◌, nat_eq, nat_lt, filter, if◌then◌else◌}
-use Rattle.std.specs.List.{last_or, list_any}
-use Rattle.std.specs.Option.{option_map}
+use Rattle.std.specs.{List.last_or, List.list_any, Option.option_map}
 use Rattle.std.proofs.lemmas.Bool.{eqb-true, eqb-false, eq-eqb, lt-ltb, ne_eqb}
 use Rattle.std.proofs.Math.Bool.{or-false}
-use Rattle.std.proofs.lemmas.List.Elements.{filter-append}
-use Rattle.std.proofs.lemmas.List.Folds.{list_any-append}
-use Rattle.std.proofs.lemmas.List.Sums.{fold-append}
+use Rattle.std.proofs.lemmas.List.{Elements.filter-append, Folds.list_any-append, Sums.fold-append}
 use Rattle.star_schema.specs.declared.table.TableId.{TableId}
-use Rattle.star_program.specs.declared.op.Op.{Op}
-use Rattle.star_program.specs.declared.program.Parts.{Parts}
+use Rattle.star_program.specs.declared.{op.Op.Op, program.Parts.Parts}
 use Rattle.star_program.specs.Code.{Code, Stop, Then, Each, code_size}
-use Rattle.star_program.specs.World.{World}
-use Rattle.star_program.specs.Values.{with_entry}
-use Rattle.star_program.specs.Faults.{target_of}
+use Rattle.star_program.specs.{World.World, Values.with_entry, Faults.target_of}
 use Rattle.star_safety.specs.Ranges.{AllKnown}
 use Rattle.star_safety.specs.Contexts.{Context, at_first, op_key_shares, op_shares, result_known, learned, is_target, after_op, in_scan, after_scan, at_end}
 use Rattle.star_safety.specs.Standing.{Enclosing, CodeItem, Act, Scan, BodyEnd, Standing, standing, has_scan, instructions_of}

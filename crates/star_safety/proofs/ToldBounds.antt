@@ -6,31 +6,18 @@ use Rattle.std.proofs.lemmas.Bool.{leb-true}
 use Rattle.std.proofs.Math.Nat.{mul-le-mul_right}
 use Rattle.star_schema.specs.declared.column.ColumnId.{ColumnId}
 use Rattle.star_interval.specs.Range.{Range, FitsI64, FitsI128, fits_i64, only}
-use Rattle.star_program.specs.declared.op.Op.{Op}
-use Rattle.star_program.specs.declared.op.Op.TheVariants.{Assign, Keep, Put}
+use Rattle.star_program.specs.declared.{op.Op.Op, op.Op.TheVariants.Assign, op.Op.TheVariants.Keep, op.Op.TheVariants.Put, program.Parts.Parts, fault.Fault.Fault}
 use Rattle.star_program.specs.declared.op.Operation.TheVariants.{Const, Edge, Load, Find, Binary, Within, Not, Read}
-use Rattle.star_program.specs.declared.program.Parts.{Parts}
 use Rattle.star_program.specs.Code.{Code, Stop, Then, Each, code_size}
-use Rattle.star_program.specs.declared.fault.Fault.{Fault}
-use Rattle.star_program.specs.World.{World, is_text}
-use Rattle.star_safety.specs.Bounds.{NamesI64, AllNameI64, AreI64}
+use Rattle.star_program.specs.{World.World, World.is_text, Limits.IsWithinLimits, ShowLines.shown_fault}
+use Rattle.star_safety.specs.{Bounds.NamesI64, Bounds.AllNameI64, Bounds.AreI64, Quote.turns_met, Quote.quote, Private.Forward.open_with, Private.Forward.none_open, Private.Forward.first_reason, Standing.instructions_of, Standing.at_place, Standing.reason_of, Tallies.most_of}
 use Rattle.star_common.specs.First.{first_answer}
-use Rattle.star_program.specs.Limits.{IsWithinLimits}
-use Rattle.star_program.specs.ShowLines.{shown_fault}
 use Rattle.star_safety.specs.Admissible.{Refusal, Refused, BadShow, cost_refusal, first_refusal}
 use Rattle.star_safety.specs.Contexts.{Context, at_first, put_share, result_known, after_op, in_scan, after_scan, at_end}
-use Rattle.star_safety.specs.Quote.{turns_met, quote}
 use Rattle.star_safety.specs.Ranges.{Known, KnownNumber, KnownText, KnownPlace, KnownRow, KnownFlag}
-use Rattle.star_safety.specs.declared.reason.Reached.{Reached}
-use Rattle.star_safety.specs.declared.reason.Reason.{Reason}
-use Rattle.star_safety.specs.declared.reason.Reason.TheVariants.{Faulty, NotAForeignKey, OpenGroup, Overflow}
+use Rattle.star_safety.specs.declared.reason.{Reached.Reached, Reason.Reason, Reason.TheVariants.Faulty, Reason.TheVariants.NotAForeignKey, Reason.TheVariants.OpenGroup, Reason.TheVariants.Overflow}
 use Rattle.star_safety.specs.Refusals.{refuses, overflow_of, kind_reason, source_reason, range_reason, op_reason, scan_reason}
-use Rattle.star_safety.specs.Private.Forward.{open_with, none_open, first_reason}
-use Rattle.star_safety.specs.Standing.{instructions_of, at_place, reason_of}
-use Rattle.star_safety.specs.Tallies.{most_of}
-use Rattle.star_safety.proofs.Sound.{at_place_none}
-use Rattle.star_safety.proofs.Forward.{first_standing}
-use Rattle.star_safety.proofs.Sizes.{small_fits}
+use Rattle.star_safety.proofs.{Sound.at_place_none, Forward.first_standing, Sizes.small_fits}
 use Rattle.star_safety.proofs.NarrowRanges.{Fits, Wide, IsWide, Counts, result_wide}
 use Rattle.star_safety.proofs.NarrowCode.{op_fits, in_fits, past_fits, end_fits, first_fits}
 

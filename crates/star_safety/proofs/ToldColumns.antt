@@ -1,41 +1,22 @@
 -- The bounds of each column that a refusal tells fit 64 bits.
 use Rattle.std.proofs.Common.{◌≡◌, ℕ, zero, suc, ◌+◌, Bool, true, false, List, [], ◌∷◌, ◌++◌, Option, Some, None, refl, sym, ap, subst, ◌∙◌}
 use Rattle.std.specs.Prelude.{◌||◌, ℤ, All, IfSome, cond, filter, map, nat_eq, not, slice_index_or, if◌then◌else◌}
-use Rattle.std.specs.List.{AllByRecursion}
-use Rattle.std.specs.Option.{option_map, option_or}
+use Rattle.std.specs.{List.AllByRecursion, Option.option_map, Option.option_or}
 use Rattle.std.proofs.lemmas.List.Elements.{All-cons, All-nil}
-use Rattle.star_schema.specs.declared.table.TableId.{TableId}
-use Rattle.star_schema.specs.declared.column.ColumnId.{ColumnId}
-use Rattle.star_schema.specs.declared.column.TheConstants.{COLUMNS}
-use Rattle.star_schema.specs.declared.group.Aggregate.{Aggregate}
-use Rattle.star_schema.specs.declared.group.Aggregate.TheVariants.{Count}
+use Rattle.star_schema.specs.declared.{table.TableId.TableId, column.ColumnId.ColumnId, column.TheConstants.COLUMNS, group.Aggregate.Aggregate, group.Aggregate.TheVariants.Count}
 use Rattle.star_schema.proofs.Same.{column_same}
 use Rattle.star_interval.specs.Range.{FitsI64, fits_i64}
-use Rattle.star_program.specs.declared.fault.Fault.{Fault}
-use Rattle.star_program.specs.declared.op.Op.{Op}
-use Rattle.star_program.specs.declared.op.Op.TheVariants.{Assign, Keep, Put}
+use Rattle.star_program.specs.declared.{fault.Fault.Fault, op.Op.Op, op.Op.TheVariants.Assign, op.Op.TheVariants.Keep, op.Op.TheVariants.Put, op.Operator.Operator, program.Parts.Parts}
 use Rattle.star_program.specs.declared.op.Operation.TheVariants.{Const, Edge, Load, Find, Binary, Within, Not, Read}
-use Rattle.star_program.specs.declared.op.Operator.{Operator}
 use Rattle.star_program.specs.declared.op.Operator.TheVariants.{Add, Sub, Mul, Less, LessOrEqual, Equal, And, Or}
-use Rattle.star_program.specs.declared.program.Parts.{Parts}
 use Rattle.star_program.specs.Code.{Code, Stop, Then, Each, code_size}
-use Rattle.star_program.specs.Faults.{group_at}
-use Rattle.star_program.specs.Puts.{aligned}
-use Rattle.star_program.specs.Values.{with_entry}
-use Rattle.star_program.specs.World.{World, is_text}
-use Rattle.star_safety.specs.Admissible.{Refused, first_refusal}
-use Rattle.star_safety.specs.Bounds.{AreI64}
+use Rattle.star_program.specs.{Faults.group_at, Puts.aligned, Values.with_entry, World.World, World.is_text}
+use Rattle.star_safety.specs.{Admissible.Refused, Admissible.first_refusal, Bounds.AreI64, Private.Forward.open_with, Private.Forward.none_open, Private.Forward.first_reason, Standing.at_place, Tallies.reach_of}
 use Rattle.star_safety.specs.Contexts.{Context, at_first, put_known, put_share, result_known, after_op, in_scan, after_scan, at_end}
-use Rattle.star_safety.specs.Private.Forward.{open_with, none_open, first_reason}
 use Rattle.star_safety.specs.Ranges.{Known, KnownNumber, KnownText, KnownPlace, KnownRow, KnownFlag, Reach, AllKnown, answer_known, joined_reach, loaded_known, no_reach, reach_at}
-use Rattle.star_safety.specs.declared.reason.Reached.{Reached}
-use Rattle.star_safety.specs.declared.reason.Reason.{Reason}
-use Rattle.star_safety.specs.declared.reason.Reason.TheVariants.{Faulty, NotAForeignKey, OpenGroup, Overflow}
+use Rattle.star_safety.specs.declared.reason.{Reached.Reached, Reason.Reason, Reason.TheVariants.Faulty, Reason.TheVariants.NotAForeignKey, Reason.TheVariants.OpenGroup, Reason.TheVariants.Overflow}
 use Rattle.star_safety.specs.Refusals.{with_bounds, refuses, reached, overflow_of, kind_reason, source_reason, range_reason, op_reason, scan_reason}
-use Rattle.star_safety.specs.Standing.{at_place}
-use Rattle.star_safety.specs.Tallies.{reach_of}
-use Rattle.star_safety.proofs.Forward.{first_standing}
-use Rattle.star_safety.proofs.ToldBounds.{refused_instruction}
+use Rattle.star_safety.proofs.{Forward.first_standing, ToldBounds.refused_instruction}
 
 -- ---- what numbers are computed from
 

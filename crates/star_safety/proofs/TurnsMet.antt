@@ -6,9 +6,7 @@ use Rattle.star_program.specs.declared.program.Parts.{Parts}
 use Rattle.star_program.specs.Code.{Code, Stop, Then, Each, code_size}
 use Rattle.star_program.specs.World.{World}
 use Rattle.star_safety.specs.Contexts.{Context, at_first, after_op, in_scan, after_scan, at_end}
-use Rattle.star_safety.specs.Quote.{turns_met, quote}
-use Rattle.star_safety.specs.Standing.{Enclosing, standing, instructions_of}
-use Rattle.star_safety.specs.Meetings.{IsMetWithinQuote}
+use Rattle.star_safety.specs.{Quote.turns_met, Quote.quote, Standing.Enclosing, Standing.standing, Standing.instructions_of, Meetings.IsMetWithinQuote}
 
 -- of a context
 record Meets (most : ℕ) (x : Context) : Type 0 where

@@ -1,15 +1,11 @@
 -- Short words for instructions, in which worked programs are written.
 use Rattle.std.specs.Prelude.{ℕ, ℤ, List, [], ◌∷◌}
-use Rattle.star_schema.specs.declared.table.TableId.{TableId}
-use Rattle.star_schema.specs.declared.column.ColumnId.{ColumnId}
-use Rattle.star_program.specs.declared.group.GroupDecl.{GroupDecl}
-use Rattle.star_program.specs.declared.op.Op.{Op}
+use Rattle.star_schema.specs.declared.{table.TableId.TableId, column.ColumnId.ColumnId}
+use Rattle.star_program.specs.declared.{group.GroupDecl.GroupDecl, op.Op.Op, op.Operator.Operator, program.Parts.Parts}
 use Rattle.star_program.specs.declared.op.Op.TheVariants as op
 use Rattle.star_program.specs.declared.op.Edge.TheVariants as edge
 use Rattle.star_program.specs.declared.op.Operation.TheVariants as operation
-use Rattle.star_program.specs.declared.op.Operator.{Operator}
 use Rattle.star_program.specs.declared.op.Operator.TheVariants as operator
-use Rattle.star_program.specs.declared.program.Parts.{Parts}
 use Rattle.star_program.specs.Code.{Code, Then}
 use Rattle.star_program.proofs.Sample.{program}
 

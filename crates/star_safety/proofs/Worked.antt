@@ -2,22 +2,14 @@
 -- instructions say of themselves, and the words of reasons, of a few ranges and programs.
 use Rattle.std.proofs.Common.{ℤ, List, [], ◌∷◌, pos, refl}
 use Rattle.star_common.proofs.Tables.{Gives, Gives2, Gives3}
-use Rattle.star_schema.specs.declared.column.ColumnId.TheVariants.{CRegion}
-use Rattle.star_schema.specs.declared.group.Aggregate.TheVariants.{Count}
-use Rattle.star_schema.specs.declared.group.Shape.{Shape}
-use Rattle.star_schema.specs.declared.group.Shape.TheVariants.{Plain, Cube, Rollup}
-use Rattle.star_schema.specs.declared.table.TableId.TheVariants.{Lineorder, Part, Supplier}
+use Rattle.star_schema.specs.declared.{column.ColumnId.TheVariants.CRegion, group.Aggregate.TheVariants.Count, group.Shape.Shape, group.Shape.TheVariants.Plain, group.Shape.TheVariants.Cube, group.Shape.TheVariants.Rollup, table.TableId.TheVariants.Lineorder, table.TableId.TheVariants.Part, table.TableId.TheVariants.Supplier}
 use Rattle.star_schema.specs.Schema.{column_of}
 use Rattle.star_interval.specs.Range.{Range}
-use Rattle.star_program.specs.declared.group.GroupDecl.{GroupDecl}
+use Rattle.star_program.specs.declared.{group.GroupDecl.GroupDecl, op.Op.Op, op.Op.TheVariants.Keep, program.Parts.Parts}
 use Rattle.star_program.specs.declared.group.GroupKey.TheVariants as key
-use Rattle.star_program.specs.declared.op.Op.{Op}
-use Rattle.star_program.specs.declared.op.Op.TheVariants.{Keep}
-use Rattle.star_program.specs.declared.program.Parts.{Parts}
 use Rattle.star_program.specs.Code.{Code, Each, Stop, Then}
 use Rattle.star_program.proofs.Sample.{sample, plain, sizes}
-use Rattle.star_safety.specs.MostRows.{most_report_rows, rows_of_grouping, rows_of_groupings, width}
-use Rattle.star_safety.specs.Quote.{turns_met}
+use Rattle.star_safety.specs.{MostRows.most_report_rows, MostRows.rows_of_grouping, MostRows.rows_of_groupings, MostRows.width, Quote.turns_met}
 use Rattle.star_safety.proofs.Words.{acts, const, over, put}
 
 abbrev from_to : ℤ → ℤ → Range

@@ -1,30 +1,18 @@
 -- What a moment asks of registers and of what comes next, and what it refuses, by computation.
-use Rattle.std.proofs.Common.{List, None, Some, [], ap, arith, false, pos, refl, suc, true, zero, ℕ, ℤ, ◌+◌, ◌-◌, ◌<◌, ◌^◌, ◌∷◌, ◌≡◌, ◌≤◌, w64, ◌↔◌}
+use Rattle.std.proofs.Common.{None, Some, [], ap, arith, false, pos, refl, true, ℕ, ℤ, ◌<◌, ◌^◌, ◌∷◌, ◌≡◌, ◌≤◌, w64, ◌↔◌}
 use Rattle.std.specs.Prelude.{FitsSigned, None, pos}
-use Rattle.star_schema.specs.declared.table.TableId.TheVariants.{Date, Lineorder}
-use Rattle.star_schema.specs.declared.column.ColumnId.TheVariants.{CNation, CRegion, LoQuantity}
-use Rattle.star_schema.specs.declared.group.Aggregate.TheVariants.{Count, Sum}
+use Rattle.star_schema.specs.declared.{table.TableId.TheVariants.Date, table.TableId.TheVariants.Lineorder, column.ColumnId.TheVariants.CNation, column.ColumnId.TheVariants.CRegion, column.ColumnId.TheVariants.LoQuantity, group.Aggregate.TheVariants.Count, group.Aggregate.TheVariants.Sum}
 use Rattle.star_schema.specs.Schema.{column_of}
-use Rattle.star_interval.specs.Range.{Holds, is_i64, only}
-use Rattle.star_program.specs.Code.{Code, Each, Stop, Then}
+use Rattle.star_interval.specs.Range.{Holds, only}
+use Rattle.star_program.specs.{Code.Code, Code.Each, Code.Stop, Code.Then, Values.Registers, Values.no_registers, Values.with_entry, Run.Ended, World.IsLoaded, World.World, Limits.IsWithinLimits}
 use Rattle.star_program.specs.declared.value.Value.TheVariants.{Flag, Number, Place, Row, Text}
-use Rattle.star_program.specs.Values.{Registers, no_registers, with_entry}
 use Rattle.star_program.specs.declared.program.Parts.{Parts}
 use Rattle.star_program.specs.Effects.{Effect, EndsTurn, State, act, empty_state}
-use Rattle.star_program.specs.Run.{Ended}
-use Rattle.star_program.specs.World.{IsLoaded, World}
 use Rattle.star_program.proofs.Sample.{plain, sample}
-use Rattle.star_safety.specs.Bounds.{AllNameI64, AreI64, NamesI64}
-use Rattle.star_safety.specs.Contexts.{after_scan, at_end, at_first, in_scan}
-use Rattle.star_safety.specs.Fitting.{FitsAt, FitsValue}
-use Rattle.star_safety.specs.Laws.{EndsWithin, IsAccepted, SumsFit, TotalLies}
+use Rattle.star_safety.specs.{Bounds.AllNameI64, Bounds.AreI64, Bounds.NamesI64, Contexts.after_scan, Contexts.at_end, Contexts.at_first, Contexts.in_scan, Fitting.FitsAt, Fitting.FitsValue, Laws.EndsWithin, Laws.IsAccepted, Laws.SumsFit, Laws.TotalLies, Tallies.no_shares, Admissible.IsAdmissible, Quote.quote}
 use Rattle.star_safety.specs.Moments.{IsMet, IsMoment, Moment, behind, behind_scan, first_moment, in_turn, itself, moment, picked, sum_of}
 use Rattle.star_safety.specs.Ranges.{AllKnown, Known, KnownFlag, KnownPlace, KnownRow, KnownText, known_number, loaded_known}
-use Rattle.star_safety.specs.Tallies.{no_shares}
-use Rattle.star_safety.proofs.Words.{acts, add, const, keep, over, put, read}
-use Rattle.star_program.specs.Limits.{IsWithinLimits}
-use Rattle.star_safety.specs.Admissible.{IsAdmissible}
-use Rattle.star_safety.specs.Quote.{quote}
+use Rattle.star_safety.proofs.Words.{acts, const, keep, over, put, read}
 
 -- ---- a register
 

@@ -3,11 +3,9 @@ use Rattle.std.specs.Prelude.{◌≡◌, ℕ, nat_le, Bool, true, false, All, Op
 use Rattle.std.specs.Option.{option_map, option_or}
 use Rattle.star_common.specs.First.{first_answer}
 use Rattle.star_program.specs.declared.program.Parts.{Parts}
-use Rattle.star_program.specs.World.{World}
-use Rattle.star_program.specs.ShowLines.{shown_fault}
-use Rattle.star_safety.specs.Quote.{quote}
+use Rattle.star_program.specs.{World.World, ShowLines.shown_fault}
+use Rattle.star_safety.specs.{Quote.quote, Standing.instructions_of, Standing.reason_of}
 use Rattle.star_safety.specs.declared.reason.Reason.{Reason}
-use Rattle.star_safety.specs.Standing.{instructions_of, reason_of}
 
 -- no instruction in its context has a reason to refuse it, and the report names what is there
 pub record IsAdmissible (w : World) (parts : Parts) : Type 0 where

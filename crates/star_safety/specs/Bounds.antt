@@ -3,12 +3,8 @@ use Rattle.std.specs.Prelude.{◌≡◌, FitsSigned, false}
 use Rattle.std.specs.Int.{w64}
 use Rattle.star_schema.specs.declared.column.ColumnId.{ColumnId}
 use Rattle.star_interval.specs.Range.{FitsI64}
-use Rattle.star_program.specs.declared.op.Op.{Op}
-use Rattle.star_program.specs.declared.op.Op.TheVariants.{Assign}
-use Rattle.star_program.specs.declared.op.Operation.TheVariants.{Const, Read}
-use Rattle.star_program.specs.declared.program.Parts.{Parts}
-use Rattle.star_program.specs.Code.{Code, Stop, Then, Each}
-use Rattle.star_program.specs.World.{World, is_text}
+use Rattle.star_program.specs.declared.{op.Op.Op, op.Op.TheVariants.Assign, op.Operation.TheVariants.Const, op.Operation.TheVariants.Read, program.Parts.Parts}
+use Rattle.star_program.specs.{Code.Code, Code.Stop, Code.Then, Code.Each, World.World, World.is_text}
 
 -- a constant and the default of a read are numbers of 64 bits
 abbrev pub NamesI64 : Op → Type 0

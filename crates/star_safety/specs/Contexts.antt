@@ -1,19 +1,10 @@
 -- What stands round an instruction and before it, and so what is known there before a run.
 use Rattle.std.specs.Prelude.{ℕ, ◌*◌, pos, Bool, true, false, ◌||◌, nat_eq, List, [], ◌∷◌, ◌++◌, map, slice_index_or, Option, Some, None, if◌then◌else◌}
-use Rattle.star_schema.specs.declared.table.TableId.{TableId}
-use Rattle.star_schema.specs.declared.group.Aggregate.{Aggregate}
+use Rattle.star_schema.specs.declared.{table.TableId.TableId, group.Aggregate.Aggregate}
 use Rattle.star_interval.specs.Range.{only}
-use Rattle.star_program.specs.declared.group.GroupDecl.{GroupDecl}
-use Rattle.star_program.specs.declared.op.Op.{Op}
-use Rattle.star_program.specs.declared.op.Op.TheVariants.{Assign, Put}
-use Rattle.star_program.specs.declared.op.Operation.{Operation}
+use Rattle.star_program.specs.declared.{group.GroupDecl.GroupDecl, op.Op.Op, op.Op.TheVariants.Assign, op.Op.TheVariants.Put, op.Operation.Operation, program.Parts.Parts}
 use Rattle.star_program.specs.declared.op.Operation.TheVariants.{Const, Edge, Load, Find, Binary, Read}
-use Rattle.star_program.specs.declared.program.Parts.{Parts}
-use Rattle.star_program.specs.Code.{Code, Stop, Then, Each}
-use Rattle.star_program.specs.World.{World, is_text}
-use Rattle.star_program.specs.Values.{with_entry}
-use Rattle.star_program.specs.Faults.{group_at, target_of}
-use Rattle.star_program.specs.Puts.{aggregate_at, aligned}
+use Rattle.star_program.specs.{Code.Code, Code.Stop, Code.Then, Code.Each, World.World, World.is_text, Values.with_entry, Faults.group_at, Faults.target_of, Puts.aggregate_at, Puts.aligned}
 use Rattle.star_safety.specs.Ranges.{Known, KnownPlace, KnownRow, KnownFlag, AllKnown, range_at, reach_at, known_number, loaded_known, answer_known}
 use Rattle.star_safety.specs.Tallies.{Share, Shares, no_shares, read_range}
 

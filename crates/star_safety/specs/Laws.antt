@@ -3,18 +3,9 @@ use Rattle.std.specs.Prelude.{◌≡◌, ℕ, ◌^◌, ◌≤◌, ◌<◌, ℤ, 
 use Rattle.star_schema.specs.declared.group.Aggregate.TheVariants.{Sum, Count}
 use Rattle.star_schema.specs.Groups.{members, aggregate, numbers_for}
 use Rattle.star_interval.specs.Range.{Range, Holds, FitsI128}
-use Rattle.star_program.specs.declared.key.KeyValue.{KeyValue}
-use Rattle.star_program.specs.declared.program.Parts.{Parts}
-use Rattle.star_program.specs.Limits.{IsWithinLimits}
-use Rattle.star_program.specs.World.{World, IsLoaded}
-use Rattle.star_program.specs.Keys.{key_value_cmp}
-use Rattle.star_program.specs.Faults.{group_at}
-use Rattle.star_program.specs.Effects.{State}
-use Rattle.star_program.specs.Run.{End, EndsWith}
-use Rattle.star_safety.specs.Tallies.{sum_range, most_of, aggregate_range}
-use Rattle.star_safety.specs.Quote.{quote}
-use Rattle.star_safety.specs.Admissible.{IsAdmissible}
-use Rattle.star_safety.specs.Moments.{all_shares}
+use Rattle.star_program.specs.declared.{key.KeyValue.KeyValue, program.Parts.Parts}
+use Rattle.star_program.specs.{Limits.IsWithinLimits, World.World, World.IsLoaded, Keys.key_value_cmp, Faults.group_at, Effects.State, Run.End, Run.EndsWith}
+use Rattle.star_safety.specs.{Tallies.sum_range, Tallies.most_of, Tallies.aggregate_range, Quote.quote, Admissible.IsAdmissible, Moments.all_shares}
 
 -- a program is admissible over a loaded catalogue, and no more visits are quoted than any run may
 -- make

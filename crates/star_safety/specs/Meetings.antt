@@ -2,8 +2,7 @@
 use Rattle.std.specs.Prelude.{◌≡◌, ◌≤◌, true, false}
 use Rattle.star_program.specs.declared.program.Parts.{Parts}
 use Rattle.star_program.specs.World.{World}
-use Rattle.star_safety.specs.Quote.{quote}
-use Rattle.star_safety.specs.Standing.{Standing}
+use Rattle.star_safety.specs.{Quote.quote, Standing.Standing}
 
 -- in a scan no more often than turns are quoted, and elsewhere once
 pub record IsMetWithinQuote (w : World) (parts : Parts) (i : Standing) : Type 0 where

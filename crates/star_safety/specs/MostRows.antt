@@ -1,19 +1,13 @@
 -- How many rows the report of a program can have at most, by what is known before a run (Gray et al.
 -- 1997, section 3: the groupings of CUBE and ROLLUP).
 use Rattle.std.specs.Prelude.{ℕ, suc, ◌*◌, ℤ, pos, negsuc, ◌-ℤ◌, nat_le, List, [], ◌∷◌, filter, Option, Some, None, if◌then◌else◌}
-use Rattle.std.specs.List.{list_all, sum_by}
-use Rattle.std.specs.Option.{is_none}
+use Rattle.std.specs.{List.list_all, List.sum_by, Option.is_none}
 use Rattle.star_schema.specs.declared.group.Shape.{Shape}
 use Rattle.star_schema.specs.Groups.{is_grouping}
 use Rattle.star_interval.specs.Range.{Range}
-use Rattle.star_program.specs.declared.group.GroupKey.{GroupKey}
-use Rattle.star_program.specs.declared.group.GroupKey.TheVariants.{Number, Text}
-use Rattle.star_program.specs.declared.program.Parts.{Parts}
-use Rattle.star_program.specs.Faults.{group_at}
-use Rattle.star_program.specs.Puts.{masks}
-use Rattle.star_program.specs.World.{World, is_text}
-use Rattle.star_safety.specs.Tallies.{Share, Shares, most_of, hull_of}
-use Rattle.star_safety.specs.Contexts.{at_first, at_end}
+use Rattle.star_program.specs.declared.{group.GroupKey.GroupKey, group.GroupKey.TheVariants.Number, group.GroupKey.TheVariants.Text, program.Parts.Parts}
+use Rattle.star_program.specs.{Faults.group_at, Puts.masks, World.World, World.is_text}
+use Rattle.star_safety.specs.{Tallies.Share, Tallies.Shares, Tallies.most_of, Tallies.hull_of, Contexts.at_first, Contexts.at_end}
 
 -- ---- the values of a key
 

@@ -1,15 +1,11 @@
 -- What is known of a register before a run: its kind, and of a number its range.
 use Rattle.std.specs.Prelude.{ℕ, ℤ, pos, ◌+ℤ◌, ◌-ℤ◌, ◌*ℤ◌, Bool, true, false, ◌||◌, Option, Some, None}
 use Rattle.std.specs.Option.{option_map}
-use Rattle.star_schema.specs.declared.table.TableId.{TableId}
-use Rattle.star_schema.specs.declared.column.ColumnId.{ColumnId}
+use Rattle.star_schema.specs.declared.{table.TableId.TableId, column.ColumnId.ColumnId}
 use Rattle.star_interval.specs.Range.{Range, only, corner_range}
-use Rattle.star_program.specs.declared.op.Operator.{Operator}
-use Rattle.star_program.specs.declared.op.Operator.TheVariants.{Add, Sub, Mul}
-use Rattle.star_program.specs.World.{World, is_column}
-use Rattle.star_program.specs.declared.value.Kind.{Kind}
+use Rattle.star_program.specs.declared.{op.Operator.Operator, op.Operator.TheVariants.Add, op.Operator.TheVariants.Sub, op.Operator.TheVariants.Mul, value.Kind.Kind}
+use Rattle.star_program.specs.{World.World, World.is_column, Faults.Kinds}
 use Rattle.star_program.specs.declared.value.Kind.TheVariants as kind
-use Rattle.star_program.specs.Faults.{Kinds}
 use Rattle.star_program.specs.declared.value.Kind.TheVariants as kind
 
 -- the columns that a number is computed from

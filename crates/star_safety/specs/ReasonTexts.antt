@@ -5,9 +5,7 @@ use Rattle.star_schema.specs.Schema.{column_name}
 use Rattle.star_program.specs.declared.fault.Fault.{Fault}
 use Rattle.star_program.specs.declared.fault.Fault.TheVariants.{BadRegister, WrittenTwice, Unset, WrongKind, BadColumn, BadGroup, Misplaced}
 use Rattle.star_program.specs.TrapTexts.{wrong_text}
-use Rattle.star_safety.specs.declared.reason.Reached.{Reached}
-use Rattle.star_safety.specs.declared.reason.Reason.{Reason}
-use Rattle.star_safety.specs.declared.reason.Reason.TheVariants.{Faulty, NotAForeignKey, OpenGroup, Overflow}
+use Rattle.star_safety.specs.declared.reason.{Reached.Reached, Reason.Reason, Reason.TheVariants.Faulty, Reason.TheVariants.NotAForeignKey, Reason.TheVariants.OpenGroup, Reason.TheVariants.Overflow}
 
 abbrev pub fault_number : Fault → ℕ
 fault_number BadRegister = 60

@@ -1,25 +1,14 @@
 -- What refuses an instruction in its context (interval analysis: Moore, Interval Analysis, 1966).
 use Rattle.std.specs.Prelude.{ℕ, Bool, true, false, not, nat_lt, List, filter, map, Option, Some, None}
 use Rattle.std.specs.Option.{option_map, option_or}
-use Rattle.star_schema.specs.declared.table.TableId.{TableId}
-use Rattle.star_schema.specs.declared.column.ColumnId.{ColumnId}
-use Rattle.star_schema.specs.declared.column.TheConstants.{COLUMNS}
+use Rattle.star_schema.specs.declared.{table.TableId.TableId, column.ColumnId.ColumnId, column.TheConstants.COLUMNS}
 use Rattle.star_schema.specs.Schema.{is_table, references}
 use Rattle.star_interval.specs.Range.{Range, fits_i64, only}
-use Rattle.star_program.specs.declared.op.Op.{Op}
-use Rattle.star_program.specs.declared.op.Op.TheVariants.{Assign}
-use Rattle.star_program.specs.declared.op.Operation.TheVariants.{Find, Read}
-use Rattle.star_program.specs.declared.program.Parts.{Parts}
-use Rattle.star_program.specs.World.{World}
-use Rattle.star_program.specs.declared.fault.Fault.{Fault}
-use Rattle.star_program.specs.declared.fault.Fault.TheVariants.{BadRegister, WrittenTwice}
-use Rattle.star_program.specs.Faults.{unless, target_of, fault_of}
+use Rattle.star_program.specs.declared.{op.Op.Op, op.Op.TheVariants.Assign, op.Operation.TheVariants.Find, op.Operation.TheVariants.Read, program.Parts.Parts, fault.Fault.Fault, fault.Fault.TheVariants.BadRegister, fault.Fault.TheVariants.WrittenTwice}
+use Rattle.star_program.specs.{World.World, Faults.unless, Faults.target_of, Faults.fault_of}
 use Rattle.star_safety.specs.Ranges.{Reach, Known, KnownNumber, origin_at, kinds_known}
-use Rattle.star_safety.specs.Tallies.{reach_of, read_range}
-use Rattle.star_safety.specs.Contexts.{Context, aggregate_in_group, result_known}
-use Rattle.star_safety.specs.declared.reason.Reached.{Reached}
-use Rattle.star_safety.specs.declared.reason.Reason.{Reason}
-use Rattle.star_safety.specs.declared.reason.Reason.TheVariants.{Faulty, NotAForeignKey, OpenGroup, Overflow}
+use Rattle.star_safety.specs.{Tallies.reach_of, Tallies.read_range, Contexts.Context, Contexts.aggregate_in_group, Contexts.result_known}
+use Rattle.star_safety.specs.declared.reason.{Reached.Reached, Reason.Reason, Reason.TheVariants.Faulty, Reason.TheVariants.NotAForeignKey, Reason.TheVariants.OpenGroup, Reason.TheVariants.Overflow}
 
 abbrev pub refuses : Bool → Reason → Option Reason
 refuses true reason = Some reason

@@ -1,7 +1,6 @@
 -- What the updates of a group can add up to, by the puts that make them.
 use Rattle.std.specs.Prelude.{ℕ, ◌+◌, pos, ◌+ℤ◌, List, [], ◌∷◌, Option, Some, None}
-use Rattle.star_schema.specs.declared.group.Aggregate.{Aggregate}
-use Rattle.star_schema.specs.declared.group.Aggregate.TheVariants.{Sum, Count, Min, Max}
+use Rattle.star_schema.specs.declared.group.Aggregate.{Aggregate, TheVariants.Sum, TheVariants.Count, TheVariants.Min, TheVariants.Max}
 use Rattle.star_interval.specs.Range.{Range, only, hull, corner_range, multiple_range}
 use Rattle.star_safety.specs.Ranges.{Reach, no_reach, joined_reach}
 

@@ -1,12 +1,9 @@
 -- What tells the context of an instruction: the scans round it, and the instructions before it.
 use Rattle.std.specs.Prelude.{◌≡◌, ℕ, ◌+◌, ◌*◌, Bool, true, false, ◌&&◌, nat_lt, List, [], ◌∷◌, ◌++◌, length, filter, fold, Option, Some, None}
-use Rattle.std.specs.List.{last_or, list_all, list_any}
-use Rattle.std.specs.Option.{option_map}
+use Rattle.std.specs.{List.last_or, List.list_all, List.list_any, Option.option_map}
 use Rattle.star_program.specs.declared.program.Parts.{Parts}
-use Rattle.star_program.specs.World.{World}
-use Rattle.star_program.specs.Faults.{target_of}
-use Rattle.star_safety.specs.Ranges.{Known, KnownRow, KnownFlag}
-use Rattle.star_safety.specs.Tallies.{Shares, no_shares}
+use Rattle.star_program.specs.{World.World, Faults.target_of}
+use Rattle.star_safety.specs.{Ranges.Known, Ranges.KnownRow, Ranges.KnownFlag, Tallies.Shares, Tallies.no_shares}
 use Rattle.star_safety.specs.Contexts.{Context, op_shares, op_key_shares, result_known, is_target}
 use Rattle.star_safety.specs.Standing.{CodeItem, Scan, Act, BodyEnd, Enclosing, Standing, instructions_of, has_scan}
 

@@ -6,8 +6,7 @@ use Rattle.star_program.specs.Code.{Code, Stop, Then, Each, code_size}
 use Rattle.star_program.specs.World.{World}
 use Rattle.star_safety.specs.Contexts.{Context, after_op, in_scan, after_scan, at_end}
 use Rattle.star_safety.specs.declared.reason.Reason.{Reason}
-use Rattle.star_safety.specs.Refusals.{op_reason, scan_reason}
-use Rattle.star_safety.specs.Standing.{op_puts_to, at_place}
+use Rattle.star_safety.specs.{Refusals.op_reason, Refusals.scan_reason, Standing.op_puts_to, Standing.at_place}
 
 -- the code puts to a group
 abbrev pub code_puts_to : ℕ → Code → Bool

@@ -1,6 +1,5 @@
 use Rattle.std.proofs.Common.{◌≡◌, true, sym, ap, ◌∙◌}
-use Rattle.star_plan.specs.Views.{literal_value_view}
-use Rattle.star_plan.specs.Spelled.{value_is_spelled}
+use Rattle.star_plan.specs.{Views.literal_value_view, Spelled.value_is_spelled}
 use Rattle.star_program.specs.declared.op.Operation.TheVariants.{Const}
 use Rattle.star_query.specs.Spelled.{has_few_digits}
 use Rattle.star_compile_laws.specs.Compiled.{end_behind}

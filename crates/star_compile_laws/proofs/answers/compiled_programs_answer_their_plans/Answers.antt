@@ -1,5 +1,4 @@
-use Rattle.star_compile_laws.proofs.Answered.{answers_the_plan}
-use Rattle.star_compile_laws.proofs.SeenRows.{sees}
+use Rattle.star_compile_laws.proofs.{Answered.answers_the_plan, SeenRows.sees}
 use Rattle.star_compile_laws.proofs.answers.compiled_programs_answer_their_plans.Goals as goal
 
 pub returns : goal.returns

@@ -2,10 +2,7 @@
 use Rattle.std.proofs.Common.{refl, arith}
 use Rattle.std.specs.Prelude.{nat_lt, true}
 use Rattle.std.proofs.lemmas.Bool.{lt-ltb}
-use Rattle.star_safety.proofs.Runs.{ends}
-use Rattle.star_safety.proofs.SumRanges.{sums_fit}
-use Rattle.star_safety.proofs.Always.{accepted_throughout, totals_lie}
-use Rattle.star_safety.proofs.EachMoment.{throughout_holds}
+use Rattle.star_safety.proofs.{Runs.ends, SumRanges.sums_fit, Always.accepted_throughout, Always.totals_lie, EachMoment.throughout_holds}
 use Rattle.star_safety.proofs.law.admissible_programs_never_trap.Goals as goal
 
 pub returns-clause-ends : goal.returns-clause-ends

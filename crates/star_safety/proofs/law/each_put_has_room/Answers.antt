@@ -2,16 +2,11 @@
 use Rattle.std.proofs.Common.{◌≡◌, ◌+◌, ℕ, Bool, true, List, ◌∷◌, Option, Some, None, refl, subst}
 use Rattle.std.specs.Prelude.{nat_eq}
 use Rattle.std.proofs.lemmas.Bool.{eq-eqb}
-use Rattle.star_program.specs.declared.fault.TrapKind.{TrapKind}
-use Rattle.star_program.specs.declared.op.Op.TheVariants.{Put}
-use Rattle.star_program.specs.declared.program.Parts.{Parts}
+use Rattle.star_program.specs.declared.{fault.TrapKind.TrapKind, op.Op.TheVariants.Put, program.Parts.Parts}
 use Rattle.star_program.specs.Effects.{GoesOn, State, Updates, act, marked, trap_of, unless_trap, update_of}
-use Rattle.star_program.specs.Faults.{group_at}
-use Rattle.star_program.specs.Values.{Registers}
-use Rattle.star_program.specs.World.{World}
+use Rattle.star_program.specs.{Faults.group_at, Values.Registers, World.World}
 use Rattle.star_group.specs.Stores.{HasRoom, group_declared}
-use Rattle.star_safety.specs.Contexts.{after_op}
-use Rattle.star_safety.specs.Moments.{behind, moment}
+use Rattle.star_safety.specs.{Contexts.after_op, Moments.behind, Moments.moment}
 use Rattle.star_safety.proofs.law.each_put_has_room.Goals as goal
 
 -- what goes on did not trap

@@ -3,8 +3,7 @@ use Rattle.std.specs.Option.{option_map}
 use Rattle.std.proofs.Common.{◌≡◌, Option, Some, None, refl}
 use Rattle.star_schema.specs.declared.column.ColumnId.{ColumnId}
 use Rattle.star_interval.specs.Range.{Range}
-use Rattle.star_program.specs.Faults.{is_number_kind}
-use Rattle.star_program.specs.Reads.{IsTaken}
+use Rattle.star_program.specs.{Faults.is_number_kind, Reads.IsTaken}
 use Rattle.star_safety.specs.Ranges.{Known, KnownFlag, KnownNumber, KnownPlace, KnownRow, KnownText, Reach, known_kind}
 use Rattle.star_safety.proofs.law.numbers_have_ranges.Goals as goal
 

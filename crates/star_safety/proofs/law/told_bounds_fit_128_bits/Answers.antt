@@ -1,7 +1,5 @@
 -- Before the instruction that is refused all that is known fits 64 bits.
-use Rattle.star_safety.proofs.Quoted.{told_visits_fit}
-use Rattle.star_safety.proofs.ToldBounds.{told_bounds_fit}
-use Rattle.star_safety.proofs.ToldColumns.{told_columns_fit}
+use Rattle.star_safety.proofs.{Quoted.told_visits_fit, ToldBounds.told_bounds_fit, ToldColumns.told_columns_fit}
 use Rattle.star_safety.proofs.law.told_bounds_fit_128_bits.Goals as goal
 
 pub returns-clause-range : goal.returns-clause-range

@@ -1,6 +1,5 @@
 use Rattle.std.proofs.Common.{arith, drop, refl, drop_of_length-le}
-use Rattle.std.proofs.lemmas.Grind.{common_steps}
-use Rattle.std.proofs.lemmas.List.{drop_more}
+use Rattle.std.proofs.lemmas.{Grind.common_steps, List.drop_more}
 use Rattle.star_schema.specs.declared.column.ColumnId.TheVariants.{DDatekey}
 use Rattle.star_compile_laws.specs.Compiled.{keys_code}
 use Rattle.star_compile.specs.Private.Emitted.{keys_after}
