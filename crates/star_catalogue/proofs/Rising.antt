@@ -27,15 +27,15 @@ below_or_at : (k place : ℕ) → k + 1 < place + 1 → (k + 1 < place) ⊎ (k +
 below_or_at k place h = search arith
 
 pub rise_more : (place : ℕ) (pairs : List (ℤ × ℤ)) (before here : ℤ × ℤ) → RiseBefore place pairs
-    → 1 ≤ place → slice_get pairs (place - 1) ≡ Some before → slice_get pairs place ≡ Some here
+    → (1 ≤ place → slice_get pairs (place - 1) ≡ Some before) → slice_get pairs place ≡ Some here
     → pair_cmp before here ≡ Less → RiseBefore (place + 1) pairs
-rise_more place pairs before here h some at_before at_here less =
+rise_more place pairs before here h at_before at_here less =
     record {
       rise = λ k a b below at_a at_b. elim (below_or_at k place below) [
         | inl earlier ↦ h.rise k a b earlier at_a at_b
         | inr last ↦
             let same_before : place - 1 ≡ k = omega arith in
-            let is_a : before ≡ a = cc (rw same_before at at_before) in
+            let is_a : before ≡ a = cc (rw same_before at (at_before (omega arith))) in
             let is_b : here ≡ b = cc (rw (← last) at at_here) in
             rw (← is_a, ← is_b) less
       ];

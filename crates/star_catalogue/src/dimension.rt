@@ -1,12 +1,12 @@
 // The keys of a dimension, each with its row.
 
-ghost use Rattle.std.specs.Prelude.{◌≡◌, ◌<◌, ◌^◌, ◌-ℤ◌, ◌≤ℤ◌, All, IfSome, MatchResult, Some, length};
+ghost use Rattle.std.specs.Prelude.{◌≡◌, ◌<◌, ◌^◌, ◌-ℤ◌, ◌≤ℤ◌, ℤ, All, IfSome, MatchResult, Some, length};
 ghost use Rattle.std.specs.List.{IsDistinct};
 ghost use Rattle.std.specs.Int.RustNames.{unsigned_abs};
 ghost use Rattle.std.specs.Option.{option_map};
 ghost use Rattle.std.specs.Ordering.{int_eq};
 ghost use Rattle.star_common.specs.Memory.{UnlessMemory};
-ghost use Rattle.star_catalogue.specs.Private.Indexed.{row_of_key};
+ghost use Rattle.star_catalogue.specs.Private.Indexed.{lent_row, row_of_key};
 ghost use Rattle.star_catalogue.specs.Private.Places.{ArePlaces, dense_at, row_of_slot};
 ghost use Rattle.star_catalogue.specs.Load.{first_repeat};
 
@@ -151,15 +151,37 @@ impl DimensionKeys {
         }
     }
 
+    /// The rows by their keys, lent.
+    pub(crate) fn lend(&self) -> LentKeys<'_>
+        ensures { (key : ℤ) → lent_row result key ≡ row_of_key self.now key }
+    {
+        match self {
+            DimensionKeys::Near(near) => LentKeys::Dense(near.least, near.rows.as_slice()),
+            DimensionKeys::Far(far) => LentKeys::Hashed(far),
+        }
+    }
+}
+
+/// The rows of a table by their keys, lent. A loop over foreign keys has them by value, so that it
+/// looks once at what they are.
+#[derive(Clone, Copy)]
+pub(crate) enum LentKeys<'a> {
+    Dense(i64, &'a [u32]),
+    Hashed(&'a FarKeys),
+    Nowhere,
+}
+
+impl<'a> LentKeys<'a> {
     /// Finds the row with a key, if there is one. The short way is inlined into the loops over
     /// foreign keys, and the index's is not.
     #[inline(always)]
-    pub(crate) fn find(&self, key: i64) -> Option<u32>
-        ensures { result ≡ row_of_key self.now key }
+    pub(crate) fn find(self, key: i64) -> Option<u32>
+        ensures { result ≡ lent_row self.entry key }
     {
         match self {
-            DimensionKeys::Near(near) => find_from(near.least, near.rows.as_slice(), key),
-            DimensionKeys::Far(far) => far.find(key),
+            LentKeys::Dense(least, rows) => find_from(least, rows, key),
+            LentKeys::Hashed(far) => far.find(key),
+            LentKeys::Nowhere => None,
         }
     }
 }

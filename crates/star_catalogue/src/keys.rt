@@ -1,17 +1,18 @@
 // The keys of tables, which no two rows share.
 
-ghost use Rattle.std.specs.Prelude.{◌≡◌, ◌≢◌, ◌↔◌, ◌<◌, ◌^◌, AllPairs, IfOk, IsTrue, MatchResult, Some, length, slice_get};
+ghost use Rattle.std.specs.Prelude.{◌≡◌, ◌≢◌, ◌↔◌, ◌<◌, ◌^◌, ℤ, AllPairs, IfOk, IsTrue, MatchResult, Some, length, slice_get};
 ghost use Rattle.std.specs.List.{IsDistinct, zip};
 ghost use Rattle.std.specs.BTreeMap.{get};
 ghost use Rattle.std.specs.Option.{option_map};
 ghost use Rattle.std.specs.declared.cmp.Ordering.TheVariants.{Less};
 ghost use Rattle.star_common.specs.Memory.{UnlessMemory};
 ghost use Rattle.star_schema.specs.Loadable.{HasDistinctKeys, keys_of};
+ghost use Rattle.star_catalogue.specs.Private.Indexed.{lent_row};
 ghost use Rattle.star_catalogue.specs.Private.Keys.{AreKept, pair_cmp, row_in, same_pair};
 ghost use Rattle.star_catalogue.specs.Private.Places.{ArePlaces};
 ghost use Rattle.star_catalogue.specs.Load.{first_repeat, repeated_key_fault};
 
-use crate::dimension::DimensionKeys;
+use crate::dimension::{DimensionKeys, LentKeys};
 use crate::fault::LoadFault;
 use star_flat::{FlatNumbers, release};
 use star_reader::RawTable;
@@ -81,14 +82,13 @@ impl KeyIndex {
         }
     }
 
-    /// The row that a number leads to, if there is one.
-    #[inline(always)]
-    pub(crate) fn find(&self, key: i64) -> Option<u32>
-        ensures { result ≡ row_in self.now key }
+    /// The rows by their keys, lent.
+    pub(crate) fn lend(&self) -> LentKeys<'_>
+        ensures { (key : ℤ) → lent_row result key ≡ row_in self.now key }
     {
         match self {
-            KeyIndex::Dimension(keys) => keys.find(key),
-            KeyIndex::Pairs => None,
+            KeyIndex::Dimension(keys) => keys.lend(),
+            KeyIndex::Pairs => LentKeys::Nowhere,
         }
     }
 }
@@ -114,12 +114,13 @@ fn is_rising(firsts: &FlatNumbers, seconds: &FlatNumbers) -> bool
     requires { length firsts.now ≡ length seconds.now }
     ensures { IsTrue result → AllPairs (λ a b. a ≢ b) (zip firsts.now seconds.now) }
 {
-    for place in 1..firsts.len() {
-        let before = pair_at(firsts, seconds, place - 1);
+    let mut before = (i64::MIN, i64::MIN);
+    for place in 0..firsts.len() {
         let here = pair_at(firsts, seconds, place);
         if !rises(before, here) {
             return false;
         }
+        before = here;
     }
     true
 }

@@ -100,8 +100,9 @@ fn find_all<W: RowWord>(
 {
     let mut rows = Vec::with_capacity(alloc, numbers.len() as usize)?;
     let lent = numbers.view();
+    let keys = table.lend_keys();
     for row in 0..numbers.len() {
-        match table.find(lent.at(row)) {
+        match keys.find(lent.at(row)) {
             Some(found) => rows.push_reserved(W::of(found)),
             None => return Ok(None),
         }

@@ -1,6 +1,6 @@
 // A table in memory.
 
-ghost use Rattle.std.specs.Prelude.{◌≡◌, ◌↔◌, ◌<◌, ◌∷◌, [], ℕ, List, Some, MatchResult, length, slice_get};
+ghost use Rattle.std.specs.Prelude.{◌≡◌, ◌↔◌, ◌<◌, ◌∷◌, [], ℕ, ℤ, List, Some, MatchResult, length, slice_get};
 ghost use Rattle.std.specs.Option.{option_map};
 ghost use Rattle.star_common.specs.Memory.{UnlessMemory};
 ghost use Rattle.star_schema.specs.Bounds.{numbers_of};
@@ -10,9 +10,11 @@ ghost use Rattle.star_schema.specs.Tables.{IsTable, rows_of};
 ghost use Rattle.star_schema.specs.Texts.{texts_of};
 ghost use Rattle.star_reader.specs.Faults.{text_fault};
 ghost use Rattle.star_reader.specs.Partway.{HasReadText};
+ghost use Rattle.star_catalogue.specs.Private.Indexed.{lent_row};
 ghost use Rattle.star_catalogue.specs.Load.{fault_of_read, repeated_key_fault, table_fault};
 
 use crate::columns::{Column, build_columns};
+use crate::dimension::LentKeys;
 use crate::fault::LoadFault;
 use crate::keys::KeyIndex;
 use star_column::{PackedColumn, TextColumn};
@@ -129,12 +131,19 @@ impl LoadedTable {
         }
     }
 
+    /// The rows by their keys of one number, lent.
+    pub(crate) fn lend_keys(&self) -> LentKeys<'_>
+        ensures { (key : ℤ) (row : ℕ) → (lent_row result key ≡ Some row)
+            ↔ (slice_get (keys_of self.now.table self.now.rows) row ≡ Some (key ∷ [])) }
+    {
+        self.keys.lend()
+    }
+
     /// The row with a key of one number, if there is one.
-    #[inline(always)]
     pub(crate) fn find(&self, key: i64) -> Option<u32>
         ensures { (row : ℕ) → (result ≡ Some row)
             ↔ (slice_get (keys_of self.now.table self.now.rows) row ≡ Some (key ∷ [])) }
     {
-        self.keys.find(key)
+        self.lend_keys().find(key)
     }
 }

@@ -1,10 +1,11 @@
 -- Numbers as how far they lie above the least.
-use Rattle.std.proofs.Common.{◌≡◌, ℕ, ◌^◌, ◌<◌, ◌≤◌, ℤ, pos, ◌+ℤ◌, ◌-ℤ◌, List, Some, length, ap, ◌∙◌, arith}
+use Rattle.std.proofs.Common.{◌≡◌, ℕ, ◌+◌, ◌^◌, ◌<◌, ◌≤◌, ◌≤ℤ◌, ℤ, pos, ◌+ℤ◌, ◌-ℤ◌, List, [], ◌∷◌, ◌++◌, Some, drop, get_or, length, map, set, take, ap, ◌∙◌, sym, arith}
 use Rattle.std.specs.Int.RustNames.{unsigned_abs}
 use Rattle.std.specs.List.{All, slice_get}
 use Rattle.std.specs.Option.{option_map}
 use Rattle.std.proofs.lemmas.Bool.Decides.{nat_tests}
-use Rattle.std.proofs.lemmas.List.{length-map}
+use Rattle.std.proofs.lemmas.Int.{ints}
+use Rattle.std.proofs.lemmas.List.{drop_more, length-map, map-append, take_more, take_more_set}
 use Rattle.std.proofs.lemmas.Option.{slice_get-map}
 use Rattle.star_interval.specs.declared.Interval.{Interval}
 use Rattle.star_interval.specs.Interval.{range_of}
@@ -62,3 +63,28 @@ are_packed bounds words ns few are is width =
           (width
           ∙ (λ i. least_width (unsigned_abs (are.high i -ℤ are.low i))));
     }
+
+-- where the elements from a place on are the same, so is the one there
+pub later_one : {S : Type 0} (words old : List S) (i : ℕ) (d : S) → i < length old
+    → length words ≡ length old → drop i words ≡ drop i old
+    → (get_or words i d ≡ get_or old i d) × (drop (i + 1) words ≡ drop (i + 1) old)
+later_one {S} words old i d within long later =
+    let both : get_or words i d ∷ drop (i + 1) words ≡ get_or old i d ∷ drop (i + 1) old =
+    sym (drop_more words i d (omega (arith, within, long))) ∙ later ∙ drop_more old i d within in
+    (ap (λ (xs : List S). get_or xs 0 d) both, ap (drop 1) both)
+
+-- one more number became its difference
+pub subtracted : {S : Type 0} (number : S → ℤ) (distance : S → ℕ) (low : ℤ) (words old : List S)
+    (i : ℕ) (d w : S) → i < length old → length words ≡ length old
+    → numbers_above low (map distance (take i words)) ≡ map number (take i old)
+    → low ≤ℤ number (get_or old i d) → distance w ≡ unsigned_abs (number (get_or old i d) -ℤ low)
+    → numbers_above low (map distance (take (i + 1) (set words i w)))
+    ≡ map number (take (i + 1) old)
+subtracted {S} number distance low words old i d w within long so_far above is =
+    let one : low +ℤ pos (distance w) ≡ number (get_or old i d) = rw is (omega (arith, ints)) in
+    ap (λ (xs : List S). numbers_above low (map distance xs)) (take_more_set words i w (omega (arith, within, long)))
+    ∙ ap (numbers_above low) (map-append distance (take i words) (w ∷ []))
+    ∙ map-append (λ n. low +ℤ pos n) (map distance (take i words)) (distance w ∷ [])
+    ∙ (λ j. so_far j ++ one j ∷ [])
+    ∙ sym (map-append number (take i old) (get_or old i d ∷ []))
+    ∙ sym (ap (map number) (take_more old i d within))

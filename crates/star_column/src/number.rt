@@ -72,6 +72,7 @@ impl ColumnData for NumberColumn {
 pub(crate) fn bounds_of<S: SignedWord>(numbers: &[S]) -> Interval
     ensures { AreBounds result (map S.number numbers.now) }
 {
+    S::order_law();
     let (Some(low), Some(high)) = (least_of(numbers), greatest_of(numbers)) else {
         return Interval::point(0);
     };

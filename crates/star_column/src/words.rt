@@ -1,6 +1,6 @@
 // Unsigned numbers in words of 8, 16, 32 or 64 bits.
 
-ghost use Rattle.std.specs.Prelude.{◌≡◌, ◌+◌, ◌-◌, ◌<◌, ◌^◌, ℕ, ◌-ℤ◌, ◌≤ℤ◌, All, IfOk, Some, length, map, slice_get};
+ghost use Rattle.std.specs.Prelude.{◌≡◌, ◌+◌, ◌-◌, ◌<◌, ◌^◌, ℕ, ◌-ℤ◌, ◌≤ℤ◌, All, IfOk, Some, length, map, slice_get, true};
 ghost use Rattle.std.specs.Int.RustNames.{unsigned_abs};
 ghost use Rattle.star_interval.specs.Range.{Holds};
 ghost use Rattle.star_interval.specs.Interval.{range_of};
@@ -8,7 +8,7 @@ ghost use Rattle.star_column.specs.Width.{least_width};
 ghost use Rattle.star_column.specs.Private.Words.{numbers_above, numbers_in, word_bits};
 
 use crate::view::LentWords;
-use star_flat::SignedWord;
+use star_flat::{SignedWord, release};
 use star_interval::Interval;
 use std::alloc::{AllocError, Global};
 
@@ -126,6 +126,90 @@ impl Word for u64 {
     }
 }
 
+/// A word that held a number, and can hold how far it lies above the least in its place.
+pub(crate) trait OffsetWord: SignedWord {
+    ghost distance: { Self → ℕ };
+
+    ghost width: { ℕ };
+
+    /// How far a number lies above another.
+    fn above(self, least: Self) -> Self
+        requires { Self.number least ≤ℤ Self.number self }
+        ensures { distance result ≡ unsigned_abs (Self.number self -ℤ Self.number least) };
+
+    /// Whether a difference needs words of this width.
+    fn is_least_for(span: u64) -> bool
+        ensures { result ≡ true → width ≡ least_width span };
+
+    /// The differences that these words are.
+    fn into_words(words: Vec<Self>) -> Words
+        ensures numbers { numbers_in result ≡ map distance words.items }
+        ensures width { word_bits result ≡ width };
+}
+
+impl OffsetWord for u8 {
+    ghost distance = { λ word. word };
+
+    ghost width = { 8 };
+
+    fn above(self, least: u8) -> u8 {
+        self - least
+    }
+
+    fn is_least_for(span: u64) -> bool {
+        span <= u64::from(u8::MAX)
+    }
+
+    fn into_words(words: Vec<u8>) -> Words
+        ensures numbers { numbers_in result ≡ words.items }
+        ensures width { word_bits result ≡ 8 }
+    {
+        Words::Bits8(words)
+    }
+}
+
+impl OffsetWord for u16 {
+    ghost distance = { λ word. word };
+
+    ghost width = { 16 };
+
+    fn above(self, least: u16) -> u16 {
+        self - least
+    }
+
+    fn is_least_for(span: u64) -> bool {
+        span > u64::from(u8::MAX) && span <= u64::from(u16::MAX)
+    }
+
+    fn into_words(words: Vec<u16>) -> Words
+        ensures numbers { numbers_in result ≡ words.items }
+        ensures width { word_bits result ≡ 16 }
+    {
+        Words::Bits16(words)
+    }
+}
+
+impl OffsetWord for u32 {
+    ghost distance = { λ word. word };
+
+    ghost width = { 32 };
+
+    fn above(self, least: u32) -> u32 {
+        self - least
+    }
+
+    fn is_least_for(span: u64) -> bool {
+        span > u64::from(u16::MAX) && span <= u64::from(u32::MAX)
+    }
+
+    fn into_words(words: Vec<u32>) -> Words
+        ensures numbers { numbers_in result ≡ words.items }
+        ensures width { word_bits result ≡ 32 }
+    {
+        Words::Bits32(words)
+    }
+}
+
 /// Numbers in words of one width.
 #[derive(Drop)]
 pub enum Words {
@@ -192,6 +276,42 @@ impl Words {
         } else {
             Ok(Words::Bits64(differences(alloc, numbers, low)?))
         }
+    }
+
+    /// The same of numbers that are taken: they stay where they are if their words are of the width
+    /// that the differences need.
+    pub(crate) fn of_taken<S: OffsetWord>(
+        alloc: Global,
+        numbers: Vec<S>,
+        bounds: Interval,
+    ) -> Result<Words, AllocError>
+        requires { All (λ number. Holds (range_of bounds) (S.number number)) numbers.items }
+        ensures numbers { IfOk result
+            (λ words. numbers_above bounds.low (numbers_in words) ≡ map S.number numbers.items) }
+        ensures width { IfOk result
+            (λ words. word_bits words ≡ least_width (unsigned_abs (bounds.high -ℤ bounds.low))) }
+    {
+        if S::is_least_for(bounds.high.abs_diff(bounds.low)) {
+            if let Some(least) = S::of(bounds.low) {
+                let mut words = numbers;
+                words.shrink_to_fit();
+                subtract(words.as_mut_slice(), least);
+                return Ok(S::into_words(words));
+            }
+        }
+        let words = Words::of_numbers(alloc, numbers.as_slice(), bounds)?;
+        release(numbers);
+        Ok(words)
+    }
+}
+
+/// Puts how far each number lies above the least in its place.
+fn subtract<S: OffsetWord>(words: &mut [S], least: S)
+    requires { All (λ word. S.number least ≤ℤ S.number word) words.old }
+    ensures { numbers_above (S.number least) (map S.distance words.new) ≡ map S.number words.old }
+{
+    for word in words.iter_mut() {
+        *word = word.above(least);
     }
 }
 

@@ -81,6 +81,13 @@ impl FlatNumbers {
         }
     }
 
+    /// The words that the numbers are kept in, taken.
+    pub fn into_words(self) -> SignedWords
+        ensures { numbers_in result ≡ self }
+    {
+        self.words
+    }
+
     /// Lets the numbers go, as `release` does.
     pub fn release(self) {
         self.words.release();

@@ -1,15 +1,17 @@
-// Signed words of 8, 16, 32 and 64 bits.
+// Numbers with a sign in words of 8, 16, 32 and 64 bits.
 
-ghost use Rattle.std.specs.Prelude.{◌≡◌, ◌<◌, ◌+◌, ◌++◌, ◌∷◌, [], ℤ, true, FitsSigned, IfOk, MatchBool, MatchOption, OnErr, OnOk, Some, length, map, refl, slice_get, take, vec_capacity, vec_len};
+ghost use Rattle.std.specs.Prelude.{◌≡◌, ◌<◌, ◌+◌, ◌++◌, ◌∷◌, [], ℤ, true, FitsSigned, IfOk, MatchBool, MatchOption, OnErr, OnOk, Some, length, map, slice_get, take, vec_capacity, vec_len};
 ghost use Rattle.std.specs.Int.{w8, w16, w32, w64};
 ghost use Rattle.std.specs.Ordering.{int_cmp};
-ghost use Rattle.star_flat.specs.Words.{numbers_in};
+ghost use Rattle.star_flat.specs.Words.{less, numbers_in};
 ghost use Rattle.star_flat.specs.Private.Widths.{widenings};
 
 use crate::pages::release;
 use std::alloc::{AllocError, Global};
 
-/// A signed integer of some width.
+/// A number with a sign in a word of some width. Below 64 bits it is kept as how far it lies above
+/// the least of that width, so a column's numbers become their differences from the least of them
+/// where they are.
 pub trait SignedWord: Copy + Ord + Drop {
     // The numbers that it can be.
     ghost holds: { ℤ → Type 0 };
@@ -25,64 +27,72 @@ pub trait SignedWord: Copy + Ord + Drop {
         ensures value { result ≡ number self }
         ensures held { holds result };
 
-    // Words compare as their numbers.
-    ghost in_order: { (a b : Self) → Self.cmp a b ≡ int_cmp (number a) (number b) };
+    /// Words compare as their numbers.
+    fn order_law()
+        ensures { (a b : Self) → Self.cmp a b ≡ int_cmp (number a) (number b) };
 }
 
-impl SignedWord for i8 {
+impl SignedWord for u8 {
     ghost holds = { FitsSigned w8 };
 
-    ghost number = { λ word. word };
+    ghost number = { less 0x80 };
 
-    ghost in_order = { λ a b. refl };
-
-    fn of(value: i64) -> Option<i8> {
-        i8::try_from(value).ok()
+    fn of(value: i64) -> Option<u8> {
+        match i8::try_from(value) {
+            Ok(number) => Some((i64::from(number) + 0x80) as u8),
+            Err(_) => None,
+        }
     }
 
     fn value(self) -> i64 {
-        i64::from(self)
+        i64::from(self) - 0x80
     }
+
+    fn order_law() {}
 }
 
-impl SignedWord for i16 {
+impl SignedWord for u16 {
     ghost holds = { FitsSigned w16 };
 
-    ghost number = { λ word. word };
+    ghost number = { less 0x8000 };
 
-    ghost in_order = { λ a b. refl };
-
-    fn of(value: i64) -> Option<i16> {
-        i16::try_from(value).ok()
+    fn of(value: i64) -> Option<u16> {
+        match i16::try_from(value) {
+            Ok(number) => Some((i64::from(number) + 0x8000) as u16),
+            Err(_) => None,
+        }
     }
 
     fn value(self) -> i64 {
-        i64::from(self)
+        i64::from(self) - 0x8000
     }
+
+    fn order_law() {}
 }
 
-impl SignedWord for i32 {
+impl SignedWord for u32 {
     ghost holds = { FitsSigned w32 };
 
-    ghost number = { λ word. word };
+    ghost number = { less 0x80000000 };
 
-    ghost in_order = { λ a b. refl };
-
-    fn of(value: i64) -> Option<i32> {
-        i32::try_from(value).ok()
+    fn of(value: i64) -> Option<u32> {
+        match i32::try_from(value) {
+            Ok(number) => Some((i64::from(number) + 0x8000_0000) as u32),
+            Err(_) => None,
+        }
     }
 
     fn value(self) -> i64 {
-        i64::from(self)
+        i64::from(self) - 0x8000_0000
     }
+
+    fn order_law() {}
 }
 
 impl SignedWord for i64 {
     ghost holds = { FitsSigned w64 };
 
     ghost number = { λ word. word };
-
-    ghost in_order = { λ a b. refl };
 
     fn of(value: i64) -> Option<i64> {
         Some(value)
@@ -91,14 +101,16 @@ impl SignedWord for i64 {
     fn value(self) -> i64 {
         self
     }
+
+    fn order_law() {}
 }
 
-/// Numbers in signed words of one width.
+/// Numbers with a sign in words of one width.
 #[derive(Drop)]
 pub enum SignedWords {
-    Bits8(Vec<i8>),
-    Bits16(Vec<i16>),
-    Bits32(Vec<i32>),
+    Bits8(Vec<u8>),
+    Bits16(Vec<u16>),
+    Bits32(Vec<u32>),
     Bits64(Vec<i64>),
 }
 
@@ -177,10 +189,10 @@ impl SignedWords {
         ensures { slice_get (numbers_in self.now) place ≡ Some result }
     {
         match self {
-            SignedWords::Bits8(words) => i64::from(words[place]),
-            SignedWords::Bits16(words) => i64::from(words[place]),
-            SignedWords::Bits32(words) => i64::from(words[place]),
-            SignedWords::Bits64(words) => words[place],
+            SignedWords::Bits8(words) => words[place].value(),
+            SignedWords::Bits16(words) => words[place].value(),
+            SignedWords::Bits32(words) => words[place].value(),
+            SignedWords::Bits64(words) => words[place].value(),
         }
     }
 

@@ -33,6 +33,15 @@ past_plain text i n plain within front = go (below_or n i)
           true≢false (sym bad)
     ])
 
+-- a text has one first field
+pub one_front : (text : List ℕ) (m n : ℕ) → IsFront text m → IsFront text n → m ≡ n
+one_front text m n a b =
+    omega (
+      arith,
+      past_plain text m n a.plain a.within b,
+      past_plain text n m b.plain b.within a,
+    )
+
 -- a byte that is not printable stands in the first field
 pub bad_byte : (text : List ℕ) (i n : ℕ) → i < length text
     → list_all is_plain (take i text) ≡ true → (get_or text i 0 ≡ 124 → ⊥)

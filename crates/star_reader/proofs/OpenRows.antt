@@ -1,8 +1,8 @@
 -- The row of an open line that ends.
-use Rattle.std.proofs.Common.{◌≡◌, ◌+◌, ◌<◌, ◌≤◌, ◌∙◌, ◌&&◌, ℕ, List, [], ◌∷◌, ◌++◌, Bool, true, false, Some, None, length, map, refl, sym, ap, inl, inr, arith}
-use Rattle.std.specs.Prelude.{◌==◌, filter, nat_eq, nat_lt}
+use Rattle.std.proofs.Common.{◌≡◌, ◌+◌, ◌≤◌, ◌∙◌, ◌&&◌, ℕ, List, [], ◌∷◌, ◌++◌, Bool, true, false, Some, None, length, map, refl, sym, ap, inl, inr, arith}
+use Rattle.std.specs.Prelude.{filter, nat_eq, nat_lt}
 use Rattle.std.specs.List.{list_all, starts_with}
-use Rattle.std.proofs.lemmas.Bool.{cases_Bool, eqb-true, le-ltb, lt-ltb, true≢false}
+use Rattle.std.proofs.lemmas.Bool.{cases_Bool, true≢false}
 use Rattle.std.proofs.lemmas.List.{append-nil}
 use Rattle.star_common.specs.First.{first_answer}
 use Rattle.star_common.proofs.Firsts.{or_none}
@@ -16,7 +16,7 @@ use Rattle.star_reader.specs.declared.fault.ReadFault.{ReadFault}
 use Rattle.star_reader.specs.declared.fault.ReadFault.TheVariants as fault
 use Rattle.star_reader.specs.declared.open_line.OpenLine.{OpenLine}
 use Rattle.star_reader.specs.declared.progress.Progress.{Progress}
-use Rattle.star_reader.specs.Columns.{AreColumnsOf, first_rows, raw_kind, values}
+use Rattle.star_reader.specs.Columns.{AreColumnsOf, first_rows, values}
 use Rattle.star_reader.specs.Faults.{byte_order_mark, record_fault, records_fault}
 use Rattle.star_reader.specs.Partway.{left_fault}
 use Rattle.star_reader.specs.Carried.{is_inner, AreOneRecord, StandsFor}

@@ -1,12 +1,14 @@
 // The first field of what is left of a line.
 
-ghost use Rattle.std.specs.Prelude.{◌≡◌, ◌⊎◌, ◌+◌, ◌<◌, ◌≤◌, ◌^◌, ◌&&◌, ℕ, IfSome, IsTrue, ◌↔◌, MatchOption, false, true, get_or, length, take};
+ghost use Rattle.std.specs.Prelude.{◌≡◌, ◌+◌, ◌<◌, ◌≤◌, ◌^◌, ◌&&◌, if◌then◌else◌, ℕ, None, Some, MatchOption, false, true, length, take};
 ghost use Rattle.std.specs.List.{list_all};
 ghost use Rattle.std.specs.Str.Parse.{digits_value};
 ghost use Rattle.star_common.specs.Numerals.{is_numeral};
 ghost use Rattle.star_common.specs.Printable.{is_printable};
 ghost use Rattle.star_schema.specs.Tables as spec;
-ghost use Rattle.star_reader.specs.Private.Fronts.{AreDigits, IsFront};
+ghost use Rattle.star_reader.specs.Private.Fronts.{IsFront};
+
+use crate::cell::parse_number;
 
 /// The digits at the front of a text: how many, and the number that they write.
 #[derive(Clone, Copy)]
@@ -20,50 +22,6 @@ pub(crate) struct Digits {
 pub(crate) struct Number {
     pub(crate) value: i64,
     pub(crate) count: usize,
-}
-
-// The digits at the front of a text, at most the first 19 of them, which always fit.
-fn digits_front(text: &[u8]) -> Digits
-    ensures { AreDigits text.now result.count result.value }
-{
-    let most = text.len().min(19);
-    let mut value = 0u64;
-    for count in 0..most {
-        let byte = text[count];
-        if !byte.is_ascii_digit() {
-            return Digits { value, count };
-        }
-        value = value * 10 + u64::from(byte - b'0');
-    }
-    Digits { value, count: most }
-}
-
-// Whether a field may end at a place: at a bar, or at the end of all.
-fn ends_at(text: &[u8], place: usize) -> bool
-    requires { place ≤ length text.now }
-    ensures { IsTrue result
-        ↔ ((place ≡ length text.now)
-        ⊎ ((place < length text.now) × (get_or text.now place 0 ≡ 124))) }
-{
-    place >= text.len() || text[place] == b'|'
-}
-
-// The first field of a text without a sign, if it is 1 to 18 digits, read with a test of the text's
-// length at each.
-fn long_front(text: &[u8]) -> Option<Digits>
-    ensures { MatchOption result
-        ((count : ℕ) → IsFront text.now count → is_numeral 18 (take count text.now) ≡ false)
-        (λ run. IsFront text.now run.count × (is_numeral 18 (take run.count text.now) ≡ true)
-        × (run.value ≡ digits_value 10 (take run.count text.now)) × (run.value < 10 ^ 18)) }
-{
-    let run = digits_front(text);
-    if run.count == 0 || run.count > 18 {
-        return None;
-    }
-    if !ends_at(text, run.count) {
-        return None;
-    }
-    Some(run)
 }
 
 // The digit that a byte writes, and a number past 9 where it writes none: one comparison tells
@@ -101,31 +59,15 @@ fn short_front(text: &[u8]) -> Digits
     Digits { value: 0, count: 0 }
 }
 
-// The first field of a text, if it is a number. Apart from `number_front`, which stays short so.
+// The number that the first `count` bytes of a text write, if they write one. Apart from
+// `number_front`, which stays short so.
 #[cold]
-fn long_number(text: &[u8]) -> Option<Number>
-    ensures { MatchOption result
-        ((count : ℕ) → IsFront text.now count → spec.is_number (take count text.now) ≡ false)
-        (λ number. IsFront text.now number.count
-        × (spec.is_number (take number.count text.now) ≡ true)
-        × (number.value ≡ spec.number_of (take number.count text.now))) }
+fn long_number(text: &[u8], count: usize) -> Option<i64>
+    requires { count ≤ length text.now }
+    ensures { let cell = take count text.now in
+        result ≡ (if spec.is_number cell then Some (spec.number_of cell) else None) }
 {
-    match text {
-        [b'-', unsigned @ ..] => {
-            let run = long_front(unsigned)?;
-            Some(Number {
-                value: -(run.value as i64),
-                count: run.count + 1,
-            })
-        }
-        _ => {
-            let run = long_front(text)?;
-            Some(Number {
-                value: run.value as i64,
-                count: run.count,
-            })
-        }
-    }
+    parse_number(&text[..count])
 }
 
 /// The first field of a text, if it is a number.
@@ -144,7 +86,11 @@ pub(crate) fn number_front(text: &[u8]) -> Option<Number>
             count: short.count,
         });
     }
-    long_number(text)
+    let count = front_len(text);
+    match long_number(text, count) {
+        Some(value) => Some(Number { value, count }),
+        None => None,
+    }
 }
 
 /// How many bytes the first field of a text has, if these are at most 255 and printable.

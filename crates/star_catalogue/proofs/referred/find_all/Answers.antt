@@ -1,4 +1,4 @@
-use Rattle.std.proofs.Common.{◌++◌, ◌∷◌, ◌∙◌, [], ap, arith, FitsSigned, map, refl, rules, w64, to_z-of_z}
+use Rattle.std.proofs.Common.{◌++◌, ◌∷◌, ◌∙◌, [], ap, arith, FitsSigned, map, rules, sym, w64, to_z-of_z}
 use Rattle.std.proofs.lemmas.List.{length-map, map-append}
 use Rattle.std.proofs.lemmas.Option.{slice_get_within}
 use Rattle.star_schema.specs.Loadable.{key_numbers, keys_of}
@@ -11,7 +11,8 @@ unfolding keys_of
 of-requires g c =
     let table = c.args.table.now in
     let fits : FitsSigned w64 c.at.result = search rules in
-    let key = rw (to_z-of_z fits) at ((c.in-Some.ensures c.in-Some.found).0 refl) in
+    let key = (c.lend_keys-keys.ensures c.at.result c.in-Some.found).0
+    (sym (rw (to_z-of_z fits) at c.in-Some.ensures)) in
     omega (
       arith,
       slice_get_within (keys_of table.table table.rows) c.in-Some.found (c.at.result ∷ []) key,
@@ -24,12 +25,14 @@ returns-in-None g c =
     let fits : FitsSigned w64 c.at.result = search rules in
     absent_one (keys_of c.args.table.now.table c.args.table.now.rows) c.args.numbers.now
     c.loop-row.row c.at.result (rw c.view-lent.ensures at c.at.ensures)
-    (λ row at. let bad = (rw (to_z-of_z fits) at (c.in-None.ensures row).1) at in cc bad)
+    (λ row at. let bad = rw (to_z-of_z fits) at c.in-None.ensures
+    ∙ (c.lend_keys-keys.ensures c.at.result row).1 at in cc bad)
 
 pub loop-row-preserved : goal.loop-row-preserved
 loop-row-preserved g c =
     let fits : FitsSigned w64 c.at.result = search rules in
-    let key = rw (to_z-of_z fits) at ((c.in-Some.ensures c.in-Some.found).0 refl) in
+    let key = (c.lend_keys-keys.ensures c.at.result c.in-Some.found).0
+    (sym (rw (to_z-of_z fits) at c.in-Some.ensures)) in
     let number = g.W.RowWord.number in
     let pushed =
     ap (map number) c.push_reserved.ensures.items

@@ -23,12 +23,12 @@ returns g c =
     record {
       low = rw to_z-of_z
           (c.value.ensures.value
-          ∙ least_word g.S.Ord.cmp g.S.SignedWord.number g.met.S.SignedWord.in_order
+          ∙ least_word g.S.Ord.cmp g.S.SignedWord.number c.order_law.ensures
           c.args.numbers.now c.in-Some-Some.low c.in-Some-Some.ensures.reached
           c.in-Some-Some.ensures.bound);
       high = rw to_z-of_z
           (c.value-2.ensures.value
-          ∙ greatest_word g.S.Ord.cmp g.S.SignedWord.number g.met.S.SignedWord.in_order
+          ∙ greatest_word g.S.Ord.cmp g.S.SignedWord.number c.order_law.ensures
           c.args.numbers.now c.in-Some-Some.high c.in-Some-Some.ensures'.reached
           c.in-Some-Some.ensures'.bound);
     }

@@ -1,6 +1,7 @@
-use Rattle.std.proofs.Common.{◌<◌, ◌^◌, ◌∙◌, ap, arith, pos, take, w64}
+use Rattle.std.proofs.Common.{◌<◌, ◌^◌, ◌∙◌, FitsSigned, ap, arith, pos, rules, take, to_z-of_z, w64}
 use Rattle.std.proofs.lemmas.Int.{to_z_pos}
-use Rattle.star_reader.proofs.FrontNumbers.{numeral_plain}
+use Rattle.star_reader.proofs.FrontNumbers.{no_number, numeral_plain, one_number}
+use Rattle.star_reader.proofs.FrontTexts.{one_front}
 use Rattle.star_reader.proofs.front.number_front.Goals as goal
 
 pub returns-then-short-gt0 : goal.returns-then-short-gt0
@@ -14,3 +15,16 @@ returns-then-short-gt0 c =
       rw plain
           (to_z_pos w64 c.short_front-short.result.value low ∙ ap pos writes),
     )
+
+pub returns-in-Some : goal.returns-in-Some
+returns-in-Some c =
+    let cell = take c.front_len-count.result c.args.text.now in
+    let one = one_number cell c.in-Some.value c.in-Some.ensures in
+    let fits : FitsSigned w64 c.in-Some.value = search rules in
+    (c.front_len-count.ensures, one.0, rw to_z-of_z one.1)
+
+pub returns-in-None : goal.returns-in-None
+returns-in-None c = λ n front.
+    let text = c.args.text.now in
+    let same = one_front text n c.front_len-count.result front c.front_len-count.ensures in
+    rw same (no_number (take c.front_len-count.result text) c.in-None.ensures)

@@ -1,4 +1,4 @@
-use Rattle.std.proofs.Common.{MatchResult, map, inl, inr}
+use Rattle.std.proofs.Common.{map}
 use Rattle.star_schema.specs.Records.{records_of}
 use Rattle.star_reader.specs.Columns.{first_rows, values}
 use Rattle.star_reader.specs.Private.Lines.{HasLeft}

@@ -1,4 +1,4 @@
-use Rattle.std.proofs.Common.{◌≡◌, List, ℕ, []}
+use Rattle.std.proofs.Common.{◌≡◌, []}
 use Rattle.csv.specs.Records.{fields_of as fields_read}
 use Rattle.star_reader.specs.Private.Lines.{TakesSome}
 use Rattle.star_reader.proofs.PassedOn.{passed_on}

@@ -1,5 +1,0 @@
-use Rattle.std.proofs.Common.{rules}
-use Rattle.star_column.proofs.text.TextColumn.text_of.Goals as goal
-
-pub returns : goal.returns
-returns c = search rules
