@@ -1,22 +1,8 @@
 -- The base rows of puts, with one put more.
 use Rattle.std.proofs.Common.{◌≡◌, ℕ, Bool, true, false, ℤ, List, [], ◌∷◌, Option, Some, None, Result, Ok, Err, OnOk, OnErr, length, get_or, cond, ap, sym, ◌∙◌, refl, subst, true≢false, arith}
-use Rattle.std.specs.List.{filter, list_any}
-use Rattle.std.specs.Option.{unwrap_or}
-use Rattle.std.proofs.lemmas.Bool.{or_left}
-use Rattle.star_schema.specs.declared.group.Aggregate.{Aggregate}
-use Rattle.star_schema.specs.Groups.{numbers_for}
-use Rattle.star_program.specs.declared.key.KeyValue.{KeyValue}
-use Rattle.star_program.specs.Puts.{leaves, Update, aggregate_at}
-use Rattle.star_group.specs.declared.keyed.key.KeyPart.{KeyPart}
-use Rattle.star_group.specs.Base.{HasAggregates, HasBaseWithRoom, IsBase, IsRowOver, key_view, puts_with, row_found}
-use Rattle.star_group.specs.Cells.{held}
-use Rattle.star_group.specs.OwnKeys.{key_eq, padded}
-use Rattle.star_schema.specs.declared.group.Shape.{Shape}
-use Rattle.star_group.specs.Private.BasePut.{TakesPut, group_with}
-use Rattle.star_group.specs.Private.Merged.{IsMerged, IsMergedAt, IsMergedInto, IsRowOfOnePut, MergeStays, RowsStay, cell_of_one_put, merged}
-use Rattle.star_group.specs.Stores.{Group, HasRoom, put_number}
-use Rattle.star_group.specs.Stores.{AddUp, IsContent, above_zero, below_zero, key_lists}
-use Rattle.star_program.specs.Keys.{same_keys}
+use Rattle.star_group.proofs.Common.{filter, list_any, unwrap_or, or_left, Aggregate, numbers_for, KeyValue, leaves, Update, aggregate_at, KeyPart, AreGrouped, HasAggregates, HasBaseWithRoom, IsBase, IsRowOver, key_view, puts_with, row_found, held, key_eq, padded, Shape, TakesPut}
+use Rattle.star_group.proofs.Common.{group_with, IsMerged, IsMergedAt, IsMergedInto, IsRowOfOnePut, MergeStays, RowsStay, cell_of_one_put, merged, Group, HasRoom, put_number, AddUp, IsContent, key_lists, same_keys}
+use Rattle.star_group.specs.Stores.{above_zero, below_zero}
 use Rattle.star_group.proofs.KeyLists.{keys_equiv}
 use Rattle.star_group.proofs.GroupKeys.{key_decides, key_equiv}
 use Rattle.star_group.proofs.Merging.{held_none, held_one, merged_comm, merged_more, no_puts, row_of_one}
@@ -124,6 +110,11 @@ module _ (d : Group) (us : List Update) (u : Update) (key : List KeyPart) (row :
       (with_own q (key_equiv.refl q)) (row_found es q) (base.rows q))
 
 -- no puts
+pub no_rows : (d : Group) (es : List (List KeyPart × List (Option ℤ))) → es ≡ []
+    → AreGrouped d es []
+no_rows d es e =
+    subst (λ xs. AreGrouped d xs []) (sym e) (record { fit = tt; rows = λ q. refl })
+
 pub no_base : (d : Group) (es : List (List KeyPart × List (Option ℤ))) (blank : List (Option ℤ))
     → es ≡ [] → ((place : ℕ) → get_or blank place None ≡ None) → IsBase d es blank []
 no_base d es blank e none =

@@ -1,19 +1,8 @@
 -- Each list of puts has a content.
 use Rattle.std.proofs.Common.{◌≡◌, ℕ, zero, suc, ◌+◌, ◌<◌, Bool, true, false, ◌||◌, ℤ, pos, ◌+ℤ◌, List, [], ◌∷◌, Option, Some, None, length, map, get_or, cond, ap, sym, ◌∙◌, subst, refl, arith, true≢false}
-use Rattle.std.specs.Int.{int_min, int_max}
-use Rattle.std.specs.List.{list_any, AllByRecursion, IsDistinct}
-use Rattle.std.specs.Option.{unwrap_or}
-use Rattle.std.proofs.lemmas.Bool.{false_from_ne_true}
-use Rattle.std.proofs.lemmas.List.Folds.{list_any-from_Any}
-use Rattle.std.proofs.lemmas.Map.Views.{list_any-from_Contains}
-use Rattle.star_common.proofs.Members.{from_contains_map, of_each}
-use Rattle.star_schema.specs.declared.group.Aggregate.{Aggregate}
-use Rattle.star_schema.specs.declared.group.Aggregate.TheVariants.{Sum, Count, Min, Max}
-use Rattle.star_schema.specs.Groups.{aggregate, joined, numbers_for}
-use Rattle.star_program.specs.declared.key.KeyValue.{KeyValue}
-use Rattle.star_program.specs.Keys.{same_keys}
-use Rattle.star_program.specs.Puts.{Update, aggregate_at}
-use Rattle.star_group.specs.Stores.{Group, IsContent, key_lists, put_number, puts_of}
+use Rattle.star_group.proofs.Common.{int_min, int_max, list_any, AllByRecursion, unwrap_or, false_from_ne_true, list_any-from_Any, list_any-from_Contains, from_contains_map, of_each, Aggregate, Sum, Count, Min, Max, aggregate, joined, numbers_for, KeyValue, same_keys, Update, aggregate_at}
+use Rattle.star_group.proofs.Common.{Group, IsContent, key_lists, put_number, puts_of}
+use Rattle.std.specs.List.{IsDistinct}
 use Rattle.star_group.proofs.JoinedParts.{joined_more, more}
 use Rattle.star_group.proofs.KeyLists.{keys_decide, keys_equiv, some_put}
 

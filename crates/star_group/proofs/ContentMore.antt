@@ -1,15 +1,10 @@
 -- A content with one put more is a content of the puts and it.
 use Rattle.std.proofs.Common.{◌≡◌, ℕ, ◌<◌, Bool, true, false, ◌||◌, ℤ, List, [], ◌∷◌, Some, None, length, cond, ap, sym, ◌∙◌, subst, refl, true≢false}
+use Rattle.star_group.proofs.Common.{list_any, AllByRecursion, Aggregate, aggregate, numbers_for, KeyValue, same_keys, step, IsWithPut, Update, aggregate_at, Group, IsContent, key_lists, put_number, puts_of}
 use Rattle.std.specs.Prelude.{if◌then◌else◌}
-use Rattle.std.specs.List.{list_any, AllByRecursion, IsDistinct}
-use Rattle.star_schema.specs.declared.group.Aggregate.{Aggregate}
-use Rattle.star_schema.specs.Groups.{aggregate, numbers_for}
-use Rattle.star_program.specs.declared.key.KeyValue.{KeyValue}
-use Rattle.star_program.specs.Keys.{same_keys}
-use Rattle.star_group.specs.Cells.{held, step}
-use Rattle.star_group.specs.OneMore.{group_aggregate, IsWithPut}
-use Rattle.star_program.specs.Puts.{Update, aggregate_at}
-use Rattle.star_group.specs.Stores.{Group, IsContent, key_lists, put_number, puts_of}
+use Rattle.std.specs.List.{IsDistinct}
+use Rattle.star_group.specs.Cells.{held}
+use Rattle.star_group.specs.OneMore.{group_aggregate}
 use Rattle.star_group.proofs.KeyLists.{keys_decide, keys_equiv, some_put}
 use Rattle.star_group.proofs.ContentByKeys.{all_more}
 use Rattle.star_group.proofs.Totals.{some_aggregate}

@@ -1,29 +1,12 @@
 -- From the rows of a map to the content of a store.
-use Rattle.std.proofs.Common.{◌≡◌, ℕ, ◌≤◌, Bool, true, false, ◌||◌, ℤ, List, [], ◌∷◌, Option, Some, None, Result, Ok, Err, OnOk, IfErr, IfOk, length, ap, sym, ◌∙◌, subst, refl, cond, arith, inl, inr, true≢false}
-use Rattle.std.specs.List.{AllByRecursion}
-use Rattle.std.proofs.lemmas.Bool.{false_from_ne_true}
-use Rattle.star_common.specs.Memory.{UnlessMemory}
-use Rattle.star_schema.specs.declared.group.Aggregate.{Aggregate}
-use Rattle.star_schema.specs.Groups.{aggregate, members, numbers_for}
-use Rattle.star_program.specs.declared.key.KeyValue.{KeyValue}
-use Rattle.star_program.specs.Keys.{key_value_cmp}
-use Rattle.star_program.specs.declared.group.GroupDecl.{GroupDecl}
-use Rattle.star_program.specs.Overflow.{IsOwn}
-use Rattle.star_program.specs.Puts.{leaves, Update, overflows, aggregate_at}
-use Rattle.star_program.proofs.OwnGroups.{overflow_somewhere, somewhere_overflows}
-use Rattle.star_group.specs.Cells.{held}
-use Rattle.star_group.specs.Base.{row_found}
-use Rattle.star_group.specs.declared.eager.EagerStore.{EagerStore}
-use Rattle.star_group.specs.declared.keyed.key.KeyPart.{KeyPart}
-use Rattle.star_group.specs.Eager.{group_view, look, with_total, Has}
-use Rattle.star_group.specs.OwnKeys.{key_eq, padded}
-use Rattle.star_group.specs.Private.Merged.{IsRowOfOnePut}
-use Rattle.star_group.specs.Private.Rows.{IsBlank, PutsRows, SomeLeaves}
-use Rattle.star_group.specs.Stores.{Group}
-use Rattle.star_group.specs.Held.{changes, held_at, IsRow, HoldsPuts}
-use Rattle.star_group.proofs.MergedPuts.{PutLeaves, PutStays, holds_more, leaves_more, stays_more}
-use Rattle.star_group.proofs.GroupKeys.{in_places, own_mask, own_belongs, members_at, changes_belongs, own_at}
-use Rattle.star_group.proofs.Totals.{some_aggregate}
+use Rattle.std.proofs.Common.{◌≡◌, ◌⊎◌, ℕ, ◌<◌, ◌≤◌, Bool, true, false, ℤ, List, [], ◌∷◌, Option, Some, None, Result, Ok, Err, OnOk, IfErr, IfOk, length, get_or, replicate, ap, sym, ◌∙◌, subst, refl, cond, arith, inl, inr, true≢false}
+use Rattle.star_group.proofs.Common.{unwrap_or, false_from_ne_true, UnlessMemory, Aggregate, IsMasked, aggregate, is_grouping, members, numbers_for, KeyValue, key_value_cmp, IsOwn, leaves, Update, overflows, aggregate_at, overflow_somewhere, somewhere_overflows, held, AreGrouped}
+use Rattle.star_group.proofs.Common.{HasAggregates, IsRowOver, puts_in, row_found, EagerStore, KeyPart, entries_of, is_of_put, IsMerged, IsRowOfOnePut, MergeLeaves, MergeStays, cell_of_one_put, merged, merged_at, AllStay, MergesAll, PutsRows, SomeLeaves, Group, put_number}
+use Rattle.star_group.specs.Eager.{group_view, Has}
+use Rattle.star_group.proofs.Bases.{more_over}
+use Rattle.star_group.proofs.GroupKeys.{all_members, in_places, masked_length, members_at, of_put, own_belongs, put_belongs}
+use Rattle.star_group.proofs.Merging.{held_none, held_one, merged_comm, merged_more, no_puts}
+use Rattle.star_group.proofs.Totals.{declared, some_aggregate}
 
 pub on_ok : {T E : Type 0} (P Q : Type 0) (r : Result T E) → (P → Q) → OnOk r P → OnOk r Q
 on_ok P Q (Ok x) f h = f h
@@ -40,104 +23,171 @@ if_leaves memory P Q (Ok x) f h = tt
 if_leaves memory P Q (Err e) f (inl none) = inl none
 if_leaves memory P Q (Err e) f (inr some) = inr (f some)
 
--- ---- when a put overflows
+-- what is found has the aggregates of its puts
+found_held : (d : Group) (ws : List Update) (found : Option (List (Option ℤ))) (place : ℕ)
+    → place < length d.aggregates → IsRowOver d ws found
+    → get_or (unwrap_or found []) place None
+    ≡ held (aggregate_at d.aggregates place) (numbers_for place ws)
+found_held d ws None place h was =
+    sym (ap (λ ps. held (aggregate_at d.aggregates place) (numbers_for place ps)) (no_puts ws was)
+    ∙ held_none (aggregate_at d.aggregates place))
+found_held d ws (Some row) place h was = was.1 place h
 
-abbrev pub declared : Group → GroupDecl
-declared d = record { shape = d.shape; keys = []; aggregates = d.aggregates }
+-- ---- one more put
 
--- the aggregates of a group that has the put, in the row with its key
-module _ (d : Group) (us : List Update) (u : Update) (m : List (Option KeyValue))
-    (few : d.count ≤ 6) (fits : length u.keys ≡ d.count) (own : IsOwn d.shape u.keys m) where
-  one_member : members key_value_cmp m (u ∷ us) ≡ u ∷ members key_value_cmp m us
-  one_member = ap (λ b. cond b (u ∷ members key_value_cmp m us) (members key_value_cmp m us))
-      (own_belongs d m u own)
+module _ (d : Group) (us : List Update) (u : Update) (row : List (Option ℤ))
+    (one : IsRowOfOnePut d.aggregates u.values row) (fits : length u.keys ≡ d.count)
+    (es : List (List KeyPart × List (Option ℤ))) (was : AreGrouped d es us) where
+  abbrev own : List (Option KeyValue) → Bool
+  own q = is_of_put d.shape u.keys q
 
-  pub held_is : AllByRecursion (λ w. length w.keys ≡ d.count) us → (place : ℕ)
-      → held_at d (u ∷ us) (in_places 6 m) place
-      ≡ aggregate (aggregate_at d.aggregates place)
-      (numbers_for place (members key_value_cmp m (u ∷ us)))
-  held_is fit place =
-      ap (λ ps. held (aggregate_at d.aggregates place) (numbers_for place ps))
-      (members_at d m (u ∷ us) (own_mask d m u fits own) few (fits, fit) ∙ one_member)
-      ∙ some_aggregate (aggregate_at d.aggregates place) _ _
-      ∙ ap (λ ps. aggregate (aggregate_at d.aggregates place) (numbers_for place ps))
-      (sym one_member)
+  grouped_more : (fs : List (List KeyPart × List (Option ℤ)))
+      → MergesAll own d.aggregates row (row_found es) (row_found fs) → AreGrouped d fs (u ∷ us)
+  grouped_more fs merges = record { fit = (fits, was.fit); rows = λ q. by q (own q) refl }
+    where
+      by : (q : List (Option KeyValue)) (b : Bool) → own q ≡ b
+          → IsRowOver d (puts_in d q (u ∷ us)) (row_found fs q)
+      by q true e = subst (λ ps. IsRowOver d ps (row_found fs q))
+          (sym (ap (λ b. cond b (u ∷ puts_in d q us) (puts_in d q us)) e))
+          (more_over d (puts_in d q us) u row one (row_found es q) (row_found fs q) (was.rows q)
+          (merges.changed q e))
+      by q false e = subst (λ ps. IsRowOver d ps (row_found fs q))
+          (sym (ap (λ b. cond b (u ∷ puts_in d q us) (puts_in d q us)) e))
+          (subst (IsRowOver d (puts_in d q us)) (sym (merges.same q e)) (was.rows q))
 
-module _ (d : Group) (us : List Update) (u : Update) (few : d.count ≤ 6)
-    (fits : length u.keys ≡ d.count) (fit : AllByRecursion (λ w. length w.keys ≡ d.count) us) where
-  pub stays_all : PutStays d us u → overflows d.shape d.aggregates us u ≡ false
-  stays_all s = false_from_ne_true (overflows d.shape d.aggregates us u) (λ over.
-      let l = overflow_somewhere (declared d) us u over in
-      let changed : changes d (in_places 6 l.group) u ≡ true =
-      changes_belongs d l.group u (own_mask d l.group u fits l.own) fits few
-      ∙ own_belongs d l.group u l.own in
-      true≢false (sym l.leaves_there
-      ∙ ap (leaves (aggregate_at d.aggregates l.place))
-      (sym (held_is d us u l.group few fits l.own fit l.place))
-      ∙ s.stays (in_places 6 l.group) l.place changed l.declared))
+  cell_more : (ws : List Update) (cell : Option ℤ) (place : ℕ) → place < length d.aggregates
+      → cell ≡ held (aggregate_at d.aggregates place) (numbers_for place ws)
+      → merged (aggregate_at d.aggregates place) cell (get_or row place None)
+      ≡ aggregate (aggregate_at d.aggregates place) (numbers_for place (u ∷ ws))
+  cell_more ws cell place h is =
+      let g = aggregate_at d.aggregates place in
+      (λ i. merged g (is i) (one place h i))
+      ∙ merged_comm g (held g (numbers_for place ws))
+      (Some (cell_of_one_put g (put_number place u)))
+      ∙ sym (held_one g (put_number place u) (numbers_for place ws))
+      ∙ some_aggregate g (put_number place u) (numbers_for place ws)
 
-  pub overflows_some : PutLeaves d us u → overflows d.shape d.aggregates us u ≡ true
-  overflows_some l =
-      let at = own_at d l.key u fits few l.own in
-      somewhere_overflows (declared d) us u (record {
-        group = at.keys;
-        own = at.own;
-        place = l.place;
-        declared = l.declared;
-        leaves_there = ap (leaves (aggregate_at d.aggregates l.place))
-            (sym (held_is d us u at.keys few fits at.own fit l.place)
-            ∙ ap (λ k. held_at d (u ∷ us) k l.place) (sym at.is)) ∙ l.over;
-      })
+  module _ (all : List (Option ℤ)) (few : d.count ≤ 6) (total : HasAggregates d us all) where
+    abbrev now : List (Option KeyValue) → ℕ → Option ℤ
+    now m place = aggregate (aggregate_at d.aggregates place)
+        (numbers_for place (members key_value_cmp m (u ∷ us)))
+
+    -- a row of a group of the put, and the total
+    row_now : (m : List (Option KeyValue)) → is_grouping d.shape m ≡ true → IsMasked m u.keys
+        → (place : ℕ) → place < length d.aggregates
+        → merged_at d.aggregates (unwrap_or (row_found es (in_places 6 m)) []) row place
+        ≡ now m place
+    row_now m grouping masked place h =
+        let q = in_places 6 m in
+        cell_more (puts_in d q us) (get_or (unwrap_or (row_found es q) []) place None) place h
+        (found_held d (puts_in d q us) (row_found es q) place h (was.rows q))
+        ∙ ap (λ ps. aggregate (aggregate_at d.aggregates place) (numbers_for place ps))
+        (ap (λ ps. u ∷ ps)
+        (members_at d m us grouping (masked_length m u.keys masked ∙ fits) few was.fit)
+        ∙ sym (ap (λ b. cond b (u ∷ members key_value_cmp m us) (members key_value_cmp m us))
+        (own_belongs d m u (inl (grouping, masked)))))
+
+    total_now : (m : List (Option KeyValue)) → m ≡ replicate (length u.keys) None → (place : ℕ)
+        → place < length d.aggregates → merged_at d.aggregates all row place ≡ now m place
+    total_now m e place h =
+        cell_more us (get_or all place None) place h (total place h)
+        ∙ ap (λ ps. aggregate (aggregate_at d.aggregates place) (numbers_for place ps))
+        (sym (ap (λ k. members key_value_cmp k (u ∷ us)) (e ∙ ap (λ n. replicate n None) fits)
+        ∙ all_members d.count (u ∷ us) (fits, was.fit)))
+
+    stays_all : MergeStays d.aggregates all row → AllStay (row_found es) own d.aggregates row
+        → overflows d.shape d.aggregates us u ≡ false
+    stays_all kept all_stay = false_from_ne_true (overflows d.shape d.aggregates us u) (λ over.
+        let l = overflow_somewhere (declared d) us u over in
+        true≢false (sym l.leaves_there ∙ there l.group l.place l.own l.declared))
+      where
+        there : (m : List (Option KeyValue)) (place : ℕ) → IsOwn d.shape u.keys m
+            → place < length d.aggregates
+            → leaves (aggregate_at d.aggregates place) (now m place) ≡ false
+        there m place (inl in_row) h =
+            ap (leaves (aggregate_at d.aggregates place))
+            (sym (row_now m in_row.0 in_row.1 place h))
+            ∙ all_stay.stay (in_places 6 m)
+            (put_belongs d.shape m u.keys in_row.0 (masked_length m u.keys in_row.1)
+            (omega (arith, fits, few)) ∙ own_belongs d m u (inl in_row)) place h
+        there m place (inr e) h =
+            ap (leaves (aggregate_at d.aggregates place)) (sym (total_now m e place h))
+            ∙ kept place h
+
+    overflows_some : MergeLeaves d.aggregates all row
+        ⊎ SomeLeaves (row_found es) own d.aggregates row
+        → overflows d.shape d.aggregates us u ≡ true
+    overflows_some (inl l) = somewhere_overflows (declared d) us u (record {
+      group = replicate (length u.keys) None;
+      own = inr refl;
+      place = l.place;
+      declared = l.declared;
+      leaves_there = ap (leaves (aggregate_at d.aggregates l.place))
+          (sym (total_now (replicate (length u.keys) None) refl l.place l.declared)) ∙ l.over;
+    })
+    overflows_some (inr s) =
+        let l = s.leaves in
+        let of = of_put d.shape u.keys s.key (omega (arith, fits, few)) s.among in
+        somewhere_overflows (declared d) us u (record {
+          group = of.keys;
+          own = inl (of.grouping, of.masked);
+          place = l.place;
+          declared = l.declared;
+          leaves_there = ap (leaves (aggregate_at d.aggregates l.place))
+              (sym (row_now of.keys of.grouping of.masked l.place l.declared)
+              ∙ ap (λ k. merged_at d.aggregates (unwrap_or (row_found es k) []) row l.place)
+              (sym of.is)) ∙ l.over;
+        })
 
 -- ---- one more put into an eager store
 
 module _ (s : EagerStore) (u : Update) (gs : List Aggregate) (row : List (Option ℤ))
     (is_gs : gs ≡ s.aggregates.items) (is_row : IsRowOfOnePut gs u.values row)
     (fits : length u.keys ≡ s.key_count) where
-  one : IsRowOfOnePut s.aggregates.items u.values row
-  one = subst (λ g. IsRowOfOnePut g u.values row) is_gs is_row
+  one_put : IsRowOfOnePut s.aggregates.items u.values row
+  one_put = subst (λ g. IsRowOfOnePut g u.values row) is_gs is_row
 
   few_keys : s.key_count ≤ 6
   few_keys = omega (arith, s.wide, s.rows.trie.few)
 
-  module _ (new : List (Option KeyValue) → Option (List (Option ℤ))) where
-    abbrev Puts : List Aggregate → Type 0
-    Puts g = PutsRows (λ q. changes (group_view s) q u) g row (look s) new
-
-    pub put_holds : {T E : Type 0} (r : Result T E) → OnOk r (Puts gs)
-        → OnOk r ((us : List Update) → Has s us → HoldsPuts (group_view s) new (u ∷ us))
-    put_holds r = on_ok _ _ r
-        (λ h us holds. holds_more (group_view s) us u row one (look s) new holds fits
-        (subst Puts is_gs h).merges)
-
-    pub put_stays : {T E : Type 0} (r : Result T E) → OnOk r (Puts gs)
-        → OnOk r ((us : List Update) → Has s us
-        → overflows (group_view s).shape (group_view s).aggregates us u ≡ false)
-    put_stays r = on_ok _ _ r
-        (λ h us holds. stays_all (group_view s) us u few_keys fits holds.fit
-        (stays_more (group_view s) us u row one (look s) new holds (subst Puts is_gs h).stay))
+  abbrev Puts : List Aggregate → (List (Option KeyValue) → Option (List (Option ℤ))) → Type 0
+  Puts g new = PutsRows (is_of_put s.shape u.keys) g row (row_found (entries_of s.rows)) new
 
   abbrev Leaves : List Aggregate → Type 0
-  Leaves g = SomeLeaves (look s) (λ q. changes (group_view s) q u) g row
+  Leaves g = MergeLeaves g s.total row
+      ⊎ SomeLeaves (row_found (entries_of s.rows)) (is_of_put s.shape u.keys) g row
+
+  pub put_has : {T E : Type 0} (r : Result T E) (new : EagerStore) → group_view new ≡ group_view s
+      → OnOk r (Puts gs (row_found (entries_of new.rows)))
+      → OnOk r (IsMerged gs s.total row new.total)
+      → OnOk r ((us : List Update) → Has s us → Has new (u ∷ us))
+  put_has (Ok x) new same puts merges = λ us has. record {
+    grouped = subst (λ d. AreGrouped d (entries_of new.rows) (u ∷ us)) (sym same)
+        (grouped_more (group_view s) us u row one_put fits (entries_of s.rows) has.grouped
+        (entries_of new.rows)
+        (subst (λ g. Puts g (row_found (entries_of new.rows))) is_gs puts).merges);
+    total = subst (λ d. HasAggregates d (u ∷ us) new.total) (sym same)
+        (merged_more (group_view s) u us s.total row new.total one_put has.total
+        (subst (λ g. IsMerged g s.total row new.total) is_gs merges));
+  }
+  put_has (Err e) new same puts merges = tt
+
+  pub put_stays : {T E : Type 0} (r : Result T E)
+      (new : List (Option KeyValue) → Option (List (Option ℤ))) → OnOk r (Puts gs new)
+      → OnOk r (MergeStays gs s.total row)
+      → OnOk r ((us : List Update) → Has s us
+      → overflows (group_view s).shape (group_view s).aggregates us u ≡ false)
+  put_stays (Ok x) new puts kept = λ us has.
+      stays_all (group_view s) us u row one_put fits (entries_of s.rows) has.grouped s.total
+      few_keys has.total (subst (λ g. MergeStays g s.total row) is_gs kept)
+      (subst (λ g. Puts g new) is_gs puts).stay
+  put_stays (Err e) new puts kept = tt
 
   pub put_leaves : {T E : Type 0} (memory : E) (r : Result T E)
       → IfErr r (λ e. UnlessMemory memory e (Leaves gs))
       → IfErr r (λ e. UnlessMemory memory e
       ((us : List Update) → Has s us
       → overflows (group_view s).shape (group_view s).aggregates us u ≡ true))
-  put_leaves memory r = if_leaves memory _ _ r
-      (λ some us holds. overflows_some (group_view s) us u few_keys fits holds.fit
-      (leaves_more (group_view s) us u row one (look s) (look s) holds (subst Leaves is_gs some)))
-
--- over no puts the row of all of them is there alone
-pub holds_first : (d : Group) (es : List (List KeyPart × List (Option ℤ))) (blank : List (Option ℤ))
-    → es ≡ [] → IsBlank blank → HoldsPuts d (with_total blank (row_found es)) []
-unfolding held
-holds_first d es blank none is =
-    subst (λ xs. HoldsPuts d (with_total blank (row_found xs)) []) (sym none)
-    (record { fit = tt; rows = λ q. by q (key_eq q (padded 6 [])) refl })
-  where
-    by : (q : List (Option KeyValue)) (b : Bool) → key_eq q (padded 6 []) ≡ b
-        → IsRow d [] q (cond b (Some blank) None)
-    by q true e = record { due = ap (λ b. b || false) e; cells = λ place lt. is place }
-    by q false e = ap (λ b. b || false) e
+  put_leaves memory r = if_leaves memory _ _ r (λ some us has.
+      overflows_some (group_view s) us u row one_put fits (entries_of s.rows) has.grouped s.total
+      few_keys has.total (subst Leaves is_gs some))

@@ -1,11 +1,8 @@
 -- Flat lists cut into rows.
 use Rattle.std.proofs.Common.{◌≡◌, ℕ, zero, suc, ◌+◌, ◌-◌, ◌*◌, ◌<◌, ◌≤◌, List, [], ◌∷◌, ◌++◌, length, get_or, set, take, drop, ap, sym, ◌∙◌, arith, refl}
-use borrow.Rule.Slice.PartMut.{put_mid}
-use Rattle.std.proofs.lemmas.List.{append_assoc, drop-append-le, drop_at, drop-drop, length-append, length-drop, length-take-le, take-append-drop, take-append-le, take_all, take_at}
-use Rattle.std.proofs.lemmas.Slice.{drop-put_mid, take-put_mid}
-use Rattle.std.proofs.Math.Nat.{mul-le-mul_right, suc-mul, zero-mul}
+use Rattle.star_group.proofs.Common.{put_mid, append_assoc, drop-append-le, drop_at, drop-drop, get_or-drop, get_or-take, length-append, length-drop, length-take-le, take-append-drop, take-append-le, take_all, take_at, drop-put_mid, take-put_mid, mul-le-mul_right, suc-mul, zero-mul}
+use Rattle.star_group.proofs.Common.{cut_at}
 use Rattle.star_program.specs.Rows.{cut}
-use Rattle.star_program.proofs.Rows.{cut_at}
 
 module _ {T : Type 0} (w : ℕ) where
   enough : (n : ℕ) (ps : List T) → length ps ≡ suc n * w → w ≤ length ps
@@ -137,3 +134,19 @@ module _ {T : Type 0} (w : ℕ) where
         ∙ cut_set n (take (i * w) ps) old row after i h
         (length-take-le (i * w) ps (omega (arith, room))) old_wide is
         ∙ ap (λ qs. set (cut w n qs) i row) (sym pieces)
+
+-- ---- a place of a row
+
+pub place_read : {X : Type 0} (w n : ℕ) (items : List X) (number place : ℕ) (d : X) → number < n
+    → place < w
+    → get_or items (number * w + place) d ≡ get_or (get_or (cut w n items) number []) place d
+place_read w n items number place d there within =
+    sym (ap (λ row. get_or row place d) (cut_at w n items number there)
+    ∙ get_or-take w (drop (number * w) items) place d within
+    ∙ get_or-drop (number * w) items place d)
+
+-- `n` rows have room for each place of each of them
+pub place_within : (w n number place : ℕ) → number < n → place < w → number * w + place < n * w
+place_within w n number place there within =
+    let rows : (number + 1) * w ≤ n * w = mul-le-mul_right w (omega (arith, there)) in
+    omega (arith, rows, within)

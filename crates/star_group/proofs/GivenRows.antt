@@ -1,78 +1,57 @@
--- The rows that a store gives, one after another.
-use Rattle.std.proofs.Common.{◌≡◌, ℕ, suc, ◌+◌, ◌<◌, ◌≤◌, Bool, true, false, ℤ, List, [], ◌∷◌, ◌++◌, Option, Some, None, cond, length, get_or, map, take, ap, sym, ◌∙◌, refl, arith, append-nil, append_assoc, true≢false}
-use Rattle.std.specs.List.{filter}
-use Rattle.std.specs.Prelude.{IsSome}
-use Rattle.std.proofs.lemmas.List.{map-append}
-use Rattle.std.proofs.lemmas.List.Elements.{filter-append}
-use Rattle.star_schema.specs.declared.group.Aggregate.{Aggregate}
-use Rattle.star_schema.specs.declared.group.Aggregate.TheVariants.{Count, Sum, Min, Max}
-use Rattle.star_schema.specs.declared.group.Shape.{Shape}
-use Rattle.star_schema.specs.Groups.{is_grouping}
-use Rattle.star_program.specs.declared.key.KeyValue.{KeyValue}
-use Rattle.star_group.specs.declared.group_row.GroupRow.{GroupRow}
-use Rattle.star_group.specs.OwnKeys.{padded}
-use Rattle.star_group.specs.Private.Given.{if_given, shown, shown_from, row_given, rows_given, ShownBelow}
-use Rattle.star_group.specs.Private.Rows.{is_row_key}
+-- What stands in a row that a store gives.
+use Rattle.std.proofs.Common.{◌≡◌, ℕ, zero, suc, ◌<◌, ◌≤◌, ℤ, List, [], ◌∷◌, ◌++◌, Option, Some, None, length, get_or, map, take, ap, refl, sym, ◌∙◌, arith}
+use Rattle.star_group.proofs.Common.{get_or-take, get_or_past, length-take, Aggregate, KeyPart, key_view, all_hidden, nothing_given, row_shown, shown, row_at}
 
-shown_list : (gs : List Aggregate) (p : ℕ) (row r : List (Option ℤ)) → length gs ≤ length r
-    → ((a : ℕ) → a < length gs
-    → get_or r a None ≡ shown (get_or gs a Count) (get_or row (p + a) None))
-    → take (length gs) r ≡ shown_from gs p row
-shown_list [] p row r h each = refl
-shown_list (g ∷ gs) p row [] h each = absurd (omega arith)
-shown_list (g ∷ gs) p row (x ∷ r) h each =
-    let here : p + 0 ≡ p = omega arith in
-    let next : (a : ℕ) → p + suc a ≡ (p + 1) + a = λ a. omega arith in
-    λ i. (each 0 (omega arith) ∙ ap (λ n. shown g (get_or row n None)) here) i
-    ∷ shown_list gs (p + 1) row r (omega arith)
-    (λ a lt. each (suc a) (omega arith)
-    ∙ ap (λ n. shown (get_or gs a Count) (get_or row n None)) (next a)) i
+module _ (nothing : Option (List (Option ℤ))) (count : ℕ) where
+  pub keys_shown : (es : List (List KeyPart × List (Option ℤ))) (number : ℕ) → number < length es
+      → take count (key_view (get_or es number ([], [])).0)
+      ≡ (row_at (map (row_shown nothing count) es) number).keys
+  keys_shown [] number h = absurd (omega (arith, h))
+  keys_shown (e ∷ es) zero h = refl
+  keys_shown (e ∷ es) (suc number) h = keys_shown es number (omega (arith, h))
 
-pub shown_all : (gs : List Aggregate) (row r : List (Option ℤ)) → length gs ≤ 8
-    → ShownBelow gs row r (length gs) → take (length gs) r ≡ shown_from gs 0 row
-shown_all gs row r few s =
-    shown_list gs 0 row r (omega (arith, s.wide))
-    (λ a lt. let same : a ≡ 0 + a = omega arith in
-    s.cells a lt ∙ ap (λ n. shown (get_or gs a Count) (get_or row n None)) same)
+  pub none_shown : (es : List (List KeyPart × List (Option ℤ))) (number : ℕ) → length es ≤ number
+      → ([] ≡ (row_at (map (row_shown nothing count) es) number).keys)
+      × ([] ≡ (row_at (map (row_shown nothing count) es) number).aggregates)
+  none_shown [] number h = (refl, refl)
+  none_shown (e ∷ es) zero h = absurd (omega (arith, h))
+  none_shown (e ∷ es) (suc number) h = none_shown es number (omega (arith, h))
 
-shown_some : (g : Aggregate) (o : Option ℤ) → IsSome o → o ≡ shown g o
-shown_some Count None h = absurd (true≢false (sym h))
-shown_some Count (Some x) h = refl
-shown_some Sum o h = refl
-shown_some Min o h = refl
-shown_some Max o h = refl
+  pub key_shown : (es : List (List KeyPart × List (Option ℤ))) (number place : ℕ) → place < count
+      → get_or (key_view (get_or es number ([], [])).0) place None
+      ≡ get_or (row_at (map (row_shown nothing count) es) number).keys place None
+  key_shown [] number place h = refl
+  key_shown (e ∷ es) zero place h = sym (get_or-take count (key_view e.0) place None h)
+  key_shown (e ∷ es) (suc number) place h = key_shown es number place h
 
--- the aggregates of a row in which none is NULL
-pub numbers_shown : (gs : List Aggregate) (row : List (Option ℤ)) → length gs ≤ length row
-    → ((place : ℕ) → place < length row → IsSome (get_or row place None))
-    → take (length gs) row ≡ shown_from gs 0 row
-numbers_shown gs row wide some = shown_list gs 0 row row wide (λ a lt.
-    let same : a ≡ 0 + a = omega arith in
-    shown_some (get_or gs a Count) (get_or row a None) (some a (omega (arith, lt, wide)))
-    ∙ ap (λ n. shown (get_or gs a Count) (get_or row n None)) same)
+  pub no_key : (es : List (List KeyPart × List (Option ℤ))) (number place : ℕ) → count ≤ place
+      → None ≡ get_or (row_at (map (row_shown nothing count) es) number).keys place None
+  no_key [] number place h = refl
+  no_key (e ∷ es) zero place h = sym (get_or_past (take count (key_view e.0)) place None
+      (omega (arith, h, length-take count (key_view e.0))))
+  no_key (e ∷ es) (suc number) place h = no_key es number place h
 
-module _ (shape : Shape) (count : ℕ) (gs : List Aggregate) (total : List (Option ℤ)) where
-  pub given_none : rows_given shape count gs total []
-      ≡ if_given (is_grouping shape (take count (padded 6 []))) count gs (padded 6 [], total)
-  unfolding rows_given
-  given_none = append-nil _
+pub aggregates_shown : (count : ℕ) (es : List (List KeyPart × List (Option ℤ))) (number : ℕ)
+    → (get_or es number ([], [])).1 ≡ (row_at (map (row_shown None count) es) number).aggregates
+aggregates_shown count [] number = refl
+aggregates_shown count (e ∷ es) zero = refl
+aggregates_shown count (e ∷ es) (suc number) = aggregates_shown count es number
 
-  -- one entry more gives a row, or none
-  pub given_more : (es : List (List (Option KeyValue) × List (Option ℤ)))
-      (e : List (Option KeyValue) × List (Option ℤ))
-      → rows_given shape count gs total es ++ if_given (is_row_key shape count e.0) count gs e
-      ≡ rows_given shape count gs total (es ++ e ∷ [])
-  unfolding rows_given
-  given_more es e =
-      let P : List (Option KeyValue) × List (Option ℤ) → Bool = λ f. is_row_key shape count f.0 in
-      let first : List GroupRow =
-      if_given (is_grouping shape (take count (padded 6 []))) count gs (padded 6 [], total) in
-      append_assoc first (map (row_given count gs) (filter P es)) (if_given (P e) count gs e)
-      ∙ ap (λ rows. first ++ rows)
-      (ap (λ rows. map (row_given count gs) (filter P es) ++ rows) (sym (by (P e)))
-      ∙ sym (map-append (row_given count gs) (filter P es) (filter P (e ∷ [])))
-      ∙ ap (map (row_given count gs)) (sym (filter-append P es (e ∷ []))))
-    where
-      by : (b : Bool) → map (row_given count gs) (cond b (e ∷ []) []) ≡ if_given b count gs e
-      by true = refl
-      by false = refl
+pub nothing_shown : (row : List (Option ℤ)) (count : ℕ)
+    (es : List (List KeyPart × List (Option ℤ))) (number : ℕ) → number < length es
+    → row ≡ (row_at (map (row_shown (Some row) count) es) number).aggregates
+nothing_shown row count [] number h = absurd (omega (arith, h))
+nothing_shown row count (e ∷ es) zero h = refl
+nothing_shown row count (e ∷ es) (suc number) h = nothing_shown row count es number (omega (arith, h))
+
+no_items : {A : Type 0} (xs : List A) → length xs ≡ 0 → xs ≡ []
+no_items [] e = refl
+no_items (x ∷ xs) e = absurd (omega (arith, e))
+
+-- the only row, over no puts
+pub nothing_row : (count : ℕ) (gs : List Aggregate) (shows row : List (Option ℤ))
+    (es fs : List (List KeyPart × List (Option ℤ))) → length es ≡ 0
+    → fs ≡ es ++ (all_hidden, row) ∷ [] → shows ≡ map (λ g. shown g None) gs
+    → map (row_shown (Some shows) count) fs ≡ nothing_given count gs
+nothing_row count gs shows row es fs none is e = λ i. map (row_shown (Some (e i)) count)
+    ((is ∙ ap (λ xs. xs ++ (all_hidden, row) ∷ []) (no_items es none)) i)

@@ -1,15 +1,6 @@
 -- Numbers of puts, joined by an operation: by key lists first, or all at once.
 use Rattle.std.proofs.Common.{◌≡◌, Bool, true, false, ◌&&◌, ◌||◌, ℤ, List, [], ◌∷◌, Option, Some, None, map, cond, ap, sym, ◌∙◌, refl, true≢false}
-use Rattle.std.specs.List.{list_any, AllByRecursion, IsDistinct, filter}
-use Rattle.std.proofs.Math.Bool.{and-false}
-use Rattle.std.proofs.lemmas.List.Elements.{All-from_recursion}
-use Rattle.std.proofs.lemmas.List.Folds.{list_any_none}
-use Rattle.std.proofs.lemmas.Map.Keys.{IsDistinct-head, IsDistinct-tail}
-use Rattle.star_schema.specs.Groups.{joined}
-use Rattle.star_program.specs.declared.key.KeyValue.{KeyValue}
-use Rattle.star_program.specs.Keys.{same_keys}
-use Rattle.star_program.specs.Puts.{Update}
-use Rattle.star_group.specs.Stores.{key_lists}
+use Rattle.star_group.proofs.Common.{list_any, AllByRecursion, IsDistinct, filter, and-false, All-from_recursion, list_any_none, IsDistinct-head, IsDistinct-tail, joined, KeyValue, same_keys, Update, key_lists}
 use Rattle.star_group.proofs.KeyLists.{keys_decide, keys_equiv}
 use Rattle.star_group.proofs.Totals.{joined_none, joined_some}
 

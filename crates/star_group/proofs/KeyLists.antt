@@ -1,17 +1,6 @@
 -- The key lists of puts.
 use Rattle.std.proofs.Common.{◌≡◌, Bool, true, false, ◌||◌, List, [], ◌∷◌, cond, sym, refl, true≢false}
-use Rattle.std.specs.Bool.{Decides}
-use Rattle.std.specs.Cmp.{IsEquivalence}
-use Rattle.std.specs.Cmp.Lexicographic.{lists_equiv}
-use Rattle.std.specs.List.{list_any, Contains}
-use Rattle.std.proofs.lemmas.Slice.Eq.{slice_eq-Decides}
-use Rattle.std.proofs.lemmas.Map.Views.{Contains-from_any, list_any-from_Contains}
-use Rattle.star_common.proofs.Members.{contains_mapped, from_contains_map}
-use Rattle.star_program.specs.contracts.key.KeyValueEq.TheImpl.Laws.{laws-law}
-use Rattle.star_program.specs.declared.key.KeyValue.{KeyValue}
-use Rattle.star_program.specs.Keys.{same_keys}
-use Rattle.star_program.specs.Puts.{Update}
-use Rattle.star_group.specs.Stores.{key_lists, puts_of}
+use Rattle.star_group.proofs.Common.{Decides, IsEquivalence, lists_equiv, list_any, Contains, slice_eq-Decides, Contains-from_any, list_any-from_Contains, contains_mapped, from_contains_map, laws-law, KeyValue, same_keys, Update, key_lists, puts_of}
 use Rattle.star_group.proofs.GroupKeys.{value_decides}
 
 pub keys_equiv : IsEquivalence same_keys

@@ -1,33 +1,13 @@
 -- Rows in flat storage with their keys: what stands at a number, one row more, and one changed.
 use Rattle.std.proofs.Common.{◌≡◌, ℕ, zero, suc, ◌-◌, ◌*◌, ◌<◌, ◌≤◌, Bool, true, false, ℤ, List, [], ◌∷◌, ◌++◌, Option, Some, None, Result, Ok, Err}
 use Rattle.std.proofs.Common.{OnOk, cond, length, get_or, get_or-set_same, set, slice_get, map, take, drop, ap, sym, ◌∙◌, subst, refl, arith}
-use Rattle.std.specs.List.{AllByRecursion, IsDistinct, filter, list_any}
-use Rattle.std.specs.Map.{keys_of, lookup}
-use Rattle.std.proofs.lemmas.List.{drop_at, get_or-take, length-map, length-set, length-take-le, take-append-drop, take_at}
-use Rattle.std.proofs.lemmas.Map.Entries.{lookup_from_place, place_from_lookup}
-use Rattle.std.proofs.lemmas.Option.{slice_get-get_or, slice_get-map, slice_get_within}
-use Rattle.star_program.specs.declared.key.KeyValue.{KeyValue}
-use Rattle.star_group.specs.declared.keyed.key.KeyPart.{KeyPart}
-use Rattle.star_group.specs.declared.keyed.key.KeyPart.TheVariants.{All, Number, Code}
-use Rattle.star_group.specs.declared.keyed.KeyedRows.{KeyedRows}
-use Rattle.star_group.specs.Base.{key_view, row_found, key_value_view}
-use Rattle.star_group.specs.Entries.{entries_of}
+use Rattle.star_group.proofs.Common.{AllByRecursion, filter, list_any, keys_of, lookup, drop_at, get_or-take, length-map, length-set, length-take-le, take-append-drop, take_at, lookup_from_place, place_from_lookup, slice_get-get_or, slice_get-map, slice_get_within, KeyValue, KeyPart, All}
+use Rattle.star_group.proofs.Common.{KeyedRows, key_view, row_found, key_value_view, entries_of, all_hidden, filled, key_eq, padded, vary, AreOnce, shown_entries, IsMerged, IsMergedAt, IsWithRow, MergeStays, RowsStay, Aggregate, Shape, option_map, unwrap_or, with_items, and_parts}
+use Rattle.star_group.proofs.Common.{false_from_ne_true, list_any-from_Contains, contains_mapped, of_each, AreNarrow, IsNarrow, is_row_key, IsHeld, IsMissing, length-cut}
+use Rattle.std.specs.List.{IsDistinct}
+use Rattle.star_group.specs.declared.keyed.key.KeyPart.TheVariants.{Number, Code}
 use Rattle.star_program.specs.Rows.{cut}
-use Rattle.star_group.specs.Keyed.{all_hidden, filled, keyed}
-use Rattle.star_group.specs.OwnKeys.{key_eq, padded, vary}
-use Rattle.star_group.specs.Private.Coarser.{AreOnce, shown_entries}
-use Rattle.star_group.specs.Private.Merged.{IsMerged, IsMergedAt, IsWithRow, MergeStays, RowsStay}
-use Rattle.star_schema.specs.declared.group.Aggregate.{Aggregate}
-use Rattle.star_schema.specs.declared.group.Shape.{Shape}
-use Rattle.std.specs.Option.{option_map, unwrap_or}
-use Rattle.std.specs.Vec.{with_items}
-use Rattle.std.proofs.lemmas.Bool.{and_parts, false_from_ne_true}
-use Rattle.std.proofs.lemmas.Map.Views.{list_any-from_Contains}
-use Rattle.star_common.proofs.Members.{contains_mapped, of_each}
-use Rattle.star_group.specs.Private.Numbers.{AreNarrow, IsNarrow}
-use Rattle.star_group.specs.Private.Rows.{is_row_key}
-use Rattle.star_group.specs.Private.Tries.{IsHeld, IsMissing}
-use Rattle.star_program.proofs.Rows.{length-cut}
+use Rattle.star_group.specs.Keyed.{keyed}
 use Rattle.star_group.proofs.CutRows.{cut_from, cut_wide}
 use Rattle.star_group.proofs.GroupKeys.{among_vary, any_kept, in_padded, in_places, key_decides, key_equiv, masked_length}
 use Rattle.star_group.proofs.Passes.{IsOnceAt}
@@ -69,15 +49,20 @@ distinct_once (e ∷ es) once = (
 )
 
 -- an entry is found by its key
-pub row_there : (es : List (List KeyPart × List (Option ℤ))) → IsOnceAt es
+pub row_once : (es : List (List KeyPart × List (Option ℤ))) → AreOnce es
     → (j : ℕ) (e : List KeyPart × List (Option ℤ)) → slice_get es j ≡ Some e
     → row_found es (key_view e.0) ≡ Some e.1
-row_there es once j e at =
+row_once es once j e at =
     let show : List KeyPart × List (Option ℤ) → List (Option KeyValue) × List (Option ℤ) =
     λ f. (key_view f.0, f.1) in
     sym (shown_lookup (key_view e.0) es)
     ∙ lookup_from_place key_equiv (shown_entries es) j (key_view e.0) e.1
-    (distinct_once es once) (slice_get-map show es j ∙ ap (option_map show) at)
+    once (slice_get-map show es j ∙ ap (option_map show) at)
+
+pub row_there : (es : List (List KeyPart × List (Option ℤ))) → IsOnceAt es
+    → (j : ℕ) (e : List KeyPart × List (Option ℤ)) → slice_get es j ≡ Some e
+    → row_found es (key_view e.0) ≡ Some e.1
+row_there es once = row_once es (distinct_once es once)
 
 -- ---- keys beside rows
 
@@ -106,7 +91,7 @@ keyed_from [] cs (suc i) e = refl
 keyed_from (k ∷ ks) [] (suc i) e = absurd (omega (arith, e))
 keyed_from (k ∷ ks) (c ∷ cs) (suc i) e = keyed_from ks cs i (omega (arith, e))
 
-keyed_more : (ks : List (List KeyPart)) (cs : List (List (Option ℤ))) (k : List KeyPart)
+pub keyed_more : (ks : List (List KeyPart)) (cs : List (List (Option ℤ))) (k : List KeyPart)
     (c : List (Option ℤ)) → length ks ≡ length cs
     → keyed (ks ++ k ∷ []) (cs ++ c ∷ []) ≡ keyed ks cs ++ (filled k, c) ∷ []
 unfolding keyed

@@ -1,10 +1,10 @@
+pub mod Common
 pub mod OwnKeyLemmas
 pub mod GroupKeys
 pub mod Contents
 pub mod Totals
 pub mod Rooms
 pub mod CutRows
-pub mod FlatRows
 pub mod GivenRows
 pub mod GivenGroups
 pub mod SmallNumbers
@@ -15,7 +15,6 @@ pub mod ContentMade
 pub mod ContentMore
 pub mod MergedCells
 pub mod Merging
-pub mod MergedPuts
 pub mod Bases
 pub mod Tries
 pub mod Passes
@@ -24,7 +23,6 @@ pub mod KeyedRows
 pub mod ListedRows
 pub mod MergedRows
 pub mod AllRows
-pub mod PutsBeside
 pub mod Worked
 pub mod SpanPlaces
 pub mod PlacedCells

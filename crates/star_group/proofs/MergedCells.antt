@@ -1,8 +1,6 @@
 -- The turns of the loops over the aggregates of rows that are merged.
-use Rattle.std.specs.Prelude.{◌≡◌, ℕ, ◌<◌, ◌≤◌, ℤ, pos, List, Option, Some, None, length, slice_index_or}
-use Rattle.star_schema.specs.declared.group.Aggregate.{Aggregate}
-use Rattle.star_schema.specs.declared.group.Aggregate.TheVariants.{Count}
-use Rattle.star_group.specs.Private.Merged.{cell_of_one_put, merged_at}
+use Rattle.star_group.proofs.Common.{ℕ, ℤ, pos, List, Option, Some, None, length, slice_index_or, Aggregate, Count, cell_of_one_put, merged_at}
+use Rattle.std.specs.Prelude.{◌≡◌, ◌<◌, ◌≤◌}
 
 -- the places below i of a row are merged, and the others are as they were
 pub record MergedBelow (gs : List Aggregate) (held more row : List (Option ℤ)) (i : ℕ) :

@@ -1,27 +1,8 @@
 -- One more row merged into those of some keys.
-use Rattle.std.proofs.Common.{◌≡◌, ◌⊎◌, inl, inr, ℕ, zero, suc, ◌+◌, ◌<◌, Bool, true, false, ◌||◌, ℤ, List, [], ◌∷◌, Option, Some, None, length, get_or, take, map, MatchBool, ap, sym, ◌∙◌, subst, refl, true≢false, arith}
-use Rattle.std.specs.List.{list_any, IsDistinct}
-use Rattle.std.specs.Option.{unwrap_or}
-use Rattle.std.proofs.lemmas.List.{get_or-map, length-map}
-use Rattle.std.proofs.lemmas.List.Folds.{list_any_at, list_any_more}
-use Rattle.std.proofs.lemmas.Map.Keys.{apart_from_distinct, IsDistinct-tail}
-use Rattle.std.proofs.lemmas.Bool.{or_parts}
-use Rattle.star_schema.specs.declared.group.Aggregate.{Aggregate}
-use Rattle.star_program.specs.declared.key.KeyValue.{KeyValue}
-use Rattle.star_group.specs.declared.keyed.key.KeyPart.{KeyPart}
-use Rattle.star_group.specs.declared.keyed.KeyedRows.{KeyedRows}
-use Rattle.star_group.specs.declared.keyed.trie.Place.{Place}
-use Rattle.star_group.specs.declared.keyed.trie.Place.TheVariants.{Held, Missing}
-use Rattle.star_group.specs.Base.{key_view, row_found}
-use Rattle.star_group.specs.Entries.{entries_of}
-use Rattle.star_group.specs.Keyed.{filled}
-use Rattle.star_group.specs.OwnKeys.{key_eq}
-use Rattle.star_group.specs.Private.Merged.{IsMergedAt, IsMergedInto, MergeLeaves, MergeStays, RowsStay}
-use Rattle.star_group.specs.Private.Numbers.{AreNarrow, IsGrown, IsNarrow, IsPlace, IsPlaceAmong, IsRowWithin, keys_in}
-use Rattle.star_group.specs.Private.Tries.{IsHeld, IsMissing}
-use Rattle.star_group.specs.Private.Rows.{AllStay, MergesAll, SomeLeaves}
+use Rattle.std.proofs.Common.{◌≡◌, ◌⊎◌, inl, inr, ℕ, zero, suc, ◌+◌, ◌<◌, Bool, true, false, ◌||◌, ℤ, List, [], ◌∷◌, Option, Some, None, length, get_or, take, map, MatchBool, ap, sym, ◌∙◌, subst, refl, true≢false, arith, ◌*◌}
+use Rattle.star_group.proofs.Common.{list_any, IsDistinct, unwrap_or, get_or-map, length-map, list_any_at, list_any_more, apart_from_distinct, IsDistinct-tail, or_parts, Aggregate, KeyValue, KeyPart, KeyedRows, key_view, row_found, entries_of, filled, key_eq, IsMergedAt, IsMergedInto}
+use Rattle.star_group.proofs.Common.{MergeLeaves, MergeStays, RowsStay, AreNarrow, HasSpace, IsGrown, IsNarrow, keys_in, suc-mul, zero-mul, AllStay, MergesAll, SomeLeaves, length-cut}
 use Rattle.star_group.proofs.Bases.{other_row, own_row}
-use Rattle.star_program.proofs.Rows.{length-cut}
 use Rattle.star_group.proofs.GroupKeys.{key_decides, key_equiv}
 use Rattle.star_group.proofs.KeyedRows.{entry_at, row_count}
 
@@ -136,32 +117,27 @@ module _ (own : List (List (Option KeyValue))) (i : ℕ) (key : List (Option Key
               (subst (λ found. IsMergedInto gs more found (row_found fs key)) found_here
               (own_row gs key more es fs at key refl))
 
--- ---- places of rows
-
--- the places of the rows of the first i keys
-pub record PlacesBelow (rows : KeyedRows) (keys : List (List KeyPart)) (places : List Place)
-    (i : ℕ) : Type 0 where
-  pub many : length places ≡ i
-  pub each : (index : ℕ) → index < i
-      → IsPlace rows (get_or keys index []) (get_or places index (Held 0))
-
 pub narrow_at : (width : ℕ) (keys : List (List KeyPart)) (i : ℕ) (d : List KeyPart)
     → i < length keys → AreNarrow width keys → IsNarrow width (get_or keys i d)
 narrow_at width [] i d h are = absurd (omega (arith, h))
 narrow_at width (key ∷ keys) zero d h are = are.0
 narrow_at width (key ∷ keys) (suc i) d h are = narrow_at width keys i d (omega (arith, h)) are.1
 
-module _ (rows : KeyedRows) where
-  pub place_in : (key : List KeyPart) (place : Place) → IsPlace rows key place
-      → IsRowWithin rows place
-  place_in key (Missing node digit) is = tt
-  place_in key (Held number) held =
-      omega (
-        arith,
-        held.within,
-        length-cut rows.trie.width rows.trie.len rows.trie.keys.items,
-        row_count rows,
-      )
+-- room for some rows is room for one
+pub fewer_space : (rows : KeyedRows) (count : ℕ) → 0 < count → HasSpace rows count
+    → HasSpace rows 1
+fewer_space rows zero some space = absurd (omega (arith, some))
+fewer_space rows (suc n) some space = record {
+  trie = record {
+    keys = omega (arith, space.trie.keys, suc-mul n rows.trie.width, one rows.trie.width);
+    links = omega (arith, space.trie.links);
+    nodes = omega (arith, space.trie.nodes);
+  };
+  cells = omega (arith, space.cells, suc-mul n rows.aggregate_count, one rows.aggregate_count);
+}
+  where
+    one : (w : ℕ) → 1 * w ≡ w
+    one w = omega (arith, suc-mul 0 w, zero-mul w)
 
 -- ---- rows that have grown
 
@@ -172,8 +148,6 @@ grown_same rows = record {
   held =
       λ key number h. h;
   more = omega arith;
-  keys = λ e. refl;
-  links = λ e. refl;
 }
 
 -- a row keeps its key
@@ -199,24 +173,4 @@ grown_more a b c ab bc = record {
   };
   held = λ key number is. bc.held key number (ab.held key number is);
   more = omega (arith, ab.more, bc.more);
-  keys = λ same. bc.keys (omega (arith, same, ab.more, bc.more))
-      ∙ ab.keys (omega (arith, same, ab.more, bc.more));
-  links = λ same. bc.links (omega (arith, same, ab.more, bc.more))
-      ∙ ab.links (omega (arith, same, ab.more, bc.more));
 }
-
--- a place is the same among rows that have grown, as long as there are no more
-pub place_among : (old new : KeyedRows) (count : ℕ) (key : List KeyPart) (place : Place)
-    → IsGrown old new → old.trie.len ≡ count
-    → IsPlace old key place → IsPlaceAmong new count key place
-place_among old new count key (Held number) grown all is =
-    subst (λ w. IsHeld (keys_in new) (take w key) number) (sym grown.widths.width)
-    (grown.held (take old.trie.width key) number is)
-place_among old new count key (Missing node digit) grown all is = λ same.
-    let all_same = same ∙ sym all in
-    subst (λ w. IsMissing w (keys_in new) new.trie.links.items (take w key) node digit)
-    (sym grown.widths.width)
-    (subst (λ ks. IsMissing old.trie.width ks new.trie.links.items (take old.trie.width key) node
-    digit) (sym (grown.keys all_same))
-    (subst (λ ls. IsMissing old.trie.width (keys_in old) ls (take old.trie.width key) node digit)
-    (sym (grown.links all_same)) is))

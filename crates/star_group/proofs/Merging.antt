@@ -1,15 +1,7 @@
 -- Aggregates over puts where some pass one test and the others another.
 use Rattle.std.proofs.Common.{◌≡◌, ℕ, Bool, true, false, ◌&&◌, ◌||◌, ℤ, pos, List, [], ◌∷◌, Option, Some, None, cond, ap, sym, ◌∙◌, refl, subst, true≢false}
-use Rattle.std.specs.List.{list_any, filter, AllByRecursion}
-use Rattle.star_schema.specs.declared.group.Aggregate.{Aggregate}
-use Rattle.star_schema.specs.declared.group.Aggregate.TheVariants.{Sum, Count, Min, Max}
-use Rattle.star_schema.specs.Groups.{numbers_for}
-use Rattle.star_group.specs.Base.{HasAggregates, IsRowOver}
-use Rattle.star_group.specs.Cells.{held, step}
-use Rattle.star_group.specs.Held.{has_puts}
-use Rattle.star_group.specs.Private.Merged.{merged_total, cell_of_one_put, merged, IsMerged, IsMergedInto, IsRowOfOnePut}
-use Rattle.star_program.specs.Puts.{Update, aggregate_at}
-use Rattle.star_group.specs.Stores.{Group, put_number}
+use Rattle.star_group.proofs.Common.{list_any, filter, AllByRecursion, Aggregate, Sum, Count, Min, Max, numbers_for, HasAggregates, IsRowOver, step, has_puts, merged_total, cell_of_one_put, merged, IsMerged, IsMergedInto, IsRowOfOnePut, Update, aggregate_at, Group, put_number}
+use Rattle.star_group.specs.Cells.{held}
 use Rattle.star_group.proofs.ContentByKeys.{plus_comm, plus_assoc, least_comm, least_assoc, greatest_comm, greatest_assoc}
 
 -- ---- the operations

@@ -1,22 +1,10 @@
 -- How the keys of an update's rows are made.
-use Rattle.std.proofs.Common.{◌≡◌, ℕ, zero, suc, ◌+◌, ◌<◌, ◌≤◌, Bool, true, false, not, ◌&&◌, ◌||◌, cond, true≢false, List, [], ◌∷◌, ◌++◌, Option}
+use Rattle.std.proofs.Common.{◌≡◌, ℕ, zero, suc, ◌+◌, ◌<◌, ◌≤◌, Bool, true, false, not, ◌&&◌, cond, true≢false, List, [], ◌∷◌, ◌++◌, Option}
 use Rattle.std.proofs.Common.{Some, None, take, drop, set, length, get_or, map, ap, sym, ◌∙◌, refl, arith, append_assoc, take-append-drop}
-use Rattle.std.specs.List.{AllByRecursion, IsDistinct, filter, list_all, list_any}
-use Rattle.std.specs.Cmp.Lexicographic.{options_equiv}
-use Rattle.star_program.specs.contracts.key.KeyValueEq.TheImpl.Laws.{laws-law}
-use Rattle.std.specs.Option.{is_none, is_some}
-use Rattle.star_schema.specs.declared.group.Shape.TheVariants.{Rollup}
-use Rattle.star_schema.specs.Groups.{is_grouping}
-use Rattle.std.proofs.Math.Seq.{drop-cons, take-suc}
-use Rattle.std.proofs.Math.ListN.{get_or-append}
-use Rattle.std.proofs.lemmas.Bool.{false_from_ne_true}
-use Rattle.std.proofs.lemmas.List.Elements.{All-append, All-from_recursion, filter-append, recursion_from_All}
-use Rattle.std.proofs.lemmas.List.{map-append, map-set}
-use Rattle.star_program.specs.declared.key.KeyValue.{KeyValue}
-use Rattle.star_group.specs.declared.keyed.key.KeyPart.{KeyPart}
-use Rattle.star_group.specs.declared.keyed.key.KeyPart.TheVariants.{All}
-use Rattle.star_group.specs.Base.{key_view, key_value_view}
-use Rattle.star_group.specs.OwnKeys.{key_eq, padded, vary}
+use Rattle.star_group.proofs.Common.{AllByRecursion, filter, list_all, options_equiv, laws-law, is_none, is_some, Rollup, is_grouping, drop-cons, take-suc, get_or-append, false_from_ne_true, All-append, All-from_recursion, filter-append, recursion_from_All, map-append, map-set}
+use Rattle.star_group.proofs.Common.{KeyValue, KeyPart, All, key_view, key_value_view, key_eq}
+use Rattle.std.specs.List.{IsDistinct}
+use Rattle.star_group.specs.OwnKeys.{padded, vary}
 
 pub padded-set : (n : ℕ) (ks : List KeyValue) (i : ℕ) (d : KeyValue) → i < length ks → length ks ≤ n
     → set (padded n (take i ks)) i (Some (get_or ks i d)) ≡ padded n (take (suc i) ks)
@@ -83,28 +71,6 @@ unfolding padded
 all_padded = refl
 
 -- ---- keys of rows
-
-pub length-key : (key : List KeyPart) → length (key_view key) ≡ length key
-length-key [] = refl
-length-key (part ∷ key) = ap suc (length-key key)
-
--- some part is shown where the key is not that of all puts
-pub shows_key : (n : ℕ) (key : List KeyPart) → length key ≡ n
-    → list_any (λ part. is_some (key_value_view part)) key
-    ≡ not (key_eq (key_view key) (padded n []))
-unfolding padded
-shows_key zero [] long = refl
-shows_key zero (part ∷ key) long = absurd (omega (arith, long))
-shows_key (suc n) [] long = absurd (omega (arith, long))
-shows_key (suc n) (part ∷ key) long =
-    by (key_value_view part) (shows_key n key (omega (arith, long)))
-  where
-    by : (v : Option KeyValue)
-        → list_any (λ p. is_some (key_value_view p)) key ≡ not (key_eq (key_view key) (padded n []))
-        → (is_some v || list_any (λ p. is_some (key_value_view p)) key)
-        ≡ not (key_eq (v ∷ key_view key) (None ∷ padded n []))
-    by None rest = rest
-    by (Some k) rest = refl
 
 -- one key more, with ALL at a place, where it passes
 pub next_hidden : (P : List KeyPart → Bool) (p i : ℕ) (xs now : List (List KeyPart))

@@ -1,25 +1,11 @@
 -- What stands at places, with the numbers of more puts.
 use Rattle.std.proofs.Common.{◌≡◌, ◌≢◌, ℕ, zero, suc, ◌-◌, ◌<◌, ◌≤◌, ◌^◌, Bool, true, false, nat_eq, nat_lt, cond, FitsSigned, w64, ℤ, pos}
 use Rattle.std.proofs.Common.{negsuc, ◌+ℤ◌, List, ◌∷◌, Option, Some, None, length, get_or, set, refl, ap, sym, ◌∙◌, arith, true≢false}
-use Rattle.std.specs.List.{filter}
-use Rattle.std.specs.Option.{option_eq, unwrap_or}
-use Rattle.std.proofs.lemmas.Bool.{eqb-true, eq-eqb, lt-ltb, ltb-false, ltb-true}
-use Rattle.std.proofs.lemmas.Int.{ints, int_min_is, int_max_is}
-use Rattle.std.proofs.lemmas.List.{get_or-set_same, get_or-set_other, get_or_past, length-set}
-use Rattle.star_schema.specs.declared.group.Aggregate.{Aggregate}
-use Rattle.star_schema.specs.declared.group.Aggregate.TheVariants.{Sum, Count, Min, Max}
-use Rattle.star_schema.specs.Groups.{numbers_for}
+use Rattle.star_group.proofs.Common.{filter, option_eq, unwrap_or, eqb-true, eq-eqb, lt-ltb, ltb-false, ltb-true, ints, int_min_is, int_max_is, get_or-set_same, get_or-set_other, get_or_past, length-set, Aggregate, Sum, Count, Min, Max, numbers_for, KeyValue, leaves, Update, aggregate_at}
+use Rattle.star_group.proofs.Common.{Span, puts_after, step, has_puts, AreAt, cell_over, neutral, is_at, cell_place, AreWithin, CanTake, column_after, taking, Group, HasRoom, put_number}
 use Rattle.star_interval.specs.Range.{is_i64}
-use Rattle.star_program.specs.declared.key.KeyValue.{KeyValue}
-use Rattle.star_program.specs.Puts.{leaves, Update, aggregate_at}
-use Rattle.star_group.specs.declared.placed.span.Span.{Span}
-use Rattle.star_group.specs.Batches.{puts_after}
-use Rattle.star_group.specs.Cells.{held, step}
-use Rattle.star_group.specs.Held.{has_puts}
-use Rattle.star_group.specs.ByPlace.{AreAt, cell_over, neutral}
-use Rattle.star_group.specs.Places.{is_at, cell_place}
-use Rattle.star_group.specs.Private.Taken.{AreWithin, CanTake, after_rows, column_after, taking}
-use Rattle.star_group.specs.Stores.{Group, HasRoom, put_number}
+use Rattle.star_group.specs.Cells.{held}
+use Rattle.star_group.specs.Private.Taken.{after_rows}
 use Rattle.star_group.proofs.Rooms.{held_stays}
 
 -- ---- the puts at a place

@@ -1,40 +1,10 @@
 -- The rows of a plain group, one after another: those beside the places, and that of each place.
-use Rattle.std.proofs.Common.{◌≡◌, ℕ, zero, suc, ◌*◌, ◌<◌, ◌≤◌, Bool, true, false, ◌&&◌, ◌||◌, nat_lt, cond, ℤ, pos, List, [], ◌∷◌, ◌++◌, Option, Some, None, length, map, take, get_or, refl, ap, sym, ◌∙◌, subst, arith, true≢false}
-use Rattle.std.specs.List.{filter, list_any, AllByRecursion, IsDistinct}
-use Rattle.std.specs.Map.{keys_of}
-use Rattle.std.specs.Option.{unwrap_or}
-use Rattle.std.proofs.lemmas.Bool.Decides.{nat_tests}
-use Rattle.std.proofs.lemmas.Map.Keys.{IsDistinct-push}
-use Rattle.star_common.proofs.Members.{at_each, of_each}
-use Rattle.star_schema.specs.declared.group.Aggregate.{Aggregate}
-use Rattle.star_schema.specs.declared.group.Aggregate.TheVariants.{Count}
-use Rattle.star_schema.specs.declared.group.Shape.{Shape}
-use Rattle.star_schema.specs.declared.group.Shape.TheVariants.{Plain}
-use Rattle.star_schema.specs.Groups.{is_grouping, numbers_for}
-use Rattle.star_program.specs.declared.key.KeyValue.{KeyValue}
-use Rattle.star_program.specs.Puts.{Update, aggregate_at}
-use Rattle.star_program.specs.Rows.{cut}
-use Rattle.star_group.specs.declared.keyed.key.KeyPart.{KeyPart}
-use Rattle.star_group.specs.declared.placed.span.Span.{Span}
-use Rattle.star_group.specs.Base.{HasAggregates, IsRowOver, key_view, puts_with, row_found}
-use Rattle.star_group.specs.ByPlace.{IsPlaced}
-use Rattle.star_group.specs.Cells.{held}
-use Rattle.star_group.specs.Held.{has_puts}
-use Rattle.star_group.specs.OwnKeys.{key_eq, padded}
-use Rattle.star_group.specs.Places.{cell_place, is_at, places}
-use Rattle.star_group.specs.Private.BasePut.{group_with}
-use Rattle.star_group.specs.Private.Coarser.{AreOnce, shown_entries}
-use Rattle.star_group.specs.Private.Given.{if_given, row_given, rows_given}
-use Rattle.star_group.specs.Private.Merged.{IsMerged, IsMergedAt, merged}
-use Rattle.star_group.specs.Private.PlacedPut.{IsListed}
-use Rattle.star_group.specs.Private.Rows.{is_row_key}
-use Rattle.star_group.specs.StoreRows.{AreRows}
-use Rattle.star_group.specs.Stores.{Group}
-use Rattle.star_group.proofs.AllRows.{are_rows, base_rolled, holds_all}
-use Rattle.star_group.proofs.GroupKeys.{key_decides, key_equiv, padded_keys}
+use Rattle.std.proofs.Common.{◌≡◌, ℕ, suc, ◌*◌, ◌<◌, ◌≤◌, Bool, true, false, ◌&&◌, ◌||◌, nat_lt, cond, ℤ, pos, List, [], ◌∷◌, ◌++◌, Option, Some, None, length, map, take, get_or, refl, ap, sym, ◌∙◌, subst, arith, true≢false}
+use Rattle.star_group.proofs.Common.{filter, list_any, AllByRecursion, IsDistinct, keys_of, unwrap_or, nat_tests, IsDistinct-push, at_each, of_each, Aggregate, Shape, Plain, KeyValue, Update, cut, KeyPart, Span, AreGrouped, IsRowOver, key_view, puts_with, row_found, IsPlaced}
+use Rattle.star_group.proofs.Common.{has_puts, is_of_put, key_eq, padded, cell_place, is_at, places, group_with, AreOnce, shown_entries, IsMerged, IsMergedAt, IsListed, Group}
+use Rattle.star_group.proofs.GroupKeys.{key_decides, key_equiv, padded_keys, plain_among}
 use Rattle.star_group.proofs.KeyedRows.{row_more}
-use Rattle.star_group.proofs.OwnKeyLemmas.{all_padded}
-use Rattle.star_group.proofs.Passes.{AreOver}
+use Rattle.star_group.proofs.Passes.{AreOver, filter_same}
 use Rattle.star_group.proofs.PlacedCells.{puts_there}
 use Rattle.star_group.proofs.PlacedRows.{below_place, fill_end, fill_more, fill_skip, fill_start, in_row, is_below, own_place}
 
@@ -187,58 +157,19 @@ module _ (gs : List Aggregate) (spans : List Span) (seen : List Bool) (cells : L
               is,
         )
 
--- ---- the rows of a plain group, of which only one without keys shows the total
+-- ---- the rows of a plain group are those of its keys
 
-totals : (ℕ → Option ℤ) → ℕ → List (Option ℤ)
-totals f zero = []
-totals f (suc n) = f 0 ∷ totals (λ p. f (suc p)) n
-
-total_at : (f : ℕ → Option ℤ) (n p : ℕ) → p < n → get_or (totals f n) p None ≡ f p
-unfolding totals
-total_at f zero p h = absurd (omega (arith, h))
-total_at f (suc n) zero h = refl
-total_at f (suc n) (suc p) h = total_at (λ q. f (suc q)) n p (omega (arith, h))
-
-no_total : (n : ℕ) (gs : List Aggregate) (a b : List (Option ℤ))
-    (es : List (List (Option KeyValue) × List (Option ℤ)))
-    → rows_given Plain (suc n) gs a es ≡ rows_given Plain (suc n) gs b es
-unfolding rows_given
-no_total n gs a b es =
-    let hides : is_grouping Plain (take (suc n) (padded 6 [])) ≡ false =
-    ap (λ ks. is_grouping Plain (take (suc n) ks)) all_padded in
-    ap (λ g. if_given g (suc n) gs (padded 6 [], a)
-    ++ map (row_given (suc n) gs) (filter (λ e. is_row_key Plain (suc n) e.0) es)) hides
-    ∙ sym (ap (λ g. if_given g (suc n) gs (padded 6 [], b)
-    ++ map (row_given (suc n) gs) (filter (λ e. is_row_key Plain (suc n) e.0) es)) hides)
-
-module _ (gs : List Aggregate) (count : ℕ) (fs : List (List KeyPart × List (Option ℤ)))
-    (total : List (Option ℤ)) (puts : List Update) (few : count ≤ 6)
-    (fit : AllByRecursion (λ put. length put.keys ≡ count) puts) (once : AreOnce fs)
-    (rows : (q : List (Option KeyValue))
-    → IsRowOver (group_with Plain count gs) (puts_with q puts) (row_found fs q)) where
-  abbrev d : Group
-  d = group_with Plain count gs
-
-  with_sums : (sums : List (Option ℤ)) → HasAggregates d puts sums
-      → AreRows d puts (rows_given Plain count gs sums (shown_entries fs))
-  with_sums sums has =
-      are_rows d puts fs sums few once (holds_all d puts fs sums few
-      (base_rolled d fs sums puts few (record { fit = fit; rows = rows; total = has })) has)
-
-  own_sums : List (Option ℤ)
-  own_sums = totals (λ p. held (aggregate_at gs p) (numbers_for p puts)) (length gs)
-
-  pub plain_rows : (count ≡ 0 → HasAggregates d puts total)
-      → AreRows d puts (rows_given Plain count gs total (shown_entries fs))
-  unfolding own_sums
-  plain_rows sums = by count refl
-    where
-      by : (n : ℕ) → count ≡ n
-          → AreRows d puts (rows_given Plain count gs total (shown_entries fs))
-      by zero e = with_sums total (sums e)
-      by (suc n) e = subst (AreRows d puts)
-          (subst (λ k. rows_given Plain k gs own_sums (shown_entries fs)
-          ≡ rows_given Plain k gs total (shown_entries fs)) (sym e)
-          (no_total n gs own_sums total (shown_entries fs)))
-          (with_sums own_sums (λ p h.
-          total_at (λ q. held (aggregate_at gs q) (numbers_for q puts)) (length gs) p h))
+pub plain_grouped : (gs : List Aggregate) (count : ℕ) (fs : List (List KeyPart × List (Option ℤ)))
+    (puts : List Update) → count ≤ 6 → AllByRecursion (λ put. length put.keys ≡ count) puts
+    → ((q : List (Option KeyValue))
+    → IsRowOver (group_with Plain count gs) (puts_with q puts) (row_found fs q))
+    → AreGrouped (group_with Plain count gs) fs puts
+plain_grouped gs count fs puts few fit rows = record {
+  fit = fit;
+  rows = λ q. subst (λ ps. IsRowOver (group_with Plain count gs) ps (row_found fs q))
+      (filter_same (λ u. key_eq q (padded 6 u.keys)) (λ u. is_of_put Plain u.keys q) puts
+      (of_each (λ u. key_eq q (padded 6 u.keys) ≡ is_of_put Plain u.keys q) puts
+      (λ u c. sym (plain_among u.keys q
+      (omega (arith, few, at_each (λ w. length w.keys ≡ count) puts u fit c))))))
+      (rows q);
+}

@@ -1,29 +1,10 @@
 -- The content of a placed store, with the puts of more rows.
 use Rattle.std.proofs.Common.{◌≡◌, ℕ, zero, suc, ◌+◌, ◌*◌, ◌<◌, ◌≤◌, Bool, true, false, nat_eq, cond, ℤ, pos, List, [], ◌∷◌, Option, Some, None, Result, Ok, Err, OnOk, OnErr, length, get_or, replicate, refl, ap, sym, ◌∙◌, subst, arith}
-use Rattle.std.specs.List.{filter, AllByRecursion}
-use Rattle.std.specs.Option.{is_none, option_eq}
-use Rattle.std.proofs.lemmas.List.{get_or-replicate, length-replicate}
-use Rattle.std.proofs.Math.Logic.{∥∥₁_map}
-use Rattle.star_schema.specs.declared.group.Aggregate.{Aggregate}
-use Rattle.star_schema.specs.declared.group.Aggregate.TheVariants.{Count}
-use Rattle.star_schema.specs.declared.group.Shape.{Shape}
-use Rattle.star_interval.specs.Range.{is_i64}
-use Rattle.star_program.specs.declared.key.KeyValue.{KeyValue}
-use Rattle.star_program.specs.Rows.{cut}
-use Rattle.star_group.specs.declared.batch.PutBatch.{PutBatch}
-use Rattle.star_group.specs.declared.keyed.key.KeyPart.{KeyPart}
-use Rattle.star_group.specs.declared.placed.span.Span.{Span}
-use Rattle.star_group.specs.Base.{HasAggregates, IsBase, IsRowOver, puts_with, row_found}
-use Rattle.star_group.specs.Batches.{HasRoomForRows, puts_after, put_in}
+use Rattle.star_group.proofs.Common.{filter, AllByRecursion, is_none, option_eq, get_or-replicate, length-replicate, ∥∥₁_map, Aggregate, Count, Shape, is_i64, KeyValue, cut, PutBatch, KeyPart, Span, IsBase, IsRowOver, puts_with, row_found, HasRoomForRows, puts_after, put_in, has_puts}
+use Rattle.star_group.proofs.Common.{AreAt, IsPlaced, IsPlacedWithRoom, aggregate_cells, cell_over, neutral, is_at, is_outside, cell_place, offset_of, group_with, IsRolledUp, AreAtPlaces, TakesBatch, TakesPlacedPut, AreCellsTaken, AreWithin, CanTakeAll, after_rows, batch_lanes}
+use Rattle.star_group.proofs.Common.{column_after, lanes_of, Update, aggregate_at, Group, HasRoom, put_number}
 use Rattle.star_group.specs.Cells.{held}
-use Rattle.star_group.specs.Held.{has_puts}
-use Rattle.star_group.specs.ByPlace.{AreAt, IsPlaced, IsPlacedWithRoom, aggregate_cells, cell_over, neutral}
-use Rattle.star_group.specs.Places.{is_at, is_outside, cell_place, offset_of}
-use Rattle.star_group.specs.Private.BasePut.{group_with}
-use Rattle.star_group.specs.Private.PlacedPut.{AreAtPlaces, TakesBatch, TakesPlacedPut}
-use Rattle.star_group.specs.Private.Taken.{AreCellsTaken, AreWithin, CanTakeAll, after_rows, batch_lanes, column_after, lanes_of}
-use Rattle.star_program.specs.Puts.{Update, aggregate_at}
-use Rattle.star_group.specs.Stores.{Group, HasRoom, put_number}
+use Rattle.star_group.proofs.AllRows.{base_rolled}
 use Rattle.star_group.proofs.CutRows.{cut_wide}
 use Rattle.star_group.proofs.PlacedCells.{IsLane, can_take, column_at, length-after_rows, seen_at}
 use Rattle.star_group.proofs.PlacedLanes.{lane_number}
@@ -284,19 +265,16 @@ module _ (shape : Shape) (count : ℕ) (hs gs : List Aggregate) (spans spans₀ 
   placed_with_room room = ∥∥₁_map room
       (λ r. (r.0, placed_parts r.0 r.1, subst (λ g. HasRoom g r.0) (sym group_same) r.2))
 
-  -- with the rows and the total of all puts
-  pub base_of : (fs : List (List KeyPart × List (Option ℤ))) (total : List (Option ℤ))
-      (us : List Update) → IsPlaced (group_with shape count hs) spans seen cells es all us
+  -- with the rows of all puts
+  pub rolled_of : count ≤ 6 → (fs : List (List KeyPart × List (Option ℤ))) (us : List Update)
+      → IsPlaced (group_with shape count hs) spans seen cells es all us
       → ((q : List (Option KeyValue))
       → IsRowOver (group_with shape (length spans₀) gs) (puts_with q us) (row_found fs q))
-      → HasAggregates (group_with shape count hs) us total
-      → IsBase (group_with shape count gs) fs total us
-  base_of fs total us placed rows sums =
-      subst (λ g. IsBase g fs total us) (λ i. group_with shape count (sym same i)) (record {
-        fit = placed.fit;
-        rows = λ q. subst (λ g. IsRowOver g (puts_with q us) (row_found fs q)) group_same (rows q);
-        total = sums;
-      })
+      → IsRolledUp (group_with shape count gs) count fs us
+  rolled_of few fs us placed rows =
+      base_rolled (group_with shape count gs) fs us few placed.fit
+      (λ q. subst (λ n. IsRowOver (group_with shape n gs) (puts_with q us) (row_found fs q)) keys
+      (rows q))
 
 pub blank_columns : (d : Group) (gs : List Aggregate) (n : ℕ) (seen : List Bool) (cells : List ℤ)
     → gs ≡ d.aggregates → n ≡ length seen

@@ -1,29 +1,8 @@
 -- The rows and the total of puts, some of which stand by their places.
 use Rattle.std.proofs.Common.{◌≡◌, ℕ, suc, ◌*◌, ◌<◌, Bool, true, false, ◌&&◌, ◌||◌, nat_eq, nat_lt, cond, ℤ, pos, List, [], ◌∷◌, Option, Some, None, length, get_or, refl, ap, sym, ◌∙◌, subst, arith, true≢false}
-use Rattle.std.specs.List.{filter, AllByRecursion}
-use Rattle.std.specs.Option.{option_eq, is_none, unwrap_or}
-use Rattle.std.proofs.Math.Bool.{Bool-set, and-false}
-use Rattle.std.proofs.Math.Logic.{∥∥₁_elim}
-use Rattle.std.proofs.lemmas.Bool.{eqb-true, lt-ltb}
-use Rattle.std.proofs.lemmas.Bool.Decides.{nat_tests}
-use Rattle.star_common.proofs.Members.{of_each}
-use Rattle.star_schema.specs.declared.group.Aggregate.{Aggregate}
-use Rattle.star_schema.specs.declared.group.Shape.{Shape}
-use Rattle.star_schema.specs.Groups.{numbers_for}
-use Rattle.star_program.specs.declared.key.KeyValue.{KeyValue}
-use Rattle.star_program.specs.Puts.{leaves, Update, aggregate_at}
-use Rattle.star_program.specs.Rows.{cut}
-use Rattle.star_group.specs.declared.keyed.key.KeyPart.{KeyPart}
-use Rattle.star_group.specs.declared.placed.span.Span.{Span}
-use Rattle.star_group.specs.Base.{HasAggregates, IsRowOver, key_view, puts_with, row_found}
+use Rattle.star_group.proofs.Common.{filter, AllByRecursion, option_eq, is_none, unwrap_or, Bool-set, and-false, ∥∥₁_elim, eqb-true, lt-ltb, nat_tests, of_each, Aggregate, Shape, numbers_for, KeyValue, leaves, Update, aggregate_at, cut, KeyPart, Span, HasAggregates, IsRowOver, key_view}
+use Rattle.star_group.proofs.Common.{puts_with, row_found, has_puts, key_eq, padded, IsPlaced, IsPlacedWithRoom, aggregate_cells, neutral, is_at, is_outside, cell_place, places, group_with, IsMerged, IsMergedAt, MergeStays, RowsStay, merged, Group, HasRoom}
 use Rattle.star_group.specs.Cells.{held}
-use Rattle.star_group.specs.Held.{has_puts}
-use Rattle.star_group.specs.OwnKeys.{key_eq, padded}
-use Rattle.star_group.specs.ByPlace.{IsPlaced, IsPlacedWithRoom, aggregate_cells, neutral}
-use Rattle.star_group.specs.Places.{is_at, is_outside, cell_place, places}
-use Rattle.star_group.specs.Private.BasePut.{group_with}
-use Rattle.star_group.specs.Private.Merged.{IsMerged, IsMergedAt, MergeStays, RowsStay, merged}
-use Rattle.star_group.specs.Stores.{Group, HasRoom}
 use Rattle.star_group.proofs.Bases.{other_row, own_row}
 use Rattle.star_group.proofs.CutRows.{cut_wide}
 use Rattle.star_group.proofs.GroupKeys.{key_decides}

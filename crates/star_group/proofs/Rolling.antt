@@ -1,35 +1,10 @@
 -- The rows with one more place that may be ALL.
-use Rattle.std.proofs.Common.{◌≡◌, ℕ, zero, suc, ◌+◌, ◌-◌, ◌<◌, ◌≤◌, Bool, true, false, not, ◌&&◌, ◌||◌, ℤ, List, [], ◌∷◌, ◌++◌, Option, Some}
+use Rattle.std.proofs.Common.{◌≡◌, ℕ, zero, suc, ◌+◌, ◌-◌, ◌<◌, ◌≤◌, Bool, true, false, ◌&&◌, ◌||◌, ℤ, List, [], ◌∷◌, ◌++◌, Option, Some}
 use Rattle.std.proofs.Common.{None, length, get_or, set, slice_get, map, take, drop, ap, sym, ◌∙◌, subst, refl, true≢false, arith, MatchBool}
-use Rattle.std.specs.List.{filter, list_any, Contains, AllByRecursion}
-use Rattle.std.proofs.lemmas.List.{append_cancel_left}
-use Rattle.std.proofs.lemmas.List.Folds.{Any-from_list_any, list_any-append, list_any-from_Any}
-use Rattle.std.proofs.lemmas.List.Elements.{filter-append}
-use Rattle.std.proofs.lemmas.Option.{slice_get-get_or}
-use Rattle.std.proofs.lemmas.Map.Entries.{place_from_lookup}
-use Rattle.std.proofs.lemmas.Map.Keys.{any_passes_from_place}
-use Rattle.std.proofs.lemmas.Map.Views.{list_any-from_Contains}
-use Rattle.star_common.proofs.Members.{at_each, of_each}
-use Rattle.star_program.specs.declared.key.KeyValue.{KeyValue}
-use Rattle.star_group.specs.declared.keyed.key.KeyPart.{KeyPart}
-use Rattle.star_group.specs.Base.{IsRowOver, key_view, row_found}
-use Rattle.star_group.specs.Held.{has_puts}
-use Rattle.star_group.specs.OwnKeys.{key_eq, padded, vary}
-use Rattle.star_group.specs.Private.Coarser.{IsMergedWhere, IsRolledUp, IsRolledUpWithRoom, NoneCoarser, RollsUp, first_finer, is_among, keys_from}
-use Rattle.star_group.specs.Private.Merged.{IsMergedAt, RowsStay}
-use Rattle.star_group.specs.Private.BasePut.{group_with}
-use Rattle.star_group.specs.Private.Rows.{is_row_key}
-use Rattle.star_schema.specs.declared.group.Aggregate.{Aggregate}
-use Rattle.star_schema.specs.declared.group.Shape.{Shape}
-use Rattle.star_schema.specs.declared.group.Shape.TheVariants.{Plain, Cube, Rollup}
-use Rattle.star_schema.specs.Groups.{is_grouping}
-use Rattle.star_schema.proofs.Groupings.{finer}
-use Rattle.std.proofs.Math.Logic.{∥∥₁_elim, ∥∥₁_map}
-use Rattle.std.proofs.Math.Bool.{Bool-set, and-or_distrib_left}
-use Rattle.std.proofs.Math.Seq.{take-length}
-use Rattle.std.proofs.lemmas.Bool.{and_parts}
-use Rattle.star_program.specs.Puts.{Update}
-use Rattle.star_group.specs.Stores.{Group}
+use Rattle.star_group.proofs.Common.{filter, list_any, Contains, AllByRecursion, append_cancel_left, Any-from_list_any, list_any-append, list_any-from_Any, filter-append, slice_get-get_or, place_from_lookup, any_passes_from_place, list_any-from_Contains, at_each, of_each, KeyValue}
+use Rattle.star_group.proofs.Common.{KeyPart, IsRowOver, key_view, row_found, has_puts, key_eq, vary, IsMergedWhere, IsRolledUp, IsRolledUpWithRoom, NoneCoarser, RollsUp, first_finer, is_among, keys_from, IsMergedAt, RowsStay, group_with, is_row_key, Aggregate, Shape, Plain, Cube, Rollup}
+use Rattle.star_group.proofs.Common.{is_grouping, finer, ∥∥₁_elim, ∥∥₁_map, Bool-set, and-or_distrib_left, take-length, and_parts, Update, Group}
+use Rattle.star_group.specs.OwnKeys.{padded}
 use Rattle.star_group.proofs.GivenGroups.{mapped}
 use Rattle.star_group.proofs.GroupKeys.{bool_same, key_decides, key_equiv}
 use Rattle.star_group.proofs.KeyedRows.{row_there}
@@ -118,33 +93,6 @@ finer_key s place count ks within few fits k b h =
     ap (is_grouping s) (ap (take count) b.is ∙ a.shown_key)
     ∙ finer s a.shown a.key a.rest (sym (ap (is_grouping s) hides) ∙ h)
 
-hide_all : (n place : ℕ) → set (padded n []) place None ≡ padded n []
-unfolding padded
-hide_all zero place = refl
-hide_all (suc n) zero = refl
-hide_all (suc n) (suc place) = ap (λ q. None ∷ q) (hide_all n place)
-
--- where a row has the coarser key, one has the key
-finer_row : (s : Shape) (place count : ℕ) (ks : List KeyValue) (within : place < count)
-    (few : count ≤ 6) → length ks ≡ count
-    → (k : List (Option KeyValue)) (b : Begins place count ks within few k)
-    → is_row_key s count (hide place k) ≡ true → is_row_key s count k ≡ true
-finer_row s place count ks within few fits k b h = by (key_eq k (padded 6 [])) refl
-  where
-    both : (not (key_eq (hide place k) (padded 6 [])) ≡ true)
-        × (is_grouping s (take count (hide place k)) ≡ true)
-    both = and_parts (not (key_eq (hide place k) (padded 6 [])))
-        (is_grouping s (take count (hide place k))) h
-
-    by : (c : Bool) → key_eq k (padded 6 []) ≡ c → is_row_key s count k ≡ true
-    by false other = ap (λ c. not c && is_grouping s (take count k)) other
-        ∙ finer_key s place count ks within few fits k b both.1
-    by true all =
-        let hides : hide place k ≡ padded 6 [] =
-        ap (hide place) ((key_decides k (padded 6 [])).0 all) ∙ hide_all 6 place in
-        absurd (true≢false (sym both.0
-        ∙ ap not ((key_decides (hide place k) (padded 6 [])).1 hides)))
-
 -- the keys of a put's rows, with one place more that may be hidden
 pub row_keys_more : (s : Shape) (place count : ℕ) (ks : List KeyValue) → place < count → count ≤ 6
     → length ks ≡ count → (xs ys : List (List (Option KeyValue)))
@@ -156,7 +104,7 @@ row_keys_more s place count ks within few fits xs ys e f =
     let G : List (Option KeyValue) → Bool = is_row_key s count in
     let left = kept_before G (hide place) own
     (of_each (λ k. G (hide place k) ≡ true → G k ≡ true) own
-    (λ k c h. finer_row s place count ks within few fits k
+    (λ k c h. finer_key s place count ks within few fits k
     (begins place count ks within few k (list_any-from_Contains key_equiv k own c)) h)) in
     f ∙ (λ i. e i ++ filter G (map (hide place) (e i))) ∙ ap (λ l. filter G own ++ l) (sym left)
     ∙ sym (filter-append G own (map (hide place) own))

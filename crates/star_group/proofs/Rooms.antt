@@ -1,24 +1,14 @@
 -- Where the sums by key list add up within 128 bits and the counts within 64, no put overflows.
 use Rattle.std.proofs.Common.{◌≡◌, ℕ, ◌<◌, ◌≤◌, ◌^◌, Bool, true, false, not, ℤ, pos, negsuc, ◌+ℤ◌, ◌≤ℤ◌, List, [], ◌∷◌, Option, Some, None, length, cond, ap, sym, ◌∙◌, refl, true≢false, arith}
-use Rattle.std.proofs.lemmas.Int.{ints}
-use Rattle.std.proofs.lemmas.Bool.{false_from_ne_true, lt-ltb}
-use Rattle.std.proofs.lemmas.List.Sums.{count_by-le-length, length-filter}
-use Rattle.std.specs.List.{filter}
-use Rattle.star_schema.specs.declared.group.Aggregate.{Aggregate}
-use Rattle.star_schema.specs.declared.group.Aggregate.TheVariants.{Sum, Count, Min, Max}
-use Rattle.star_schema.specs.Groups.{aggregate, belongs, joined, numbers_for}
+use Rattle.star_group.proofs.Common.{ints, false_from_ne_true, lt-ltb, count_by-le-length, length-filter, filter, Aggregate, Sum, Count, Min, Max, aggregate, belongs, joined, numbers_for, KeyValue, key_value_cmp, leaves, Update, overflows, aggregate_at, overflow_somewhere, Group}
+use Rattle.star_group.proofs.Common.{put_number, HasRoom}
 use Rattle.star_interval.specs.Range.{is_i64, is_i128}
-use Rattle.star_program.specs.declared.key.KeyValue.{KeyValue}
-use Rattle.star_program.specs.Keys.{key_value_cmp}
-use Rattle.star_program.specs.Puts.{leaves, Update, overflows, aggregate_at}
-use Rattle.star_program.proofs.OwnGroups.{overflow_somewhere}
 use Rattle.star_group.specs.Cells.{held}
-use Rattle.star_group.specs.Stores.{Group, put_number, above_zero, below_zero, HasRoom}
+use Rattle.star_group.specs.Stores.{above_zero, below_zero}
 use Rattle.star_group.proofs.ContentByKeys.{length-numbers, sums}
 use Rattle.star_group.proofs.ContentMade.{made, made_content}
-use Rattle.star_group.proofs.Contents.{declared}
 use Rattle.star_group.proofs.JoinedParts.{joined_more, more}
-use Rattle.star_group.proofs.Totals.{some_aggregate}
+use Rattle.star_group.proofs.Totals.{declared, some_aggregate}
 
 abbrev all_of : List ℤ → ℤ
 all_of [] = pos 0

@@ -1,19 +1,10 @@
 -- Numbers that add up within 128 bits do so by key list too; few numbers of 64 bits do.
 use Rattle.std.proofs.Common.{◌≡◌, ℕ, zero, suc, ◌+◌, ◌*◌, ◌<◌, ◌≤◌, ◌^◌, Bool, true, false, ◌&&◌, ◌||◌, ℤ, pos, negsuc, ◌+ℤ◌, List, [], ◌∷◌, Option, Some, None, length, cond, ap, sym, ◌∙◌, subst, refl, arith, true≢false}
-use Rattle.std.specs.Prelude.{All, slice_index_or}
-use Rattle.std.proofs.lemmas.Bool.{ltb-true}
-use Rattle.std.proofs.lemmas.Int.{ints}
-use Rattle.std.proofs.lemmas.List.Elements.{All-head, All-tail}
-use Rattle.std.proofs.lemmas.Map.Keys.{IsDistinct-head, IsDistinct-tail}
-use Rattle.std.specs.List.{filter, list_any, AllByRecursion, IsDistinct}
-use Rattle.std.proofs.lemmas.List.Sums.{count_by-le-length, length-filter}
-use Rattle.star_schema.specs.declared.group.Aggregate.TheVariants.{Sum}
-use Rattle.star_schema.specs.Groups.{joined, numbers_for}
+use Rattle.star_group.proofs.Common.{slice_index_or, ltb-true, ints, All-head, All-tail, IsDistinct-head, IsDistinct-tail, filter, list_any, AllByRecursion, IsDistinct, count_by-le-length, length-filter, Sum, joined, numbers_for, KeyValue, same_keys, Update, aggregate_at, Group, IsContent}
+use Rattle.star_group.proofs.Common.{key_lists, put_number, puts_of, AddUp, HasRoom}
+use Rattle.std.specs.Prelude.{All}
 use Rattle.star_interval.specs.Range.{is_i64}
-use Rattle.star_program.specs.declared.key.KeyValue.{KeyValue}
-use Rattle.star_program.specs.Keys.{same_keys}
-use Rattle.star_program.specs.Puts.{Update, aggregate_at}
-use Rattle.star_group.specs.Stores.{Group, IsContent, key_lists, put_number, puts_of, above_zero, below_zero, AddUp, HasRoom}
+use Rattle.star_group.specs.Stores.{above_zero, below_zero}
 use Rattle.star_group.proofs.ContentByKeys.{all_more, sums, told}
 use Rattle.star_group.proofs.ContentMade.{made, made_content}
 use Rattle.star_group.proofs.KeyLists.{keys_decide}

@@ -1,16 +1,8 @@
 -- Places of key lists: how many there are, and those of the last keys.
 use Rattle.std.proofs.Common.{◌≡◌, ℕ, zero, suc, ◌+◌, ◌*◌, ◌/◌, ◌%◌, ◌<◌, ◌≤◌, ◌^◌, Bool, true, false, ℤ, pos, negsuc, ◌-ℤ◌, List, [], ◌∷◌, Option, Some}
 use Rattle.std.proofs.Common.{None, IfSome, MatchOption, nat_lt, cond, ◌++◌, map, length, take, drop, drop-cons, get_or, refl, ap, sym, ◌∙◌, arith}
-use Rattle.std.proofs.Math.Nat.{mul-div-le, mul-le-mul_left, mul_assoc}
-use Rattle.std.proofs.lemmas.Bool.{ltb-false}
-use Rattle.std.proofs.lemmas.Nat.{div-mul-add, div-add-mod'}
-use Rattle.star_program.specs.declared.group.GroupKey.{GroupKey}
+use Rattle.star_group.proofs.Common.{mul-div-le, mul-le-mul_left, mul_assoc, ltb-false, div-mul-add, div-add-mod', GroupKey, KeyValue, Number, Code, Span, IsKeyWord, key_word, batch_keys, IsOf, above, offset_of, cell_place, places, place_up_to}
 use Rattle.star_program.specs.declared.group.GroupKey.TheVariants as declared
-use Rattle.star_program.specs.declared.key.KeyValue.{KeyValue}
-use Rattle.star_program.specs.declared.key.KeyValue.TheVariants.{Number, Code}
-use Rattle.star_group.specs.declared.placed.span.Span.{Span}
-use Rattle.star_group.specs.Batches.{IsKeyWord, key_word, batch_keys}
-use Rattle.star_group.specs.Places.{IsOf, above, offset_of, cell_place, places, place_up_to}
 
 -- ---- how many places there are
 

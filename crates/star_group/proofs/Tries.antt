@@ -1,19 +1,11 @@
 -- Rows found by the digits of their keys: looking one up, and one row more.
 use Rattle.std.proofs.Common.{◌≡◌, ◌≢◌, ℕ, zero, suc, ◌+◌, ◌-◌, ◌*◌, ◌/◌, ◌%◌, ◌^◌, ◌<◌, ◌≤◌, List, [], ◌∷◌, ◌++◌, Bool, true, false, MatchBool, true≢false, length}
 use Rattle.std.proofs.Common.{drop, cond, nat_lt, get_or, set, ap, sym, ◌∙◌, subst, refl, arith, rules, below_more, get_or-set_same, get_or-set_other, ◌⊎◌, inl, inr}
-use Rattle.std.proofs.lemmas.Bool.{cases_eq, cases_lt}
-use Rattle.std.proofs.lemmas.List.{at_drop_more, get_or_append_left, get_or_past, get_or_default, get_or_push, length-append, length-set}
-use Rattle.std.proofs.Math.Logic.{∥∥₁_elim, ∥∥₁_map}
-use Rattle.star_group.specs.declared.keyed.key.KeyPart.{KeyPart}
-use Rattle.star_group.specs.declared.keyed.key.KeyPart.TheVariants.{All, Number, Code}
-use Rattle.star_group.specs.contracts.keyed.key.KeyPartPartialEq.TheImpl.{eq-value}
-use Rattle.std.specs.Bool.{Decides}
-use Rattle.std.specs.Cmp.{signed_Decides, unsigned_Decides}
-use Rattle.std.specs.Cmp.Lexicographic.{pointwise}
-use Rattle.std.proofs.lemmas.Slice.Eq.{slice_eq-Decides}
+use Rattle.star_group.proofs.Common.{cases_eq, cases_lt, at_drop_more, get_or_append_left, get_or_past, get_or_default, get_or_push, length-append, length-set, ∥∥₁_elim, ∥∥₁_map, KeyPart, All, eq-value, Decides, signed_Decides, unsigned_Decides, pointwise, slice_eq-Decides, length-cut}
+use Rattle.star_group.proofs.Common.{IsHeld, IsTrie, IsMissing, Leads, child, key_at, part_digit, turn_at, word_with}
+use Rattle.star_group.specs.declared.keyed.key.KeyPart.TheVariants.{Number, Code}
 use Rattle.star_program.specs.Rows.{cut}
-use Rattle.star_program.proofs.Rows.{length-cut}
-use Rattle.star_group.specs.Private.Tries.{IsHeld, IsTrie, IsMissing, Leads, child, digit_at, key_at, node_at, part_digit, turn_at, word_from, word_with}
+use Rattle.star_group.specs.Private.Tries.{digit_at, node_at, word_from}
 
 abbrev part_eq : KeyPart → KeyPart → Bool
 part_eq = eq-value.it

@@ -1,37 +1,16 @@
 -- What cells hold, which rows a put changes, the keys and places of rows, batches, and which numbers
 -- add up, by computation; and what each relation says.
-use Rattle.std.proofs.Common.{◌≡◌, ◌↔◌, ◌<◌, ◌≤◌, ◌+◌, ◌*◌, ◌^◌, ◌-◌, ◌++◌, ◌||◌, ℕ, zero, suc, Bool, true, false, true≢false, ℤ, pos, negsuc, List, [], ◌∷◌, Option, Some, None, arith, length, map, replicate, sym, slice_index_or, refl}
+use Rattle.std.proofs.Common.{◌≡◌, ◌↔◌, ◌<◌, ◌≤◌, ◌+◌, ◌*◌, ◌^◌, ◌-◌, ◌++◌, ◌||◌, ℕ, Bool, true, false, true≢false, ℤ, pos, negsuc, List, [], ◌∷◌, Option, Some, None, arith, length, map, replicate, sym, slice_index_or, refl}
+use Rattle.star_group.proofs.Common.{Bor, AllByRecursion, IsDistinct, list_any, Gives, Gives2, Gives3, PBrand1, Sum, Count, Min, Max, Plain, Cube, Rollup, aggregate, numbers_for, GroupDecl, KeyValue, Number, Code, value_count, same_keys, IsSmall, Update, aggregate_at}
+use Rattle.star_group.proofs.Common.{PutBatch, KeyPart, Span, AreGrouped, HasAggregates, IsBase, IsRowOver, key_value_view, puts_in, puts_with, row_found, HasRoomForRows, IsKeyWord, IsPutBatch, batch_keys, key_word, put_in, puts_after, word_in, AreAt, IsPlaced, aggregate_cells, cell_over}
+use Rattle.star_group.proofs.Common.{neutral, step, has_puts, IsWithPut, is_of_put, IsOf, cell_place, is_at, is_outside, offset_of, places, AddUp, Group, HasRoom, IsContent, combined, group_declared, key_lists, put_number, puts_of}
 use Rattle.std.specs.Prelude.{All, filter}
-use Rattle.std.specs.Borrow.{Bor}
-use Rattle.std.specs.List.{AllByRecursion, IsDistinct, list_any}
-use Rattle.star_common.proofs.Tables.{Gives, Gives2, Gives3}
-use Rattle.star_schema.specs.declared.column.ColumnId.TheVariants.{PBrand1}
-use Rattle.star_schema.specs.declared.group.Aggregate.{Aggregate}
-use Rattle.star_schema.specs.declared.group.Aggregate.TheVariants.{Sum, Count, Min, Max}
-use Rattle.star_schema.specs.declared.group.Shape.TheVariants.{Plain, Cube, Rollup}
-use Rattle.star_schema.specs.Groups.{aggregate, numbers_for}
-use Rattle.star_interval.specs.Range.{is_i128}
-use Rattle.star_program.specs.declared.group.GroupDecl.{GroupDecl}
 use Rattle.star_program.specs.declared.group.GroupKey.TheVariants as declared
-use Rattle.star_program.specs.declared.key.KeyValue.{KeyValue}
-use Rattle.star_program.specs.declared.key.KeyValue.TheVariants.{Number, Code}
-use Rattle.star_program.specs.Faults.{value_count}
-use Rattle.star_program.specs.Keys.{same_keys}
-use Rattle.star_program.specs.Limits.{IsSmall}
-use Rattle.star_program.specs.Puts.{Update, aggregate_at}
-use Rattle.star_group.specs.declared.batch.PutBatch.{PutBatch}
-use Rattle.star_group.specs.declared.keyed.key.KeyPart.{KeyPart}
 use Rattle.star_group.specs.declared.keyed.key.KeyPart.TheVariants as part
-use Rattle.star_group.specs.declared.placed.span.Span.{Span}
-use Rattle.star_group.specs.Base.{HasAggregates, IsBase, IsRowOver, key_value_view, puts_with, row_found}
-use Rattle.star_group.specs.Batches.{HasRoomForRows, IsKeyWord, IsPutBatch, batch_keys, key_word, put_in, puts_after, word_in}
-use Rattle.star_group.specs.ByPlace.{AreAt, IsPlaced, aggregate_cells, cell_over, neutral}
-use Rattle.star_group.specs.Cells.{held, step}
-use Rattle.star_group.specs.Held.{HoldsPuts, IsFound, IsRow, changes, has_puts, held_at, puts_at}
-use Rattle.star_group.specs.OneMore.{IsWithPut, group_aggregate}
-use Rattle.star_group.specs.OwnKeys.{is_of_put, key_eq, padded, vary}
-use Rattle.star_group.specs.Places.{IsOf, cell_place, is_at, is_outside, offset_of, places}
-use Rattle.star_group.specs.Stores.{AddUp, Group, HasRoom, IsContent, above_zero, below_zero, combined, group_declared, key_lists, put_number, puts_of}
+use Rattle.star_group.specs.Cells.{held}
+use Rattle.star_group.specs.OneMore.{group_aggregate}
+use Rattle.star_group.specs.OwnKeys.{padded, vary}
+use Rattle.star_group.specs.Stores.{above_zero, below_zero}
 
 -- ---- cells: over no number, over a greater one and over a lesser one
 
@@ -98,7 +77,7 @@ keys_of_puts : Gives2 (λ s ks. map (is_of_put s ks) keys_asked) ((
 unfolding padded vary
 keys_of_puts = refl
 
--- ---- the rows that a put changes, its own and that of all puts, and what they hold
+-- ---- the rows that a put changes, and what they hold
 
 abbrev sales : Group
 sales = record { shape = Plain; count = 1; aggregates = Sum ∷ Max ∷ [] }
@@ -112,36 +91,33 @@ puts = sale 1 (pos 4) ∷ sale 2 (pos 5) ∷ sale 1 (pos 3) ∷ []
 abbrev row_of : ℕ → List (Option KeyValue)
 row_of n = key (Some (Code n)) None None
 
-changed : Gives (λ q. changes sales q (sale 1 (pos 4)))
-    ((row_of 1, true) ∷ (row_of 2, false) ∷ (key None None None, true) ∷ [])
-    × (puts_at sales (row_of 1) puts ≡ sale 1 (pos 4) ∷ sale 1 (pos 3) ∷ [])
+changed : Gives (λ q. is_of_put sales.shape (sale 1 (pos 4)).keys q)
+    ((row_of 1, true) ∷ (row_of 2, false) ∷ (key None None None, false) ∷ [])
+    × (puts_in sales (row_of 1) puts ≡ sale 1 (pos 4) ∷ sale 1 (pos 3) ∷ [])
     × (puts_with (row_of 1) puts ≡ sale 1 (pos 4) ∷ sale 1 (pos 3) ∷ [])
     × Gives has_puts ((puts, true) ∷ ([], false) ∷ [])
-    × Gives2 (held_at sales puts) (
-    (row_of 1, 0, Some (pos 7)) ∷ (row_of 1, 1, Some (pos 4)) ∷ (row_of 3, 0, None)
-    ∷ (key None None None, 0, Some (pos 12)) ∷ [])
+    × Gives2 (λ q place. held (aggregate_at sales.aggregates place)
+    (numbers_for place (puts_in sales q puts))) (
+    (row_of 1, 0, Some (pos 7)) ∷ (row_of 1, 1, Some (pos 4)) ∷ (row_of 3, 0, None) ∷ [])
+    × (held Sum (numbers_for 0 puts) ≡ Some (pos 12))
     × Gives key_value_view (
     (part.All, None) ∷ (part.Number (pos 7), Some (Number (pos 7))) ∷ (part.Code 2, Some (Code 2)) ∷ [])
     × Gives (row_found ((part.Code 1 ∷ part.All ∷ [], Some (pos 7) ∷ [])
     ∷ (part.Code 2 ∷ part.All ∷ [], Some (pos 5) ∷ []) ∷ [])) (
     (Some (Code 2) ∷ None ∷ [], Some (Some (pos 5) ∷ [])) ∷ (Some (Code 3) ∷ None ∷ [], None) ∷ [])
 unfolding padded held vary
-changed = (refl, refl, refl, refl, refl, refl, refl)
+changed = (refl, refl, refl, refl, refl, refl, refl, refl)
 
--- over no puts the row of all is there, and no other
-found : IsRow sales puts (row_of 3) None × (IsRow sales [] (key None None None) None → ⊥)
-    × (IsRow sales puts (row_of 1) None → ⊥)
+-- a row is there exactly where it has puts
+found : IsRowOver sales (puts_in sales (row_of 3) puts) None
+    × (IsRowOver sales (puts_in sales (row_of 1) puts) None → ⊥)
 unfolding padded vary
-found = (refl, λ h. true≢false h, λ h. true≢false h)
+found = (refl, λ h. true≢false h)
 
-module _ (d : Group) (us : List Update) (q : List (Option KeyValue)) (row : List (Option ℤ))
-    (look : List (Option KeyValue) → Option (List (Option ℤ)))
+module _ (d : Group) (us : List Update) (row : List (Option ℤ))
     (entries : List (List KeyPart × List (Option ℤ))) where
-  rows : (IsFound d us q row ↔ (((key_eq q (padded 6 []) || has_puts (puts_at d q us)) ≡ true)
-      × ((place : ℕ) → place < length d.aggregates
-      → slice_index_or row place None ≡ held_at d us q place)))
-      × (HoldsPuts d look us ↔ (AllByRecursion (λ put. length put.keys ≡ d.count) us
-      × ((q : List (Option KeyValue)) → IsRow d us q (look q))))
+  rows : (AreGrouped d entries us ↔ (AllByRecursion (λ put. length put.keys ≡ d.count) us
+      × ((q : List (Option KeyValue)) → IsRowOver d (puts_in d q us) (row_found entries q))))
       × (IsRowOver d us None ≡ (has_puts us ≡ false))
       × (IsRowOver d us (Some row) ≡ ((has_puts us ≡ true) × HasAggregates d us row))
       × (HasAggregates d us row ≡ ((place : ℕ) → place < length d.aggregates
@@ -151,8 +127,7 @@ module _ (d : Group) (us : List Update) (q : List (Option KeyValue)) (row : List
       × ((q : List (Option KeyValue)) → IsRowOver d (puts_with q us) (row_found entries q))
       × HasAggregates d us row))
   rows = (
-    (λ f. (f.due, f.cells), λ h. record { due = h.0; cells = h.1 }),
-    (λ h. (h.fit, h.rows), λ h. record { fit = h.0; rows = h.1 }),
+    (λ g. (g.fit, g.rows), λ h. record { fit = h.0; rows = h.1 }),
     refl,
     refl,
     refl,

@@ -8,7 +8,7 @@ use Rattle.star_program.specs.declared.key.KeyValue.TheVariants.{Number as Numbe
 use Rattle.star_group.specs.declared.keyed.key.KeyPart.{KeyPart}
 use Rattle.star_group.specs.declared.keyed.key.KeyPart.TheVariants.{All, Number, Code}
 use Rattle.star_group.specs.Cells.{held}
-use Rattle.star_group.specs.OwnKeys.{key_eq, padded}
+use Rattle.star_group.specs.OwnKeys.{is_of_put, key_eq, padded}
 use Rattle.star_program.specs.Puts.{Update, aggregate_at}
 use Rattle.star_group.specs.Stores.{Group, HasRoom}
 use Rattle.star_group.specs.Held.{has_puts}
@@ -39,6 +39,15 @@ IsRowOver d puts (Some row) = (has_puts puts ≡ true) × HasAggregates d puts r
 -- the puts with these keys
 abbrev pub puts_with : List (Option KeyValue) → List Update → List Update
 puts_with q puts = filter (λ put. key_eq q (padded 6 put.keys)) puts
+
+-- the puts in the row with these keys
+abbrev pub puts_in : Group → List (Option KeyValue) → List Update → List Update
+puts_in d q puts = filter (λ put. is_of_put d.shape put.keys q) puts
+
+-- a row for each grouping of the keys of a put
+pub record AreGrouped (d : Group) (entries : List (List KeyPart × List (Option ℤ))) (puts : List Update) : Type 0 where
+  pub fit : AllByRecursion (λ put. length put.keys ≡ d.count) puts
+  pub rows : (q : List (Option KeyValue)) → IsRowOver d (puts_in d q puts) (row_found entries q)
 
 -- a row for each key list that was put, and the total
 pub record IsBase (d : Group) (entries : List (List KeyPart × List (Option ℤ))) (all : List (Option ℤ)) (puts : List Update) : Type 0 where

@@ -1,7 +1,6 @@
 -- What the contracts of functions that are not public cite.
 pub mod Rows
 pub mod Given
-pub mod FlatRows
 pub mod Merged
 pub mod Tries
 pub mod Numbers

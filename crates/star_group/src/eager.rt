@@ -9,29 +9,22 @@ mod store;
 use crate::cell::Total;
 use crate::keyed::KeyedRows;
 use crate::keyed::key::OrderedKey;
-use crate::keyed::trie::Place;
-use crate::row_cache::RowCache;
 use star_schema::{Aggregate, Shape};
-use std::alloc::Global;
 
 /// The rows of a group and the row of all puts, each up to date after every put. The keys stand in
 /// a trie of their digits, so that no keys are slow to find.
 ///
-/// A put changes the row of all puts, which stands by itself, and beside it in a plain group the row
-/// of its keys, in a cube that of each subset of them and in a rollup that of each prefix. Rows of
-/// plain groups that were made lately are mostly found with one look.
+/// A put changes the row of all puts, which stands by itself, and in a plain group the row of its
+/// keys, in a cube that of each subset of them and in a rollup that of each prefix.
 #[derive(Drop)]
 pub struct EagerStore {
-    alloc: Global,
     shape: Shape,
     key_count: usize,
     aggregates: Vec<Aggregate>,
     rows: KeyedRows,
-    row_cache: RowCache,
     total: Total,
-    // Where rows hide keys: the keys of a put's rows beside the total, and where they are.
+    // The keys of a put's rows.
     row_keys: Vec<OrderedKey>,
-    places: Vec<Place>,
     ghost wide: { key_count ≤ rows.trie.width },
     ghost aggregate_count: { rows.aggregate_count ≡ vec_len aggregates },
 }

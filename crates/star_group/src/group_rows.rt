@@ -1,15 +1,23 @@
-// The rows that a store gives in the end, in flat storage.
+// The rows that a store gives in the end.
 
-ghost use Rattle.std.specs.Prelude.{◌≡◌, ◌<◌, ◌+◌, ◌*◌, ◌++◌, ◌∷◌, [], List, None, length, slice_index_or, if◌then◌else◌, IfOk, OnOk, ℕ};
-ghost use Rattle.star_program.specs.Rows.{cut};
-ghost use Rattle.star_group.specs.Private.FlatRows.{AreParts, HasWidths};
-ghost use Rattle.star_group.specs.StoreRows.{row_at};
-ghost use Rattle.star_group.specs.declared.group_row.GroupRow.{GroupRow as Row};
+ghost use Rattle.std.specs.Prelude.{◌≡◌, ◌≤◌, ◌&&◌, List, None, length, map, nat_eq, slice_index_or, take, true, IfOk};
+ghost use Rattle.star_schema.specs.Groups as groups;
+ghost use Rattle.star_group.specs.Base.{AreGrouped, key_view};
+ghost use Rattle.star_group.specs.Keyed.{all_hidden};
+ghost use Rattle.star_group.specs.Private.BasePut.{group_with};
+ghost use Rattle.star_group.specs.Private.Coarser.{AreOnce};
+ghost use Rattle.star_group.specs.Private.Given as spec;
+ghost use Rattle.star_group.specs.Private.Listed.{listed_entries};
+ghost use Rattle.star_group.specs.StoreRows.{AreRows, row_at};
+ghost use Rattle.star_program.specs.Puts.{Update};
 
-use crate::cell::Held;
-use crate::{GroupRow, KeyValue};
-use star_program::row_of;
-use std::alloc::{AllocError, Global};
+use crate::cell::{Held, shown};
+use crate::group_row::ALL;
+use crate::keyed::ListedRows;
+use crate::keyed::key::{ALL_HIDDEN, is_grouping, shown_key};
+use crate::{KeyValue, RowAggregates, RowKeys};
+use star_schema::{Aggregate, Shape};
+use std::alloc::AllocError;
 use std::marker::Model;
 
 /// The rows of a group, in storage as wide as its keys and aggregates are many. A contract sees the
@@ -17,59 +25,31 @@ use std::marker::Model;
 #[derive(Drop)]
 pub struct GroupRows {
     key_count: usize,
-    aggregate_count: usize,
-    len: usize,
-    keys: Vec<Option<KeyValue>>,
-    // Of the row of all puts, where it is given, which comes first, and of the rows beside it.
-    total: Vec<Option<i128>>,
-    aggregates: Vec<Held>,
+    rows: ListedRows,
+    // The aggregates over no puts, where the rows are made of none.
+    nothing: Option<RowAggregates>,
 }
 
 impl Model for GroupRows {
-    ghost use Rattle.std.specs.Prelude.{◌≡◌, ◌*◌, ◌++◌, List, length};
-    ghost use Rattle.star_group.specs.Private.FlatRows.{flat_rows};
+    ghost use Rattle.std.specs.Prelude.{◌≤◌, List, map};
+    ghost use Rattle.star_group.specs.Private.Given.{row_shown};
+    ghost use Rattle.star_group.specs.Private.Listed.{listed_entries};
     ghost use Rattle.star_group.specs.declared.group_row.GroupRow.{GroupRow as Row};
 
     ghost Value = { List Row };
 
-    ghost view = { λ rows. flat_rows rows.key_count rows.aggregate_count rows.len
-        rows.keys.items (rows.total.items ++ rows.aggregates.items) };
+    ghost view = { λ rows. map (row_shown rows.nothing rows.key_count) (listed_entries rows.rows) };
 
-    ghost invariant = { λ rows. (length rows.keys.items ≡ rows.len * rows.key_count)
-        × (length (rows.total.items ++ rows.aggregates.items) ≡ rows.len * rows.aggregate_count) };
+    ghost invariant = { λ rows. rows.key_count ≤ 6 };
 }
 
-// One of some aggregates, after which others stand.
-fn aggregate_at(first: &[Option<i128>], others: &[Held], at: usize) -> Option<i128>
-    requires { at < length (first.now ++ others.now) }
-    ensures { result ≡ slice_index_or (first.now ++ others.now) at None }
+// The aggregate at a place, where there is one.
+fn aggregate_at(aggregates: &[Option<i128>], place: usize) -> Option<i128>
+    ensures { result ≡ slice_index_or aggregates.now place None }
 {
-    if at < first.len() {
-        first[at]
-    } else {
-        Some(others[at - first.len()].number())
-    }
-}
-
-// The aggregate at a place of the row of a number, of rows of equally many aggregates, one after
-// another.
-fn aggregate_in(
-    first: &[Option<i128>],
-    others: &[Held],
-    width: usize,
-    len: usize,
-    number: usize,
-    place: usize,
-) -> Option<i128>
-    requires { length (first.now ++ others.now) ≡ len * width }
-    ensures { result ≡ slice_index_or
-        (slice_index_or (cut width len (first.now ++ others.now)) number []) place None }
-{
-    if number < len && place < width {
-        let start = number * width;
-        aggregate_at(first, others, start + place)
-    } else {
-        None
+    match aggregates.get(place) {
+        Some(aggregate) => *aggregate,
+        None => None,
     }
 }
 
@@ -78,15 +58,31 @@ impl GroupRows {
     pub fn len(&self) -> usize
         ensures { result ≡ length self.now }
     {
-        self.len
+        self.rows.len()
     }
 
     /// The keys of the row of a number from 0, in order, in which `None` is ALL; none where there
     /// is no such row.
-    pub fn keys(&self, number: usize) -> &[Option<KeyValue>]
-        ensures { result.now ≡ (row_at self.now number).keys }
+    pub fn keys(&self, number: usize) -> RowKeys
+        ensures { result ≡ (row_at self.now number).keys }
     {
-        row_of(&self.keys, self.key_count, self.len, number)
+        if number < self.rows.len() {
+            RowKeys::new(shown_key(&self.rows.key(number)), self.key_count)
+        } else {
+            RowKeys::new(ALL, 0)
+        }
+    }
+
+    /// The key at a place of the row of a number from 0, in which `None` is ALL; `None` where there
+    /// is no such place or row.
+    pub fn key(&self, number: usize, place: usize) -> Option<KeyValue>
+        ensures { result ≡ slice_index_or (row_at self.now number).keys place None }
+    {
+        if place < self.key_count {
+            self.rows.part(number, place)
+        } else {
+            None
+        }
     }
 
     /// The aggregate at a place of the row of a number from 0, in which `None` is NULL; `None` where
@@ -94,115 +90,81 @@ impl GroupRows {
     pub fn aggregate(&self, number: usize, place: usize) -> Option<i128>
         ensures { result ≡ slice_index_or (row_at self.now number).aggregates place None }
     {
-        let (width, len) = (self.aggregate_count, self.len);
-        aggregate_in(&self.total, &self.aggregates, width, len, number, place)
-    }
-}
-
-// The parts of rows while they are gathered.
-#[derive(Drop)]
-pub(crate) struct Gathered {
-    pub(crate) count: usize,
-    pub(crate) keys: Vec<Option<KeyValue>>,
-    pub(crate) total: Vec<Option<i128>>,
-    pub(crate) aggregates: Vec<Held>,
-}
-
-// These keys, where they are given, with room for `most` in all.
-fn first_keys(
-    alloc: Global,
-    most: usize,
-    given: bool,
-    first: &[Option<KeyValue>],
-) -> Result<Vec<Option<KeyValue>>, AllocError>
-    ensures { IfOk result (λ keys. keys.items ≡ (if given then first.now else [])) }
-{
-    let mut keys = Vec::with_capacity(alloc, most)?;
-    if given {
-        keys.extend_from_slice(first)?;
-    }
-    Ok(keys)
-}
-
-// These aggregates, where they are given.
-fn first_aggregates(
-    alloc: Global,
-    given: bool,
-    first: &[Option<i128>],
-) -> Result<Vec<Option<i128>>, AllocError>
-    ensures { IfOk result (λ aggregates. aggregates.items ≡ (if given then first.now else [])) }
-{
-    if given {
-        Vec::from_slice(alloc, first)
-    } else {
-        Ok(Vec::new(alloc))
-    }
-}
-
-impl Gathered {
-    // Begins with this row, where it is given, with room for `most` rows in all.
-    pub(crate) fn starting(
-        alloc: Global,
-        most: usize,
-        key_count: usize,
-        aggregate_count: usize,
-        given: bool,
-        first: &GroupRow,
-    ) -> Result<Gathered, AllocError>
-        requires { HasWidths key_count aggregate_count first.now }
-        ensures { IfOk result (λ rows. AreParts key_count aggregate_count rows.count rows.keys.items
-            (rows.total.items ++ rows.aggregates.items) (if given then first.now ∷ [] else [])) }
-    {
-        let keys = most.checked_mul(key_count).ok_or(AllocError)?;
-        let aggregates = most.checked_mul(aggregate_count).ok_or(AllocError)?;
-        Ok(Gathered {
-            count: if given { 1 } else { 0 },
-            keys: first_keys(alloc, keys, given, first.keys.as_slice())?,
-            total: first_aggregates(alloc, given, first.aggregates.as_slice())?,
-            aggregates: Vec::with_capacity(alloc, aggregates)?,
-        })
-    }
-
-    // One more row.
-    pub(crate) fn push(
-        &mut self,
-        keys: &[Option<KeyValue>],
-        aggregates: &[Held],
-    ) -> Result<(), AllocError>
-        ensures { OnOk result ((key_count aggregate_count : ℕ) (rows : List Row)
-            → length keys.now ≡ key_count → length aggregates.now ≡ aggregate_count
-            → AreParts key_count aggregate_count self.old.count self.old.keys.items
-            (self.old.total.items ++ self.old.aggregates.items) rows
-            → AreParts key_count aggregate_count self.new.count self.new.keys.items
-            (self.new.total.items ++ self.new.aggregates.items)
-            (rows ++ record { keys = keys.now; aggregates = aggregates.now } ∷ [])) }
-    {
-        self.count = self.count.checked_add(1).ok_or(AllocError)?;
-        self.keys.extend_from_slice(keys)?;
-        self.aggregates.extend_from_slice(aggregates)?;
-        Ok(())
-    }
-
-    // All of them.
-    pub(crate) fn into_rows(self, key_count: usize, aggregate_count: usize) -> GroupRows
-        requires { (rows : List Row) × AreParts key_count aggregate_count self.count
-            self.keys.items (self.total.items ++ self.aggregates.items) rows }
-        ensures { (rows : List Row) → AreParts key_count aggregate_count self.count
-            self.keys.items (self.total.items ++ self.aggregates.items) rows → result ≡ rows }
-    {
-        let Gathered {
-            count,
-            keys,
-            total,
-            aggregates,
-        } = self;
-        GroupRows {
-            key_count,
-            aggregate_count,
-            len: count,
-            keys,
-            total,
-            aggregates,
+        match &self.nothing {
+            None => self.rows.cell(number, place),
+            Some(aggregates) => {
+                if number < self.rows.len() {
+                    aggregate_at(aggregates.as_slice(), place)
+                } else {
+                    None
+                }
+            }
         }
     }
+}
+
+// What is shown of aggregates over no puts.
+fn over_nothing(aggregates: &[Aggregate]) -> RowAggregates
+    requires { length aggregates.now ≤ 8 }
+    ensures { result ≡ map (λ g. spec.shown g None) aggregates.now }
+{
+    let mut row = [None; 8];
+    for place in 0..aggregates.len() {
+        row[place] = shown(aggregates[place], None);
+    }
+    RowAggregates::new(row, aggregates.len())
+}
+
+// The row of all keys hidden over no puts, where that is a grouping.
+fn nothing_given(
+    rows: ListedRows,
+    key_count: usize,
+    aggregates: &[Aggregate],
+) -> Result<GroupRows, AllocError>
+    requires few_keys { key_count ≤ 6 }
+    requires few { length aggregates.now ≤ 8 }
+    requires aggregate_count { length aggregates.now ≡ rows.aggregate_count }
+    requires none { length (listed_entries rows) ≡ 0 }
+    ensures { IfOk result (λ given. given ≡ spec.nothing_given key_count aggregates.now) }
+{
+    let mut rows = rows;
+    rows.push(&ALL_HIDDEN, &[Held::new(0); 8][..aggregates.len()])?;
+    Ok(GroupRows {
+        key_count,
+        rows,
+        nothing: Some(over_nothing(aggregates)),
+    })
+}
+
+// Whether there are no rows, and a grouping hides all keys.
+fn is_bare(rows: &ListedRows, shape: Shape, key_count: usize) -> bool
+    requires { key_count ≤ 6 }
+    ensures { result ≡ (nat_eq (length (listed_entries rows.now)) 0
+        && groups.is_grouping shape (take key_count (key_view all_hidden))) }
+{
+    rows.len() == 0 && is_grouping(shape, key_count, &ALL_HIDDEN)
+}
+
+// The rows of a group; over no puts a grouping that hides all keys has its row too.
+pub(crate) fn given(
+    rows: ListedRows,
+    shape: Shape,
+    key_count: usize,
+    aggregates: &[Aggregate],
+) -> Result<GroupRows, AllocError>
+    requires few_keys { key_count ≤ 6 }
+    requires few { length aggregates.now ≤ 8 }
+    requires aggregate_count { length aggregates.now ≡ rows.aggregate_count }
+    ensures { IfOk result (λ given. AreOnce (listed_entries rows) → (puts : List Update)
+        → AreGrouped (group_with shape key_count aggregates.now) (listed_entries rows) puts
+        → AreRows (group_with shape key_count aggregates.now) puts given) }
+{
+    if is_bare(&rows, shape, key_count) {
+        return nothing_given(rows, key_count, aggregates);
+    }
+    Ok(GroupRows {
+        key_count,
+        rows,
+        nothing: None,
+    })
 }

@@ -11,7 +11,6 @@ mod batch;
 mod cell;
 mod deferred;
 mod eager;
-mod given;
 mod group_row;
 mod group_rows;
 mod keyed;

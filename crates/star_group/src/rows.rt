@@ -1,17 +1,15 @@
 // One more put of the rows of its keys.
 
-ghost use Rattle.std.specs.Prelude.{◌≡◌, ◌<◌, ◌+◌, ℕ, true, List, [], length, map, IfErr, MatchBool, OnErr, OnOk};
-ghost use Rattle.std.specs.List.{list_any, IsDistinct};
+ghost use Rattle.std.specs.Prelude.{◌≡◌, ◌+◌, ℕ, [], length, map, IfErr, MatchBool, OnErr, OnOk};
+ghost use Rattle.std.specs.List.{IsDistinct};
 ghost use Rattle.std.specs.Option.{unwrap_or};
 ghost use Rattle.star_common.specs.Memory.{TellsMemory, UnlessMemory};
 ghost use Rattle.star_group.specs.Base.{key_view, row_found};
 ghost use Rattle.star_group.specs.Entries.{entries_of};
 ghost use Rattle.star_group.specs.OwnKeys.{key_eq};
 ghost use Rattle.star_group.specs.Private.Merged.{IsMergedAt, MergeLeaves, MergeStays, RowsStay};
-ghost use Rattle.star_group.specs.Private.Numbers.{AreAsWide, AreNarrow, ArePlacesOfKeys, FitsIn, HasSpace, IsGrown, IsNarrow, IsPlace, IsPlaceAmong, IsRowWithin};
+ghost use Rattle.star_group.specs.Private.Numbers.{AreAsWide, AreNarrow, FitsIn, HasSpace, IsNarrow};
 ghost use Rattle.star_group.specs.Private.Rows.{AllStay, MergesAll, PutsRows, SomeLeaves, is_one_of};
-ghost use Rattle.star_group.specs.Private.Tries.{is_missing};
-ghost use Rattle.star_group.specs.declared.keyed.key.KeyPart.{KeyPart};
 ghost use Rattle.star_group.specs.declared.rows.PutFault.TheVariants.{OutOfMemory};
 
 use crate::cell::Held;
@@ -37,140 +35,85 @@ impl From<AllocError> for PutFault {
     }
 }
 
-// Where the rows of these keys are, or would be.
-fn find_places(
-    rows: &KeyedRows,
-    row_keys: &[OrderedKey],
-    places: &mut Vec<Place>,
-) -> Result<(), AllocError>
-    ensures { OnOk result (ArePlacesOfKeys rows.now row_keys.now places.new.items) }
-{
-    places.clear();
-    for key in row_keys {
-        places.push(rows.place(key))?;
-    }
-    Ok(())
-}
-
-// Whether no aggregate of the row at this place, or of one that is missing, leaves its bits with one
+// Whether no aggregate of the row of this key, or of one that is missing, leaves its bits with one
 // more merged in.
-pub(crate) fn stays_at(
-    rows: &KeyedRows,
-    place: Place,
-    aggregates: &[Aggregate],
-    more: &[Held],
-) -> bool
-    requires within { IsRowWithin rows.now place }
+fn row_takes(rows: &KeyedRows, key: &OrderedKey, aggregates: &[Aggregate], more: &[Held]) -> bool
+    requires narrow { IsNarrow rows.now.trie.width key.now }
     requires fits { FitsIn rows.now aggregates.now more.now }
-    ensures { (key : List KeyPart) → length key ≡ 6 → IsNarrow rows.now.trie.width key
-        → IsPlace rows.now key place → MatchBool result
+    ensures { MatchBool result
         (MergeStays aggregates.now
-        (unwrap_or (row_found (entries_of rows.now) (key_view key)) []) more.now)
+        (unwrap_or (row_found (entries_of rows.now) (key_view key.now)) []) more.now)
         (MergeLeaves aggregates.now
-        (unwrap_or (row_found (entries_of rows.now) (key_view key)) []) more.now) }
+        (unwrap_or (row_found (entries_of rows.now) (key_view key.now)) []) more.now) }
 {
+    let place = rows.place(key);
     match place {
         Place::Held(number) => row_stays(aggregates, Some(rows.row(number)), more),
         Place::Missing { .. } => row_stays(aggregates, None, more),
     }
 }
 
-// Whether no aggregate of the rows of these keys, which have these places, leaves its bits with one
-// more merged in.
-fn all_stay_at(
+// Whether no aggregate of the rows of these keys leaves its bits with one more merged in.
+fn all_take(
     rows: &KeyedRows,
     row_keys: &[OrderedKey],
-    places: &[Place],
     aggregates: &[Aggregate],
     more: &[Held],
 ) -> bool
     requires narrow { AreNarrow rows.now.trie.width row_keys.now }
-    requires places { ArePlacesOfKeys rows.now row_keys.now places.now }
     requires fits { FitsIn rows.now aggregates.now more.now }
     ensures { MatchBool result
         (AllStay (row_found (entries_of rows.now)) (is_one_of row_keys.now) aggregates.now more.now)
         (SomeLeaves (row_found (entries_of rows.now)) (is_one_of row_keys.now) aggregates.now more.now) }
 {
     for index in 0..row_keys.len() {
-        if !stays_at(rows, places[index], aggregates, more) {
+        if !row_takes(rows, &row_keys[index], aggregates, more) {
             return false;
         }
     }
     true
 }
 
-// Merges a row into that of this key, which has this place as long as there are `row_count` rows.
-fn merge_at(
-    rows: &mut KeyedRows,
-    row_count: usize,
-    key: &OrderedKey,
-    place: Place,
-    aggregates: &[Aggregate],
-    more: &[Held],
-)
+// Merges a row into that of this key.
+fn merge_one(rows: &mut KeyedRows, key: &OrderedKey, aggregates: &[Aggregate], more: &[Held])
     requires narrow { IsNarrow rows.old.trie.width key.now }
-    requires place { IsPlaceAmong rows.old row_count key.now place }
     requires fits { FitsIn rows.old aggregates.now more.now }
     requires stays { RowsStay aggregates.now
         (row_found (entries_of rows.old) (key_view key.now)) more.now }
-    requires space { is_missing place ≡ true → HasSpace rows.old 1 }
+    requires space { HasSpace rows.old 1 }
     ensures rows { IsMergedAt aggregates.now (key_view key.now) more.now
         (entries_of rows.old) (entries_of rows.new) }
     ensures space { (count : ℕ) → HasSpace rows.old (count + 1) → HasSpace rows.new count }
-    ensures grown { IsGrown rows.old rows.new }
+    ensures widths { AreAsWide rows.old rows.new }
 {
-    let place = rows.place_among(row_count, key, place);
+    let place = rows.place(key);
     match rows.merge(key, place, aggregates, more) {
         Ok(()) => {}
         Err(AllocError) => unreachable!(),
     }
 }
 
-// A row merged into each of these keys, which have these places.
-fn merge_all_at(
-    rows: &mut KeyedRows,
-    row_keys: &[OrderedKey],
-    places: &[Place],
-    aggregates: &[Aggregate],
-    more: &[Held],
-)
+// A row merged into each of these keys.
+fn merge_all(rows: &mut KeyedRows, row_keys: &[OrderedKey], aggregates: &[Aggregate], more: &[Held])
     requires narrow { AreNarrow rows.old.trie.width row_keys.now }
-    requires places { ArePlacesOfKeys rows.old row_keys.now places.now }
     requires distinct { IsDistinct key_eq (map key_view row_keys.now) }
     requires fits { FitsIn rows.old aggregates.now more.now }
     requires stay { AllStay (row_found (entries_of rows.old)) (is_one_of row_keys.now) aggregates.now more.now }
-    requires space { list_any is_missing places.now ≡ true → HasSpace rows.old (length row_keys.now) }
+    requires space { HasSpace rows.old (length row_keys.now) }
     ensures rows { MergesAll (is_one_of row_keys.now) aggregates.now more.now
         (row_found (entries_of rows.old)) (row_found (entries_of rows.new)) }
     ensures widths { AreAsWide rows.old rows.new }
 {
-    let row_count = rows.len();
     for index in 0..row_keys.len() {
-        merge_at(
-            rows,
-            row_count,
-            &row_keys[index],
-            places[index],
-            aggregates,
-            more,
-        );
+        merge_one(rows, &row_keys[index], aggregates, more);
     }
 }
 
-// Whether some row is missing.
-fn some_missing(places: &[Place]) -> bool
-    ensures { result ≡ list_any is_missing places.now }
-{
-    places.iter().any(|place| place.is_missing())
-}
-
 // The row of one put merged into those of its keys, which are made where they are missing; or
-// nothing changes. Each row is looked up once, and all room is there before the first one changes;
-// none is taken where no row is missing, so that a put into rows that are there takes no memory.
+// nothing changes: all room is there before the first one changes.
 pub(crate) fn put_rows(
     rows: &mut KeyedRows,
     row_keys: &[OrderedKey],
-    places: &mut Vec<Place>,
     aggregates: &[Aggregate],
     more: &[Held],
 ) -> Result<(), PutFault>
@@ -185,13 +128,10 @@ pub(crate) fn put_rows(
         more.now)) }
     ensures widths { AreAsWide rows.old rows.new }
 {
-    find_places(rows, row_keys, places)?;
-    if !all_stay_at(rows, row_keys, places.as_slice(), aggregates, more) {
+    if !all_take(rows, row_keys, aggregates, more) {
         return Err(PutFault::Overflow);
     }
-    if some_missing(places.as_slice()) {
-        rows.reserve(row_keys.len())?;
-    }
-    merge_all_at(rows, row_keys, places.as_slice(), aggregates, more);
+    rows.reserve(row_keys.len())?;
+    merge_all(rows, row_keys, aggregates, more);
     Ok(())
 }

@@ -1,17 +1,15 @@
 -- The numbers of rows by their keys, and the room for more of them.
-use Rattle.std.specs.Prelude.{◌≡◌, ℕ, ℤ, ◌+◌, ◌*◌, ◌^◌, ◌<◌, ◌≤◌, List, [], Option, Some, None, drop, length, slice_index_or, take, vec_len}
+use Rattle.std.specs.Prelude.{◌≡◌, ℕ, ℤ, ◌+◌, ◌*◌, ◌^◌, ◌≤◌, List, Option, Some, None, drop, length, take, vec_len}
 use Rattle.std.specs.List.{AllByRecursion}
 use Rattle.std.specs.Vec.{vec_capacity}
 use Rattle.star_schema.specs.declared.group.Aggregate.{Aggregate}
 use Rattle.star_group.specs.declared.keyed.key.KeyPart.{KeyPart}
 use Rattle.star_group.specs.declared.keyed.KeyedRows.{KeyedRows}
 use Rattle.star_group.specs.declared.keyed.trie.Trie.{Trie}
-use Rattle.star_group.specs.Entries.{entries_of}
 use Rattle.star_program.specs.Rows.{cut}
 use Rattle.star_group.specs.Keyed.{all_hidden}
 use Rattle.star_group.specs.Private.Tries.{IsHeld, IsKeyFound}
 use Rattle.star_group.specs.declared.keyed.trie.Place.{Place}
-use Rattle.star_group.specs.declared.keyed.trie.Place.TheVariants.{Held, Missing}
 
 abbrev pub keys_in : KeyedRows → List (List KeyPart)
 keys_in rows = cut rows.trie.width rows.trie.len rows.trie.keys.items
@@ -32,20 +30,6 @@ IsKnown rows key (Some number) = IsHeld (keys_in rows) (take rows.trie.width key
 abbrev pub IsPlace : KeyedRows → List KeyPart → Place → Type 0
 IsPlace rows key place = IsKeyFound rows.trie.width (keys_in rows) rows.trie.links.items (take rows.trie.width key) place
 
--- where it is, or would be as long as there are no more rows than these
-abbrev pub IsPlaceAmong : KeyedRows → ℕ → List KeyPart → Place → Type 0
-IsPlaceAmong rows count key (Held number) = IsHeld (keys_in rows) (take rows.trie.width key) number
-IsPlaceAmong rows count key (Missing node digit) = rows.trie.len ≡ count → IsPlace rows key (Missing node digit)
-
--- its row, where it is there, is one of these
-abbrev pub IsRowWithin : KeyedRows → Place → Type 0
-IsRowWithin rows (Held number) = number < length (entries_of rows)
-IsRowWithin rows (Missing node digit) = Unit {0}
-
-pub record ArePlacesOfKeys (rows : KeyedRows) (keys : List (List KeyPart)) (places : List Place) : Type 0 where
-  pub many : length places ≡ length keys
-  pub each : (index : ℕ) → index < length keys → IsPlace rows (slice_index_or keys index []) (slice_index_or places index (Held 0))
-
 -- a row of these aggregates, or of more numbers than they, fits among the rows
 pub record FitsIn (rows : KeyedRows) (gs : List Aggregate) (row : List (Option ℤ)) : Type 0 where
   pub many : length gs ≡ rows.aggregate_count
@@ -56,13 +40,11 @@ pub record AreAsWide (old new : KeyedRows) : Type 0 where
   pub width : new.trie.width ≡ old.trie.width
   pub many : new.aggregate_count ≡ old.aggregate_count
 
--- the same rows and maybe more, each with the number that it had, and no key's place changes as long as there are no more
+-- the same rows and maybe more, each with the number that it had
 pub record IsGrown (old new : KeyedRows) : Type 0 where
   pub widths : AreAsWide old new
   pub held : (key : List KeyPart) (number : ℕ) → IsHeld (keys_in old) key number → IsHeld (keys_in new) key number
   pub more : old.trie.len ≤ new.trie.len
-  pub keys : new.trie.len ≡ old.trie.len → keys_in new ≡ keys_in old
-  pub links : new.trie.len ≡ old.trie.len → new.trie.links.items ≡ old.trie.links.items
 
 -- `count` more keys fit in without memory
 pub record HasTrieSpace (trie : Trie) (count : ℕ) : Type 0 where

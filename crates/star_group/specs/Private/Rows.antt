@@ -1,5 +1,5 @@
--- Rows by their keys, beside that of all puts, and one more row merged into some of them.
-use Rattle.std.specs.Prelude.{◌≡◌, ℕ, Bool, true, false, not, ◌&&◌, ℤ, List, [], Option, None, map, slice_index_or, take}
+-- Rows by their keys, and one more row merged into some of them.
+use Rattle.std.specs.Prelude.{◌≡◌, ℕ, Bool, true, false, ℤ, List, [], Option, None, map, slice_index_or, take}
 use Rattle.std.specs.List.{list_any}
 use Rattle.std.specs.Option.{unwrap_or}
 use Rattle.star_schema.specs.declared.group.Aggregate.{Aggregate}
@@ -8,20 +8,16 @@ use Rattle.star_schema.specs.Groups.{is_grouping}
 use Rattle.star_program.specs.declared.key.KeyValue.{KeyValue}
 use Rattle.star_group.specs.declared.keyed.key.KeyPart.{KeyPart}
 use Rattle.star_group.specs.Base.{key_view}
-use Rattle.star_group.specs.OwnKeys.{is_of_put, key_eq, padded}
+use Rattle.star_group.specs.OwnKeys.{key_eq}
 use Rattle.star_group.specs.Private.Merged.{IsMergedInto, MergeLeaves, MergeStays}
 
 -- a row over no puts
 abbrev pub IsBlank : List (Option ℤ) → Type 0
 IsBlank row = (place : ℕ) → slice_index_or row place None ≡ None
 
--- a row has this key beside that of all puts: a grouping that shows a key
+-- a row has this key: a grouping
 abbrev pub is_row_key : Shape → ℕ → List (Option KeyValue) → Bool
-is_row_key s count q = not (key_eq q (padded 6 [])) && is_grouping s (take count q)
-
--- and a put changes it
-abbrev pub is_beside : Shape → List KeyValue → List (Option KeyValue) → Bool
-is_beside s ks q = not (key_eq q (padded 6 [])) && is_of_put s ks q
+is_row_key s count q = is_grouping s (take count q)
 
 -- the key is one of these
 abbrev pub is_one_of : List (List KeyPart) → List (Option KeyValue) → Bool

@@ -2,10 +2,10 @@
 
 ghost use Rattle.std.specs.Prelude.{◌≡◌, ◌≤◌, ◌<◌, ◌+◌, true, List, length, take, IfOk, OnOk};
 ghost use Rattle.star_schema.specs.Groups as groups;
-ghost use Rattle.star_group.specs.Base.{HasBaseWithRoom, IsBase, key_view, row_found};
+ghost use Rattle.star_group.specs.Base.{key_view, row_found};
 ghost use Rattle.star_group.specs.Entries.{entries_of};
 ghost use Rattle.star_group.specs.Private.Coarser as spec;
-ghost use Rattle.star_group.specs.Private.Coarser.{IsMergedWhere, IsRolledUpWithRoom, NoneCoarser, RollsUp};
+ghost use Rattle.star_group.specs.Private.Coarser.{IsMergedWhere, IsRolledUp, IsRolledUpWithRoom, NoneCoarser, RollsUp};
 ghost use Rattle.star_group.specs.Private.BasePut.{group_with};
 ghost use Rattle.star_group.specs.Private.Merged.{RowsStay};
 ghost use Rattle.star_group.specs.Private.Numbers.{AreAsWide, FitsIn, IsGrown, IsNarrow};
@@ -13,8 +13,8 @@ ghost use Rattle.star_group.specs.StoreRows.{AreRows};
 ghost use Rattle.star_program.specs.Puts.{Update};
 
 use crate::GroupRows;
-use crate::cell::{Held, Total};
-use crate::given::rows_given;
+use crate::cell::Held;
+use crate::group_rows::given;
 use crate::keyed::KeyedRows;
 use crate::keyed::key::{OrderedKey, is_grouping, with_all_at};
 use star_schema::{Aggregate, Shape};
@@ -127,25 +127,23 @@ pub(super) fn add_coarser(
     Ok(())
 }
 
-// The rows that a store gives in the end, from those of all keys and the total.
+// The rows that a store gives in the end, from those of all keys.
 pub(crate) fn rows_of_base(
     alloc: Global,
     base: KeyedRows,
-    total: &Total,
     shape: Shape,
     key_count: usize,
     aggregates: &[Aggregate],
 ) -> Result<GroupRows, AllocError>
     requires key_count { key_count ≤ base.trie.width }
     requires aggregate_count { length aggregates.now ≡ base.aggregate_count }
-    requires room { HasBaseWithRoom (group_with shape key_count aggregates.now) (entries_of base)
-        total.now }
+    requires room { ∥ IsRolledUpWithRoom shape key_count aggregates.now key_count
+        (entries_of base) ∥₁ }
     ensures { IfOk result (λ rows. (puts : List Update)
-        → IsBase (group_with shape key_count aggregates.now) (entries_of base) total.now puts
+        → IsRolledUp (group_with shape key_count aggregates.now) key_count (entries_of base) puts
         → AreRows (group_with shape key_count aggregates.now) puts rows) }
 {
     let mut rows = base;
     add_coarser(alloc, &mut rows, shape, key_count, aggregates)?;
-    let rows = rows.into_listed();
-    rows_given(alloc, &rows, total, shape, key_count, aggregates)
+    given(rows.into_listed(), shape, key_count, aggregates)
 }

@@ -52,7 +52,6 @@ impl GroupStore for DeferredStore {
     fn into_rows(self) -> Result<GroupRows, AllocError> {
         let rows = self.rows;
         let aggregates = self.aggregates.as_slice();
-        let (alloc, shape, key_count) = (self.alloc, self.shape, self.key_count);
-        rows_of_base(alloc, rows, &self.total, shape, key_count, aggregates)
+        rows_of_base(self.alloc, rows, self.shape, self.key_count, aggregates)
     }
 }

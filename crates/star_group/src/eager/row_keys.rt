@@ -1,4 +1,4 @@
-// The keys of the rows that one put changes beside that of all puts, where rows hide keys.
+// The keys of the rows that one put changes.
 
 ghost use Rattle.std.specs.Prelude.{◌≡◌, ◌≤◌, ◌<◌, ◌++◌, [], ◌∷◌, List, filter, length, map, slice_set, OnOk};
 ghost use Rattle.star_program.specs.declared.key.KeyValue.{KeyValue};
@@ -9,7 +9,7 @@ ghost use Rattle.star_group.specs.Private.Rows.{is_row_key};
 ghost use Rattle.star_group.specs.declared.keyed.key.KeyPart.{KeyPart};
 
 use crate::KeyValue;
-use crate::keyed::key::{OrderedKey, base_key, is_row_key, with_all_at};
+use crate::keyed::key::{OrderedKey, base_key, is_grouping, with_all_at};
 use star_schema::Shape;
 use std::alloc::AllocError;
 
@@ -24,7 +24,7 @@ fn push_row_key(
     ensures { OnOk result (row_keys.new.items ≡ row_keys.old.items
         ++ filter (λ key. is_row_key shape key_count (key_view key)) (key ∷ [])) }
 {
-    if !is_row_key(shape, key_count, &key) {
+    if !is_grouping(shape, key_count, &key) {
         return Ok(());
     }
     row_keys.push(key)?;
@@ -55,7 +55,7 @@ fn double(
 fn vary(row_keys: &mut Vec<OrderedKey>, shape: Shape, key_count: usize) -> Result<(), AllocError>
     requires { key_count ≤ 6 }
     ensures { (keys : List KeyValue) → length keys ≡ key_count
-        → 0 < length keys → map key_view row_keys.old.items ≡ padded 6 keys ∷ []
+        → map key_view row_keys.old.items ≡ padded 6 keys ∷ []
         → OnOk result (map key_view row_keys.new.items
         ≡ filter (is_row_key shape key_count) (spec.vary key_count (padded 6 keys))) }
 {
@@ -67,14 +67,13 @@ fn vary(row_keys: &mut Vec<OrderedKey>, shape: Shape, key_count: usize) -> Resul
     Ok(())
 }
 
-// The keys of the rows that a put changes, but for that of the row of all puts.
+// The keys of the rows that a put changes.
 pub(super) fn fill_row_keys(
     row_keys: &mut Vec<OrderedKey>,
     shape: Shape,
     keys: &[KeyValue],
 ) -> Result<(), AllocError>
-    requires some { 0 < length keys.now }
-    requires few { length keys.now ≤ 6 }
+    requires { length keys.now ≤ 6 }
     ensures { OnOk result (map key_view row_keys.new.items
         ≡ filter (is_row_key shape (length keys.now))
         (spec.vary (length keys.now) (padded 6 keys.now))) }

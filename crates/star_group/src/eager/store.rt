@@ -5,19 +5,17 @@ ghost use Rattle.star_group.specs.Eager.{group_view, Has};
 use super::EagerStore;
 use super::put::put_all;
 use crate::cell::{Total, shown};
-use crate::given::rows_given;
+use crate::group_rows::given;
 use crate::keyed::KeyedRows;
 use crate::keyed::merge::row_of_put;
-use crate::row_cache::RowCache;
 use crate::rows::PutFault;
 use crate::store::{GroupStore, TryPut, aggregates_of};
 use crate::{GroupRows, KeyValue};
 use star_program::GroupDecl;
 use std::alloc::{AllocError, Global};
 
-// The most rows that a put changes beside the total: those of a cube of six keys. Their room is
-// reserved, so that a put into rows that are there takes no memory.
-const MOST_OWN: usize = 63;
+// The most rows that a put changes: those of a cube of six keys.
+const MOST_OWN: usize = 64;
 
 impl GroupStore for EagerStore {
     ghost group = { group_view };
@@ -29,15 +27,12 @@ impl GroupStore for EagerStore {
         let key_count = declared.keys.as_slice().len();
         let rows = KeyedRows::new(alloc, key_count, aggregates.len())?;
         Ok(EagerStore {
-            alloc,
             shape: declared.shape,
             key_count,
             aggregates,
             rows,
-            row_cache: RowCache::new(alloc)?,
             total: Total::new(),
             row_keys: Vec::with_capacity(alloc, MOST_OWN)?,
-            places: Vec::with_capacity(alloc, MOST_OWN)?,
         })
     }
 
@@ -55,9 +50,7 @@ impl GroupStore for EagerStore {
 
     fn into_rows(self) -> Result<GroupRows, AllocError> {
         let rows = self.rows.into_listed();
-        let aggregates = self.aggregates.as_slice();
-        let (alloc, shape, key_count) = (self.alloc, self.shape, self.key_count);
-        rows_given(alloc, &rows, &self.total, shape, key_count, aggregates)
+        given(rows, self.shape, self.key_count, self.aggregates.as_slice())
     }
 }
 
@@ -67,9 +60,7 @@ impl TryPut for EagerStore {
         let more = row_of_put(aggregates, values);
         put_all(
             &mut self.rows,
-            &mut self.row_cache,
             &mut self.row_keys,
-            &mut self.places,
             &mut self.total,
             self.shape,
             aggregates,

@@ -1,14 +1,13 @@
 // The keys of rows by their keys.
 
 ghost use Rattle.std.specs.Prelude.{◌≡◌, ◌≤◌, ◌<◌, Some, None, length, slice_set, take};
-ghost use Rattle.std.specs.List.{list_all, list_any};
+ghost use Rattle.std.specs.List.{list_all};
 ghost use Rattle.std.specs.Option.{is_some};
 ghost use Rattle.star_schema.specs.declared.group.Shape.TheVariants.{Rollup};
 ghost use Rattle.star_schema.specs.Groups as spec;
 ghost use Rattle.star_group.specs.OwnKeys.{padded};
 ghost use Rattle.star_group.specs.Base.{key_view, key_value_view};
 ghost use Rattle.star_group.specs.Keyed.{filled};
-ghost use Rattle.star_group.specs.Private.Rows as rows;
 
 use crate::KeyValue;
 use crate::group_row::{ALL, Key};
@@ -36,7 +35,7 @@ fn part_of(value: KeyValue) -> KeyPart
     }
 }
 
-fn value_in(part: KeyPart) -> Option<KeyValue>
+pub(super) fn value_in(part: KeyPart) -> Option<KeyValue>
     ensures { result ≡ key_value_view part }
 {
     match part {
@@ -95,13 +94,6 @@ fn are_shown(parts: &[KeyPart]) -> bool
     parts.iter().all(is_shown)
 }
 
-// Whether some part isn't ALL.
-fn shows_some(parts: &[KeyPart]) -> bool
-    ensures { result ≡ list_any (λ part. is_some (key_value_view part)) parts.now }
-{
-    parts.iter().any(is_shown)
-}
-
 // Whether no part that isn't ALL stands after one that is.
 fn are_shown_first(parts: &[KeyPart]) -> bool
     ensures { result ≡ spec.is_grouping Rollup (key_view parts.now) }
@@ -127,14 +119,6 @@ pub(crate) fn is_grouping(shape: Shape, key_count: usize, parts: &OrderedKey) ->
         Shape::Cube => true,
         Shape::Rollup => are_shown_first(&parts[..key_count]),
     }
-}
-
-// Whether a row has this key beside that of all puts: a grouping of this shape that shows a key.
-pub(crate) fn is_row_key(shape: Shape, key_count: usize, parts: &OrderedKey) -> bool
-    requires { key_count ≤ 6 }
-    ensures { result ≡ rows.is_row_key shape key_count (key_view parts.now) }
-{
-    shows_some(parts) && is_grouping(shape, key_count, parts)
 }
 
 // The key as a row shows it.

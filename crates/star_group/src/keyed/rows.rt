@@ -6,7 +6,7 @@ ghost use Rattle.star_group.specs.Entries.{entries_of};
 ghost use Rattle.star_group.specs.declared.keyed.key.KeyPart.{KeyPart};
 ghost use Rattle.star_program.specs.Rows.{cut};
 ghost use Rattle.star_group.specs.Private.Merged.{IsMergedAt, IsWithRow, MergeStays, RowsStay};
-ghost use Rattle.star_group.specs.Private.Numbers.{AreAsWide, FitsIn, HasSpace, IsGrown, IsNarrow, IsPlace, IsPlaceAmong, keys_in};
+ghost use Rattle.star_group.specs.Private.Numbers.{AreAsWide, FitsIn, HasSpace, IsGrown, IsNarrow, IsPlace, keys_in};
 ghost use Rattle.star_group.specs.Private.Tries.{IsHeld, IsMissing, is_missing};
 
 use super::KeyedRows;
@@ -52,20 +52,6 @@ impl KeyedRows {
         self.trie.find(&key[..self.trie.width])
     }
 
-    // The same, where this place is the answer as long as there are `count` rows; where there are
-    // more and the row was missing, it is looked up once more.
-    pub(crate) fn place_among(&self, count: usize, key: &OrderedKey, place: Place) -> Place
-        requires { IsPlaceAmong self.now count key.now place }
-        ensures place { IsPlace self.now key.now result }
-        ensures missing { is_missing result ≡ true → is_missing place ≡ true }
-    {
-        if place.is_missing() && self.trie.len != count {
-            self.place(key)
-        } else {
-            place
-        }
-    }
-
     // Whether the row of a number is that of this key.
     pub(crate) fn has(&self, number: usize, key: &OrderedKey) -> bool
         ensures { result ≡ true
@@ -82,8 +68,6 @@ impl KeyedRows {
     // Makes room for `additional` more rows.
     pub(crate) fn reserve(&mut self, additional: usize) -> Result<(), AllocError>
         ensures ok { OnOk result (HasSpace self.new additional) }
-        ensures keys { keys_in self.new ≡ keys_in self.old }
-        ensures links { self.new.trie.links.items ≡ self.old.trie.links.items }
         ensures rows { entries_of self.new ≡ entries_of self.old }
         ensures widths { AreAsWide self.old self.new }
     {

@@ -46,20 +46,6 @@ impl PlacedStore {
     }
 }
 
-impl PlacedStore {
-    // The total of all puts of a group without keys; a plain group with keys shows none.
-    pub(super) fn plain_total(&self) -> Total
-        ensures { length self.now.spans.items ≡ 0 → (puts : List Update) → Has self.now puts
-            → HasAggregates (group_view self.now) puts result }
-    {
-        if self.spans.len() == 0 {
-            self.whole_total()
-        } else {
-            Total::new()
-        }
-    }
-}
-
 // The key of a place.
 pub(super) fn key_at(spans: &[Span], place: usize) -> OrderedKey
     requires { length spans.now ≤ 6 }

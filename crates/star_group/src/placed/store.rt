@@ -108,7 +108,6 @@ impl PlacedStore {
         ensures { IfOk result (λ rows. (puts : List Update) → Has self puts
             → AreRows (group_view self) puts rows) }
     {
-        let total = self.plain_total();
         let PlacedStore {
             rest,
             spans,
@@ -118,9 +117,7 @@ impl PlacedStore {
         let base = rest.rows;
         let aggregates = rest.aggregates.as_slice();
         list_rows(
-            rest.alloc,
             base,
-            &total,
             spans.as_slice(),
             seen.as_slice(),
             cells.as_slice(),
@@ -133,7 +130,6 @@ impl PlacedStore {
         ensures { IfOk result (λ rows. (puts : List Update) → Has self puts
             → AreRows (group_view self) puts rows) }
     {
-        let total = self.whole_total();
         let PlacedStore {
             rest,
             spans,
@@ -149,14 +145,7 @@ impl PlacedStore {
             cells.as_slice(),
             aggregates,
         )?;
-        rows_of_base(
-            rest.alloc,
-            rows,
-            &total,
-            rest.shape,
-            rest.key_count,
-            aggregates,
-        )
+        rows_of_base(rest.alloc, rows, rest.shape, rest.key_count, aggregates)
     }
 }
 

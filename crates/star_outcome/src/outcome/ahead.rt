@@ -1,6 +1,5 @@
 // Rows that are read before they are asked for.
 
-use super::order::part_at;
 use star_group::{GroupRows, KeyValue};
 use std::alloc::{AllocError, Global};
 
@@ -34,7 +33,7 @@ impl Ahead<'_> {
         self.keys.clear();
         self.aggregates.clear();
         for number in numbers {
-            self.keys.push(part_at(rows.keys(*number), 0))?;
+            self.keys.push(rows.key(*number, 0))?;
             self.aggregates.push(rows.aggregate(*number, 0))?;
         }
         Ok(())

@@ -15,7 +15,6 @@ ghost use Rattle.star_world.specs.WorldOf.{world_of};
 ghost use Rattle.star_schema.specs.Columns.{column_dictionary};
 
 use super::ahead::Ahead;
-use super::order::part_at;
 use star_catalogue::Catalogue;
 use star_group::{GroupRows, KeyValue};
 use star_program::{Cell, CellRows, CellText, GroupDecl, GroupKey, Items, KeptCell, Name, Show};
@@ -90,7 +89,7 @@ fn cell(
             alloc,
             catalogue,
             declared.keys.as_slice()[place as usize],
-            part_at(rows.keys(number), place),
+            rows.key(number, place as usize),
         ),
         GroupColumn::Aggregate(place) => Ok(total_cell(rows.aggregate(number, place as usize))),
     }

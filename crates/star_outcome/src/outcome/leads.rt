@@ -7,7 +7,6 @@ ghost use Rattle.star_group.specs.StoreRows.{row_at, row_view};
 ghost use Rattle.star_outcome.specs.Private.Leads as spec;
 ghost use Rattle.star_outcome.specs.Private.Leads.{lead_cmp, leads_cmp, led_at};
 
-use super::order::part_at;
 use star_group::{GroupRows, KeyValue};
 use star_schema::{Direction, GroupColumn, SortKey};
 use std::alloc::{AllocError, Global};
@@ -187,7 +186,7 @@ fn column_lead(column: GroupColumn, rows: &GroupRows, number: usize) -> Lead
     ensures { result ≡ spec.column_lead column (row_view (row_at rows.now number)) }
 {
     match column {
-        GroupColumn::Key(place) => key_lead(part_at(rows.keys(number), place)),
+        GroupColumn::Key(place) => key_lead(rows.key(number, place as usize)),
         GroupColumn::Aggregate(place) => total_lead(rows.aggregate(number, place as usize)),
     }
 }
@@ -201,12 +200,32 @@ fn second_lead(keys: &[Option<KeyValue>]) -> Lead
     }
 }
 
+// Of a row's first key; where it is ALL or missing, the keys themselves say which.
+fn first_key_lead(rows: &GroupRows, number: usize) -> Lead
+    ensures { result ≡ spec.first_lead (row_at rows.now number).keys }
+{
+    match rows.key(number, 0) {
+        Some(key) => key_lead(Some(key)),
+        None => first_lead(rows.keys(number).as_slice()),
+    }
+}
+
+// Of its second key.
+fn second_key_lead(rows: &GroupRows, number: usize) -> Lead
+    ensures { result ≡ spec.second_lead (row_at rows.now number).keys }
+{
+    match rows.key(number, 1) {
+        Some(key) => key_lead(Some(key)),
+        None => second_lead(rows.keys(number).as_slice()),
+    }
+}
+
 // In the column of the first sort key, or else in that of the first key.
 fn lead_of(sorts: &[SortKey], rows: &GroupRows, number: usize) -> Lead
     ensures { result ≡ spec.lead_of sorts.now (row_view (row_at rows.now number)) }
 {
     match sorts {
-        [] => first_lead(rows.keys(number)),
+        [] => first_key_lead(rows, number),
         [sort, ..] => column_lead(sort.column, rows, number),
     }
 }
@@ -216,7 +235,7 @@ fn next_of(sorts: &[SortKey], rows: &GroupRows, number: usize) -> Lead
     ensures { result ≡ spec.next_of sorts.now (row_view (row_at rows.now number)) }
 {
     match sorts {
-        [] => second_lead(rows.keys(number)),
+        [] => second_key_lead(rows, number),
         [_sort, rest @ ..] => lead_of(rest, rows, number),
     }
 }

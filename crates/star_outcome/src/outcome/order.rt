@@ -1,6 +1,7 @@
 // The order of a group's rows.
 
-ghost use Rattle.std.specs.Prelude.{◌≡◌, IfOk, IsPermutation, None, map, slice_index_or};
+ghost use Rattle.std.specs.Prelude.{◌≡◌, ◌+◌, IfOk, IfSome, IsPermutation, drop, map};
+ghost use Rattle.std.specs.Ordering.{ordering_then};
 ghost use Rattle.std.specs.Cmp.Lexicographic.{slice_cmp};
 ghost use Rattle.star_schema.specs.Order.{AreInOrder, key_cmp};
 ghost use Rattle.star_group.specs.StoreRows.{row_at, row_view};
@@ -53,23 +54,13 @@ fn compare_key_lists(a: &[Option<KeyValue>], b: &[Option<KeyValue>]) -> Ordering
     }
 }
 
-// What a row has at a place: a key or an aggregate.
-pub(super) fn part_at<T: Copy>(parts: &[Option<T>], place: u16) -> Option<T>
-    ensures { result ≡ slice_index_or parts.now place None }
-{
-    match parts.get(place as usize) {
-        Some(part) => *part,
-        None => None,
-    }
-}
-
 fn compare_at(column: GroupColumn, rows: &GroupRows, a: usize, b: usize) -> Ordering
     ensures { result ≡ column_order column
         (row_view (row_at rows.now a)) (row_view (row_at rows.now b)) }
 {
     match column {
         GroupColumn::Key(place) => {
-            compare_keys(part_at(rows.keys(a), place), part_at(rows.keys(b), place))
+            compare_keys(rows.key(a, place as usize), rows.key(b, place as usize))
         }
         GroupColumn::Aggregate(place) => {
             rows.aggregate(a, place as usize)
@@ -88,6 +79,44 @@ fn compare_by(sort: SortKey, rows: &GroupRows, a: usize, b: usize) -> Ordering
     }
 }
 
+// The keys at one place of two rows, where neither is hidden or missing.
+fn shown_order(rows: &GroupRows, a: usize, b: usize, place: usize) -> Option<Ordering>
+    ensures { IfSome result (λ order. slice_cmp (key_cmp key_value_cmp)
+        (drop place (row_at rows.now a).keys) (drop place (row_at rows.now b).keys)
+        ≡ ordering_then order (slice_cmp (key_cmp key_value_cmp)
+        (drop (place + 1) (row_at rows.now a).keys) (drop (place + 1) (row_at rows.now b).keys))) }
+{
+    match (rows.key(a, place), rows.key(b, place)) {
+        (Some(x), Some(y)) => Some(compare_values(x, y)),
+        _ => None,
+    }
+}
+
+fn compare_all_keys(rows: &GroupRows, a: usize, b: usize) -> Ordering
+    ensures { result ≡ slice_cmp (key_cmp key_value_cmp) (row_at rows.now a).keys
+        (row_at rows.now b).keys }
+{
+    compare_key_lists(rows.keys(a).as_slice(), rows.keys(b).as_slice())
+}
+
+// All keys of two rows: a list of them is made only where one is hidden.
+fn compare_row_keys(rows: &GroupRows, a: usize, b: usize) -> Ordering
+    ensures { result ≡ slice_cmp (key_cmp key_value_cmp) (row_at rows.now a).keys
+        (row_at rows.now b).keys }
+{
+    for place in 0..6 {
+        match shown_order(rows, a, b, place) {
+            None => return compare_all_keys(rows, a, b),
+            Some(order) => {
+                if !order.is_eq() {
+                    return order;
+                }
+            }
+        }
+    }
+    compare_all_keys(rows, a, b)
+}
+
 // By the sort keys, and then by all keys of the rows.
 // In code this orders all rows, with NULL before the numbers. In the definition NULL meets no other
 // row: an aggregate is NULL in all rows of a group or in none.
@@ -96,7 +125,7 @@ fn compare_rows(sorts: &[SortKey], rows: &GroupRows, a: usize, b: usize) -> Orde
         (row_view (row_at rows.now a)) (row_view (row_at rows.now b)) }
 {
     match sorts {
-        [] => compare_key_lists(rows.keys(a), rows.keys(b)),
+        [] => compare_row_keys(rows, a, b),
         [sort, rest @ ..] => match compare_by(*sort, rows, a, b) {
             Ordering::Equal => compare_rows(rest, rows, a, b),
             decided => decided,

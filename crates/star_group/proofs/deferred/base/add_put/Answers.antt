@@ -1,8 +1,6 @@
+use Rattle.star_group.proofs.Common.{entries_of, group_with, Update}
 use Rattle.star_group.proofs.Bases.{base_more, base_stays, total_stays}
 use Rattle.star_group.proofs.KeyedRows.{base_narrow}
-use Rattle.star_group.specs.Entries.{entries_of}
-use Rattle.star_group.specs.Private.BasePut.{group_with}
-use Rattle.star_program.specs.Puts.{Update}
 use Rattle.std.proofs.Common.{length, refl}
 use Rattle.star_group.proofs.deferred.base.add_put.Goals as goal
 

@@ -1,7 +1,5 @@
 use Rattle.std.proofs.Common.{◌≡◌, ◌≤◌, ◌+◌, ◌-◌, ◌∙◌, ap, arith, length, subst, sym}
-use Rattle.star_group.specs.Entries.{entries_of}
-use Rattle.star_group.specs.Private.Coarser.{IsRolledUp, NoneCoarser, RollsUp, first_finer, first_hidden}
-use Rattle.star_group.specs.Private.BasePut.{group_with}
+use Rattle.star_group.proofs.Common.{entries_of, IsRolledUp, NoneCoarser, RollsUp, first_finer, first_hidden, group_with}
 use Rattle.star_group.proofs.KeyedRows.{once_rows, row_count}
 use Rattle.star_group.proofs.MergedRows.{grown_keys}
 use Rattle.star_group.proofs.Rolling.{next_none, room_there}

@@ -1,7 +1,5 @@
 use Rattle.std.proofs.Common.{◌≡◌, ◌≤◌, ◌+◌, ℕ, length}
-use Rattle.star_group.specs.Entries.{entries_of}
-use Rattle.star_group.specs.Private.Coarser.{NoneCoarser, RollsUp}
-use Rattle.star_group.specs.Private.Numbers.{AreAsWide}
+use Rattle.star_group.proofs.Common.{entries_of, NoneCoarser, RollsUp, AreAsWide}
 use Rattle.star_group.proofs.deferred.coarser.add_coarser.Given as goal
 
 abbrev pub invariant-loop-place : goal.invariant-loop-place

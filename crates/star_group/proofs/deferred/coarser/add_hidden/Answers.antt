@@ -1,14 +1,5 @@
 use Rattle.std.proofs.Common.{◌≡◌, ◌<◌, ◌+◌, ◌∙◌, ℕ, ℤ, [], List, None, Option, Some, ap, arith, drop, get_or, length, length-drop, refl, set, slice_get, subst, sym}
-use Rattle.std.proofs.lemmas.List.{drop-set-lt, get_or-drop}
-use Rattle.std.proofs.lemmas.Option.{slice_get-get_or}
-use Rattle.star_group.specs.Base.{key_view, row_found}
-use Rattle.star_group.specs.declared.keyed.key.KeyPart.{KeyPart}
-use Rattle.star_group.specs.declared.keyed.key.KeyPart.TheVariants.{All}
-use Rattle.star_group.specs.Entries.{entries_of}
-use Rattle.star_group.specs.Private.Listed.{listed_entries}
-use Rattle.star_group.specs.Keyed.{all_hidden}
-use Rattle.star_group.specs.Private.Coarser.{IsMergedWhere}
-use Rattle.star_group.specs.Private.Merged.{RowsStay}
+use Rattle.star_group.proofs.Common.{drop-set-lt, get_or-drop, slice_get-get_or, key_view, row_found, KeyPart, All, entries_of, listed_entries, all_hidden, IsMergedWhere, RowsStay}
 use Rattle.star_group.proofs.KeyedRows.{once_rows}
 use Rattle.star_group.proofs.MergedRows.{grown_more, grown_same}
 use Rattle.star_group.proofs.Rolling.{IsMergedSoFar, none_before, rolls_up, turn_merges, turn_stays}

@@ -1,6 +1,5 @@
 use Rattle.std.proofs.Common.{◌+◌}
-use Rattle.star_group.specs.Entries.{entries_of}
-use Rattle.star_group.specs.Private.Numbers.{IsGrown}
+use Rattle.star_group.proofs.Common.{entries_of, IsGrown}
 use Rattle.star_group.proofs.Rolling.{IsMergedSoFar}
 use Rattle.star_group.proofs.deferred.coarser.add_hidden.Given as goal
 

@@ -1,9 +1,5 @@
 use Rattle.std.proofs.Common.{◌<◌, ◌++◌, ◌∷◌, [], ◌∙◌, Bool, List, ap, arith, length, set}
-use Rattle.std.specs.List.{filter}
-use Rattle.star_group.specs.Base.{key_view}
-use Rattle.star_group.specs.Private.Rows.{is_row_key}
-use Rattle.star_group.specs.declared.keyed.key.KeyPart.{KeyPart}
-use Rattle.star_group.specs.declared.keyed.key.KeyPart.TheVariants.{All}
+use Rattle.star_group.proofs.Common.{filter, key_view, is_row_key, KeyPart, All}
 use Rattle.star_group.proofs.OwnKeyLemmas.{next_hidden}
 use Rattle.star_group.proofs.eager.row_keys.double.Goals as goal
 

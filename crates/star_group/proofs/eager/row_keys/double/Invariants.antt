@@ -1,8 +1,5 @@
 use Rattle.std.proofs.Common.{◌≡◌, ◌++◌, take, map, set}
-use Rattle.std.specs.List.{filter}
-use Rattle.star_group.specs.Base.{key_view}
-use Rattle.star_group.specs.Private.Rows.{is_row_key}
-use Rattle.star_group.specs.declared.keyed.key.KeyPart.TheVariants.{All}
+use Rattle.star_group.proofs.Common.{filter, key_view, is_row_key, All}
 use Rattle.star_group.proofs.eager.row_keys.double.Given as goal
 
 abbrev pub invariant-loop-index : goal.invariant-loop-index

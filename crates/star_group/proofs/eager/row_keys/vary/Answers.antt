@@ -1,14 +1,8 @@
 use Rattle.std.proofs.Common.{◌∷◌, [], ◌≡◌, ◌≤◌, ◌<◌, ◌++◌, ◌+◌, ◌-◌, zero, suc, cond, ℕ, map, List, Option, length, arith, sym, ap, ◌∙◌}
-use Rattle.std.specs.List.{filter}
-use Rattle.star_schema.specs.declared.group.Shape.{Shape}
-use Rattle.star_program.specs.declared.key.KeyValue.{KeyValue}
-use Rattle.star_group.specs.OwnKeys.{padded, vary}
-use Rattle.star_group.specs.Base.{key_view}
-use Rattle.star_group.specs.Private.Coarser.{keys_from}
-use Rattle.star_group.specs.Private.Rows.{is_row_key}
+use Rattle.star_group.proofs.Common.{filter, Shape, KeyValue, padded, vary, key_view, keys_from, is_row_key}
 use Rattle.star_group.proofs.AllRows.{base_keys, cube_keys}
 use Rattle.star_group.proofs.OwnKeyLemmas.{doubled}
-use Rattle.star_group.proofs.GroupKeys.{own_row_key}
+use Rattle.star_group.proofs.GroupKeys.{own_grouping}
 use Rattle.star_group.proofs.Rolling.{hide, row_keys_more}
 use Rattle.star_group.proofs.eager.row_keys.vary.Goals as goal
 
@@ -34,10 +28,10 @@ pub loop-place-init : goal.loop-place-init
 loop-place-init c = record {
   below = omega arith;
   varied =
-      λ keys fits some e. e ∙ sym
+      λ keys fits e. e ∙ sym
       (ap (filter (is_row_key c.args.shape c.args.key_count)) (base_keys c.args.key_count keys)
       ∙ ap (λ b. cond b (padded 6 keys ∷ []) [])
-      (own_row_key c.args.shape keys c.args.key_count fits some c.requires));
+      (own_grouping c.args.shape keys c.args.key_count fits c.requires));
 }
 
 pub loop-place-preserved : goal.loop-place-preserved
@@ -46,15 +40,15 @@ loop-place-preserved c =
     let place = c.loop-place.place in
     record {
       below = omega (arith, c.loop-place.invariant.below);
-      varied = λ keys fits some e.
+      varied = λ keys fits e.
           one_place c.args.shape c.args.key_count place keys (map key_view before) _
           c.loop-place-test.true c.loop-place.invariant.below c.requires fits
-          (c.loop-place.invariant.varied keys fits some e)
+          (c.loop-place.invariant.varied keys fits e)
           (doubled (is_row_key c.args.shape c.args.key_count) (place - 1) before _
           c.in_ok-double.ensures);
     }
 
 pub returns : goal.returns
-returns c = λ keys fits some e.
+returns c = λ keys fits e.
     at_end c.args.shape c.args.key_count c.loop-place.place keys _ c.loop-place-test.false
-    (c.loop-place.invariant.varied keys fits some e)
+    (c.loop-place.invariant.varied keys fits e)

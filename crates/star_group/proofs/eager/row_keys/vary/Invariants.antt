@@ -1,16 +1,11 @@
-use Rattle.std.proofs.Common.{◌<◌, ◌≡◌, ◌≤◌, ◌∷◌, [], List, map, length}
-use Rattle.std.specs.List.{filter}
-use Rattle.star_program.specs.declared.key.KeyValue.{KeyValue}
-use Rattle.star_group.specs.Base.{key_view}
-use Rattle.star_group.specs.OwnKeys.{padded}
-use Rattle.star_group.specs.Private.Coarser.{keys_from}
-use Rattle.star_group.specs.Private.Rows.{is_row_key}
+use Rattle.std.proofs.Common.{◌≡◌, ◌≤◌, ◌∷◌, [], List, map, length}
+use Rattle.star_group.proofs.Common.{filter, KeyValue, key_view, padded, keys_from, is_row_key}
 use Rattle.star_group.proofs.eager.row_keys.vary.Given as goal
 
 abbrev pub invariant-loop-place : goal.invariant-loop-place
 invariant-loop-place l = record {
   below : l.place ≤ l.key_count;
-  varied : (keys : List KeyValue) → length keys ≡ l.key_count → 0 < length keys
+  varied : (keys : List KeyValue) → length keys ≡ l.key_count
       → map key_view l.fn.row_keys.items ≡ padded 6 keys ∷ []
       → map key_view l.row_keys.items
       ≡ filter (is_row_key l.shape l.key_count) (keys_from l.place l.key_count keys);

@@ -1,12 +1,26 @@
-use Rattle.std.proofs.Common.{◌++◌, None, ap, get_or}
-use Rattle.star_group.proofs.FlatRows.{parts_read}
+use Rattle.std.proofs.Common.{None, ap, arith, get_or, map, sym, ◌∙◌}
+use Rattle.star_group.proofs.Common.{row_shown, listed_entries, row_at}
+use Rattle.star_group.proofs.GivenRows.{aggregates_shown, nothing_shown}
 use Rattle.star_group.proofs.group_rows.GroupRows.aggregate.Goals as goal
 
-pub returns : goal.returns
-returns c =
+pub returns-in-None : goal.returns-in-None
+returns-in-None c =
     let s = c.self.inside in
-    rw c.aggregate_in.ensures
-    (rw c.deref.ensures.value (rw c.deref-2.ensures.value (rw (← c.self.view_is)
-    (ap (λ row. get_or row c.args.place None)
-    (parts_read s.key_count s.aggregate_count s.len s.keys.items
-    (s.total.items ++ s.aggregates.items) c.args.number).1))))
+    let es = listed_entries s.rows in
+    c.cell.ensures
+    ∙ ap (λ row. get_or row c.args.place None) (aggregates_shown s.key_count es c.args.number
+    ∙ ap (λ n. (row_at (map (row_shown n s.key_count) es) c.args.number).aggregates)
+    (sym c.in-None.is))
+    ∙ ap (λ rows. get_or (row_at rows c.args.number).aggregates c.args.place None) c.self.view_is
+
+pub returns-then-number-len : goal.returns-then-number-len
+returns-then-number-len c =
+    let s = c.self.inside in
+    let es = listed_entries s.rows in
+    c.aggregate_at.ensures
+    ∙ ap (λ row. get_or row c.args.place None) (c.as_slice.ensures
+    ∙ nothing_shown _ s.key_count es c.args.number
+    (omega (arith, c.if-number-len.true, c.len.ensures))
+    ∙ ap (λ n. (row_at (map (row_shown n s.key_count) es) c.args.number).aggregates)
+    (sym c.in-Some.is))
+    ∙ ap (λ rows. get_or (row_at rows c.args.number).aggregates c.args.place None) c.self.view_is

@@ -1,7 +1,5 @@
 use Rattle.std.proofs.Common.{◌≤◌, ℕ, ◌*◌, ◌∙◌, ap, arith, drop, length}
-use Rattle.std.proofs.Math.Nat.{mul-le-mul_right}
-use Rattle.star_group.specs.declared.keyed.KeyedRows.{KeyedRows}
-use Rattle.star_group.specs.Entries.{entries_of}
+use Rattle.star_group.proofs.Common.{mul-le-mul_right, KeyedRows, entries_of}
 use Rattle.star_group.proofs.CutRows.{length-from}
 use Rattle.star_group.proofs.KeyedRows.{row_count, rows_from}
 use Rattle.star_group.proofs.keyed.KeyedRows.listed.Goals as goal

@@ -1,6 +1,6 @@
-use Rattle.std.proofs.Common.{◌≡◌, length, rules, subst}
-use Rattle.star_group.specs.Entries.{entries_of}
-use Rattle.star_group.specs.Private.Numbers.{IsPlace}
+use Rattle.std.proofs.Common.{◌≡◌, ap, length, rules, subst}
+use Rattle.star_group.specs.Private.Tries.{is_missing}
+use Rattle.star_group.proofs.Common.{entries_of, IsPlace}
 use Rattle.star_group.proofs.KeyedRows.{held_stays, merged_missing, number_among}
 use Rattle.star_group.proofs.keyed.KeyedRows.merge.Goals as goal
 
@@ -37,3 +37,7 @@ returns-in-Missing-clause-ok c =
     merged_missing s key six c.requires.narrow c.in-Missing.node c.in-Missing.digit
     (subst (IsPlace s key) c.in-Missing.is c.requires.place) c.push.result c.args.aggregates.now
     c.args.more.now (entries_of c.push.new.self) c.requires.fits.many c.push.ensures.ok
+
+pub returns-in-Missing-clause-enough : goal.returns-in-Missing-clause-enough
+returns-in-Missing-clause-enough c =
+    λ space. (c.push.ensures.space 0 (space (ap is_missing c.in-Missing.is))).0

@@ -1,8 +1,5 @@
 use Rattle.std.proofs.Common.{◌≡◌, ◌∙◌, [], List, Option, ℤ, arith, get_or, length, set, subst, sym}
-use Rattle.std.specs.Option.{unwrap_or}
-use Rattle.star_group.specs.declared.keyed.key.KeyPart.{KeyPart}
-use Rattle.star_program.specs.Rows.{cut}
-use Rattle.star_group.specs.Private.Merged.{IsMerged, MergeStays}
+use Rattle.star_group.proofs.Common.{unwrap_or, KeyPart, cut, IsMerged, MergeStays}
 use Rattle.star_group.proofs.KeyedRows.{entry_at, row_count, row_held, set_held}
 use Rattle.star_group.proofs.keyed.KeyedRows.merge_row.Goals as goal
 

@@ -1,6 +1,5 @@
 use Rattle.std.proofs.Common.{◌∙◌, [], List, Option, ℤ, ap, get_or, length, sym}
-use Rattle.star_group.specs.declared.keyed.key.KeyPart.{KeyPart}
-use Rattle.star_program.specs.Rows.{cut}
+use Rattle.star_group.proofs.Common.{KeyPart, cut}
 use Rattle.star_group.proofs.KeyedRows.{cells_wide, entry_at}
 use Rattle.star_group.proofs.keyed.KeyedRows.row.Goals as goal
 

@@ -1,7 +1,5 @@
 use Rattle.std.proofs.Common.{◌≡◌, drop}
-use Rattle.star_schema.specs.declared.group.Shape.TheVariants.{Rollup}
-use Rattle.star_schema.specs.Groups.{is_grouping}
-use Rattle.star_group.specs.Base.{key_view}
+use Rattle.star_group.proofs.Common.{Rollup, is_grouping, key_view}
 use Rattle.star_group.proofs.OwnKeyLemmas.{goes_on}
 use Rattle.star_group.proofs.keyed.key.are_shown_first.Given as goal
 

@@ -1,7 +1,5 @@
 use Rattle.std.proofs.Common.{add-one, sym, ap, ◌∙◌, Some, get_or, pos, slice_set}
-use Rattle.std.proofs.lemmas.List.{map-set}
-use Rattle.star_program.specs.declared.key.KeyValue.TheVariants.{Number}
-use Rattle.star_group.specs.Base.{key_view, key_value_view}
+use Rattle.star_group.proofs.Common.{map-set, Number, key_view, key_value_view}
 use Rattle.star_group.proofs.OwnKeyLemmas.{padded-set, all_padded}
 use Rattle.star_group.proofs.keyed.key.base_key.Goals as goal
 

@@ -1,11 +1,5 @@
 use Rattle.std.proofs.Common.{◌≡◌, ap, ◌∙◌, map, rules, subst, sym, take}
-use Rattle.std.specs.List.{list_all}
-use Rattle.std.specs.Option.{is_some}
-use Rattle.std.proofs.lemmas.List.{take-map}
-use Rattle.std.proofs.lemmas.List.Folds.{list_all-map}
-use Rattle.star_schema.specs.declared.group.Shape.TheVariants.{Rollup}
-use Rattle.star_schema.specs.Groups.{is_grouping}
-use Rattle.star_group.specs.Base.{key_view, key_value_view}
+use Rattle.star_group.proofs.Common.{list_all, is_some, take-map, list_all-map, Rollup, is_grouping, key_view, key_value_view}
 use Rattle.star_group.proofs.keyed.key.is_grouping.Goals as goal
 
 pub returns-in-Plain : goal.returns-in-Plain

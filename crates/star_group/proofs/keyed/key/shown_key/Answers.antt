@@ -1,8 +1,5 @@
 use Rattle.std.proofs.Common.{◌≡◌, ◌<◌, ◌++◌, ◌∷◌, [], length, arith, ◌∙◌, sym}
-use Rattle.std.proofs.lemmas.Grind.{common_steps}
-use Rattle.std.proofs.lemmas.List.{map_more, take_more_set}
-use Rattle.star_group.specs.Base.{key_value_view}
-use Rattle.star_group.specs.declared.keyed.key.KeyPart.TheVariants.{All}
+use Rattle.star_group.proofs.Common.{common_steps, map_more, take_more_set, key_value_view, All}
 use Rattle.star_group.proofs.keyed.key.shown_key.Goals as goal
 
 pub loop-place-preserved : goal.loop-place-preserved

@@ -1,6 +1,4 @@
-use Rattle.std.proofs.lemmas.List.{map-set}
-use Rattle.star_group.specs.Base.{key_value_view}
-use Rattle.star_group.specs.declared.keyed.key.KeyPart.TheVariants.{All}
+use Rattle.star_group.proofs.Common.{map-set, key_value_view, All}
 use Rattle.star_group.proofs.keyed.key.with_all_at.Goals as goal
 
 pub returns-clause-key : goal.returns-clause-key

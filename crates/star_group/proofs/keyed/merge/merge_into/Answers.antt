@@ -1,8 +1,5 @@
 use Rattle.std.proofs.Common.{◌<◌, ◌≢◌, None, length, arith, below_more, get_or, get_or-set_other, get_or-set_same, ap, ◌∙◌}
-use Rattle.std.proofs.lemmas.Grind.{common_steps}
-use Rattle.star_schema.specs.declared.group.Aggregate.TheVariants.{Count}
-use Rattle.star_program.specs.Puts.{leaves}
-use Rattle.star_group.specs.Private.Merged.{merged}
+use Rattle.star_group.proofs.Common.{common_steps, Count, leaves, merged}
 use Rattle.star_group.proofs.keyed.merge.merge_into.Goals as goal
 
 pub merged_cell-requires-clause-stays : goal.merged_cell-requires-clause-stays

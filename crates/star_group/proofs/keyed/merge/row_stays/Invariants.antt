@@ -1,8 +1,5 @@
 use Rattle.std.proofs.Common.{◌≡◌, ℕ, ◌<◌, [], false, slice_index_or}
-use Rattle.std.specs.Option.{option_copied, unwrap_or}
-use Rattle.star_schema.specs.declared.group.Aggregate.TheVariants.{Count}
-use Rattle.star_program.specs.Puts.{leaves}
-use Rattle.star_group.specs.Private.Merged.{merged_at}
+use Rattle.star_group.proofs.Common.{option_copied, unwrap_or, Count, leaves, merged_at}
 use Rattle.star_group.proofs.keyed.merge.row_stays.Given as goal
 
 abbrev pub invariant-loop-place : goal.invariant-loop-place

@@ -1,10 +1,7 @@
 use Rattle.std.proofs.Common.{◌≡◌, Bool, true, false, ℤ, pos, ◌+ℤ◌, Option, Some, None, refl, sym, ap, ◌∙◌, arith, to_z-of_z}
-use Rattle.std.specs.Prelude.{not, unwrap_or}
-use Rattle.std.proofs.lemmas.Int.{ints}
-use Rattle.star_schema.specs.declared.group.Aggregate.TheVariants.{Sum, Count}
+use Rattle.star_group.proofs.Common.{not, ints, Sum, Count, leaves, merged}
+use Rattle.std.specs.Prelude.{unwrap_or}
 use Rattle.star_interval.specs.Range.{is_i64, is_i128}
-use Rattle.star_program.specs.Puts.{leaves}
-use Rattle.star_group.specs.Private.Merged.{merged}
 use Rattle.star_group.proofs.keyed.merge.stays.Goals as goal
 
 not_twice : (b : Bool) → b ≡ not (not b)

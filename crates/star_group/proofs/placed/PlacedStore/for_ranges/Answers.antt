@@ -1,7 +1,6 @@
 use Rattle.std.proofs.Common.{◌≡◌, ◌*◌, [], ap, arith, false, length, replicate, sym, ◌∙◌}
-use Rattle.std.proofs.lemmas.List.{length-replicate}
+use Rattle.star_group.proofs.Common.{length-replicate, entries_of}
 use Rattle.star_group.specs.Deferred as deferred
-use Rattle.star_group.specs.Entries.{entries_of}
 use Rattle.star_group.proofs.Bases.{no_room}
 use Rattle.star_group.proofs.PlacedPuts.{blank_columns, placed_none}
 use Rattle.star_group.proofs.placed.PlacedStore.for_ranges.Goals as goal

@@ -1,13 +1,12 @@
-use Rattle.std.proofs.Common.{◌≡◌, ◌≤◌, ◌∙◌, ap, arith, length, subst, sym}
-use Rattle.star_schema.specs.declared.group.Shape.TheVariants.{Plain}
-use Rattle.star_group.specs.Base.{HasAggregates}
-use Rattle.star_group.specs.ByPlace.{IsPlaced}
-use Rattle.star_group.specs.Entries.{entries_of}
-use Rattle.star_group.specs.Placed.{group_view}
-use Rattle.star_group.specs.Private.BasePut.{group_with}
-use Rattle.star_group.specs.StoreRows.{AreRows}
+use Rattle.std.proofs.Common.{◌≡◌, ◌∙◌, ap, arith, length, subst, sym}
+use Rattle.star_group.proofs.Common.{Plain, IsPlaced, entries_of, group_view, group_with, AreRows}
 use Rattle.star_group.proofs.Contents.{if_ok}
 use Rattle.star_group.proofs.placed.PlacedStore.plain_rows.Goals as goal
+
+pub list_rows-requires-clause-keys : goal.list_rows-requires-clause-keys
+list_rows-requires-clause-keys c =
+    let s = c.args.self in
+    omega (arith, ap length c.as_slice.ensures.value, s.keys, s.rest.wide)
 
 pub returns : goal.returns
 returns c =
@@ -29,7 +28,5 @@ returns c =
     (subst (λ xs. IsPlaced (group_view s) s.spans.items xs cells es all puts)
     (sym c.as_slice-2.ensures.value)
     (subst (λ xs. IsPlaced (group_view s) s.spans.items s.seen.items xs es all puts)
-    (sym c.as_slice-3.ensures.value) has))))
-    (λ none. subst (λ g. HasAggregates g puts c.plain_total-total.result) (sym one)
-    (c.plain_total-total.ensures (sym (ap length c.as_slice.ensures.value) ∙ none) puts has))))
+    (sym c.as_slice-3.ensures.value) has))))))
     c.list_rows.ensures

@@ -1,10 +1,5 @@
 use Rattle.std.proofs.Common.{◌≡◌, ◌*◌, ap, arith, get_or, length, sym, ◌∙◌}
-use Rattle.std.specs.Vec.{with_items}
-use Rattle.std.proofs.lemmas.List.{with_items_is}
-use Rattle.star_group.specs.Batches.{put_in}
-use Rattle.star_group.specs.ByPlace.{IsPlaced}
-use Rattle.star_group.specs.Entries.{entries_of}
-use Rattle.star_group.specs.Placed.{group_view}
+use Rattle.star_group.proofs.Common.{with_items, with_items_is, put_in, IsPlaced, entries_of, group_view}
 use Rattle.star_group.proofs.PlacedPuts.{batch_room, takes_batch}
 use Rattle.star_group.proofs.SpanPlaces.{within}
 use Rattle.star_group.proofs.placed.PlacedStore.put_at.Goals as goal

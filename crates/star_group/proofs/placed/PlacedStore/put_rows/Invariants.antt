@@ -1,7 +1,5 @@
 use Rattle.std.proofs.Common.{◌≡◌, List}
-use Rattle.star_group.specs.Batches.{puts_after, put_in}
-use Rattle.star_group.specs.Placed.{Has, group_view}
-use Rattle.star_program.specs.Puts.{Update}
+use Rattle.star_group.proofs.Common.{puts_after, put_in, Has, group_view, Update}
 use Rattle.star_group.proofs.placed.PlacedStore.put_rows.Given as goal
 
 abbrev pub invariant-loop-row : goal.invariant-loop-row

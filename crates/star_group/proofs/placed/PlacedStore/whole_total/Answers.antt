@@ -1,9 +1,5 @@
 use Rattle.std.proofs.Common.{◌≡◌, ◌<◌, Some, [], suc, add-one, ap, arith, get_or, length, pos, subst, sym, false, ◌∙◌}
-use Rattle.star_program.specs.Rows.{cut}
-use Rattle.star_group.specs.Entries.{entries_of}
-use Rattle.star_group.specs.Placed.{group_view}
-use Rattle.star_group.specs.Places.{places}
-use Rattle.star_group.specs.Private.Merged.{IsMerged, MergeStays}
+use Rattle.star_group.proofs.Common.{cut, entries_of, group_view, places, IsMerged, MergeStays}
 use Rattle.star_group.proofs.PlacedRows.{IsRowAt, IsSummed, sum_end, sum_more, sum_skip, sum_start, sum_stays}
 use Rattle.star_group.proofs.placed.PlacedStore.whole_total.Goals.{then-seen-place, else-seen-place}
 use Rattle.star_group.proofs.placed.PlacedStore.whole_total.Goals as goal

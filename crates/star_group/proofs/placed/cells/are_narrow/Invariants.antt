@@ -1,6 +1,5 @@
 use Rattle.std.proofs.Common.{◌≡◌, ◌<◌, ℕ, pos, true}
-use Rattle.std.specs.Prelude.{slice_index_or}
-use Rattle.star_interval.specs.Range.{is_i64}
+use Rattle.star_group.proofs.Common.{slice_index_or, is_i64}
 use Rattle.star_group.proofs.placed.cells.are_narrow.Given as goal
 
 abbrev pub invariant-loop-at : goal.invariant-loop-at

@@ -1,9 +1,5 @@
 use Rattle.std.proofs.Common.{◌≡◌, ◌<◌, ◌≤◌, ◌+◌, ◌*◌, ℕ, All, drop, length, map, pos, true}
-use Rattle.star_interval.specs.Range.{is_i64}
-use Rattle.star_program.specs.Faults.{value_count}
-use Rattle.star_program.specs.Puts.{aligned}
-use Rattle.star_group.specs.Batches.{put_in, word_in}
-use Rattle.star_group.specs.Stores.{put_number}
+use Rattle.star_group.proofs.Common.{is_i64, value_count, aligned, put_in, word_in, put_number}
 use Rattle.star_group.proofs.placed.cells.lanes_are_narrow.Given as goal
 
 abbrev pub invariant-loop-number : goal.invariant-loop-number

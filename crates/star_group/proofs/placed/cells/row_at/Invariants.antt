@@ -1,6 +1,5 @@
 use Rattle.std.proofs.Common.{◌≡◌, ◌<◌, ℕ, Some, None, [], length, pos}
-use Rattle.std.specs.Prelude.{slice_index_or}
-use Rattle.star_program.specs.Rows.{cut}
+use Rattle.star_group.proofs.Common.{slice_index_or, cut}
 use Rattle.star_group.proofs.placed.cells.row_at.Given as goal
 
 abbrev pub invariant-loop-number : goal.invariant-loop-number

@@ -1,7 +1,5 @@
 use Rattle.std.proofs.Common.{length, refl}
-use Rattle.star_group.specs.Batches.{put_in}
-use Rattle.star_group.specs.Private.BasePut.{group_with}
-use Rattle.star_group.specs.Private.Taken.{batch_lanes}
+use Rattle.star_group.proofs.Common.{put_in, group_with, batch_lanes}
 use Rattle.star_group.proofs.PlacedPuts.{batch_rows, can_take_all, placed_after}
 use Rattle.star_group.proofs.placed.cells.take_batch.Goals as goal
 

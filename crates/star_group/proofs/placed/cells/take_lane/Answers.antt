@@ -1,8 +1,6 @@
 use Rattle.std.proofs.Common.{Some, add-one, ap, get_or, pos, slice_set, ◌∙◌, rules}
-use Rattle.std.specs.Int.{w128}
-use Rattle.std.proofs.lemmas.Int.{to_z-of_z}
-use Rattle.star_program.specs.Puts.{leaves}
-use Rattle.star_group.specs.Private.Taken.{after_rows, taking}
+use Rattle.star_group.proofs.Common.{w128, to_z-of_z, leaves, taking}
+use Rattle.star_group.specs.Private.Taken.{after_rows}
 use Rattle.star_group.proofs.placed.cells.take_lane.Goals as goal
 
 pub loop-row-init : goal.loop-row-init

@@ -1,13 +1,5 @@
 use Rattle.std.proofs.Common.{◌≡◌, ◌≢◌, ◌<◌, ◌∙◌, [], add-one, ap, arith, below_more, drop, get_or, length, map, pos, slice_set, subst, suc, sym}
-use Rattle.std.proofs.lemmas.List.{get_or-set_same, get_or-set_other, get_or_default}
-use Rattle.star_schema.specs.declared.group.Aggregate.TheVariants.{Count, Sum}
-use Rattle.star_program.specs.Faults.{value_count}
-use Rattle.star_program.specs.Puts.{aligned}
-use Rattle.star_program.specs.Rows.{cut}
-use Rattle.star_program.proofs.Rows.{length-cut}
-use Rattle.star_group.specs.Batches.{put_in, word_in}
-use Rattle.star_group.specs.Private.Taken.{CanTake, batch_lanes, column_after}
-use Rattle.star_group.specs.Stores.{put_number}
+use Rattle.star_group.proofs.Common.{get_or-set_same, get_or-set_other, get_or_default, Count, Sum, value_count, aligned, cut, length-cut, put_in, word_in, CanTake, batch_lanes, column_after, put_number}
 use Rattle.star_group.proofs.PlacedLanes.{count_left, lane_same, next_numbers}
 use Rattle.star_group.proofs.placed.cells.take_lanes.Goals as goal
 

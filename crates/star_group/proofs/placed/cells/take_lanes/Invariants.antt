@@ -1,11 +1,5 @@
 use Rattle.std.proofs.Common.{◌≡◌, ◌<◌, ◌≤◌, ◌+◌, ◌*◌, ℕ, All, [], drop, length, map, pos}
-use Rattle.std.specs.Prelude.{slice_index_or}
-use Rattle.star_schema.specs.declared.group.Aggregate.TheVariants.{Count}
-use Rattle.star_program.specs.Faults.{value_count}
-use Rattle.star_program.specs.Puts.{aligned}
-use Rattle.star_program.specs.Rows.{cut}
-use Rattle.star_group.specs.Batches.{put_in, word_in}
-use Rattle.star_group.specs.Private.Taken.{batch_lanes, column_after}
+use Rattle.star_group.proofs.Common.{slice_index_or, Count, value_count, aligned, cut, put_in, word_in, batch_lanes, column_after}
 use Rattle.star_group.proofs.placed.cells.take_lanes.Given as goal
 
 abbrev pub invariant-loop-number : goal.invariant-loop-number

@@ -1,9 +1,5 @@
 use Rattle.std.proofs.Common.{◌≡◌, ◌<◌, ◌∷◌, [], get_or, length, refl, arith, subst, sym}
-use Rattle.star_group.specs.Batches.{puts_after}
-use Rattle.star_group.specs.Private.BasePut.{group_with}
-use Rattle.star_group.specs.Private.Taken.{AreWithin, lanes_of}
-use Rattle.star_program.specs.Puts.{Update}
-use Rattle.star_group.specs.Stores.{HasRoom}
+use Rattle.star_group.proofs.Common.{puts_after, group_with, AreWithin, lanes_of, Update, HasRoom}
 use Rattle.star_group.proofs.PlacedPuts.{can_take_all, one_row, placed_after}
 use Rattle.star_group.proofs.placed.cells.take_one.Goals as goal
 

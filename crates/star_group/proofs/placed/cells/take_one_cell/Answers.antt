@@ -1,7 +1,5 @@
 use Rattle.std.proofs.Common.{◌≡◌, ◌∷◌, [], ◌∙◌, FitsSigned, List, ap, arith, get_or, length, pos, refl, rules, slice_set, subst, sym, ℤ}
-use Rattle.std.specs.Int.{w128}
-use Rattle.std.proofs.lemmas.Int.{to_z-of_z}
-use Rattle.star_group.specs.Private.Taken.{CanTake, column_after}
+use Rattle.star_group.proofs.Common.{w128, to_z-of_z, CanTake, column_after}
 use Rattle.star_group.proofs.placed.cells.take_one_cell.Goals as goal
 
 only_cell : (xs : List ℤ) → length xs ≡ 1 → xs ≡ get_or xs 0 (pos 0) ∷ []

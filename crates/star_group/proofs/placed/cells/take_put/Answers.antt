@@ -1,9 +1,5 @@
 use Rattle.std.proofs.Common.{◌≡◌, ◌≢◌, ◌<◌, ◌+◌, ◌-◌, ◌∙◌, drop, slice_set, take, [], ap, arith, below_more, get_or, length}
-use Rattle.std.proofs.lemmas.List.{get_or-set_same, get_or-set_other, get_or_default}
-use Rattle.star_schema.specs.declared.group.Aggregate.TheVariants.{Count, Sum}
-use Rattle.star_program.specs.Rows.{cut}
-use Rattle.star_program.proofs.Rows.{length-cut}
-use Rattle.star_group.specs.Private.Taken.{column_after, lanes_of}
+use Rattle.star_group.proofs.Common.{get_or-set_same, get_or-set_other, get_or_default, Count, Sum, cut, length-cut, column_after, lanes_of}
 use Rattle.star_group.proofs.placed.cells.take_put.Goals as goal
 
 pub loop-number-preserved : goal.loop-number-preserved

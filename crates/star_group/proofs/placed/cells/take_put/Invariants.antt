@@ -1,8 +1,5 @@
 use Rattle.std.proofs.Common.{◌≡◌, ◌<◌, ◌≤◌, ℕ, [], length}
-use Rattle.std.specs.Prelude.{slice_index_or}
-use Rattle.star_schema.specs.declared.group.Aggregate.TheVariants.{Count}
-use Rattle.star_program.specs.Rows.{cut}
-use Rattle.star_group.specs.Private.Taken.{column_after, lanes_of}
+use Rattle.star_group.proofs.Common.{slice_index_or, Count, cut, column_after, lanes_of}
 use Rattle.star_group.proofs.placed.cells.take_put.Given as goal
 
 abbrev pub invariant-loop-number : goal.invariant-loop-number

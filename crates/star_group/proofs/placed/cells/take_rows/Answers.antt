@@ -1,8 +1,6 @@
 use Rattle.std.proofs.Common.{◌≡◌, ◌∷◌, [], ◌∙◌, FitsSigned, Some, add-one, ap, arith, get_or, length, pos, refl, rules, slice_set, subst, sym}
-use Rattle.std.specs.Int.{w128}
-use Rattle.std.proofs.lemmas.Int.{to_z-of_z}
-use Rattle.star_program.specs.Puts.{leaves}
-use Rattle.star_group.specs.Private.Taken.{CanTake, after_rows, column_after, taking}
+use Rattle.star_group.proofs.Common.{w128, to_z-of_z, leaves, CanTake, column_after, taking}
+use Rattle.star_group.specs.Private.Taken.{after_rows}
 use Rattle.star_group.proofs.placed.cells.take_rows.Goals as goal
 
 pub loop-row-init : goal.loop-row-init

@@ -1,7 +1,5 @@
 use Rattle.std.proofs.Common.{◌≡◌, ◌+◌, add-one, arith, length, refl, rules, subst, sym, ◌∙◌}
-use Rattle.star_group.specs.Entries.{entries_of}
-use Rattle.star_group.specs.Private.Numbers.{AreAsWide}
-use Rattle.star_group.specs.Places.{places}
+use Rattle.star_group.proofs.Common.{entries_of, AreAsWide, places}
 use Rattle.star_group.proofs.PlacedRows.{IsFilled, fill_end, fill_more, fill_skip, fill_start, fill_stays}
 use Rattle.star_group.proofs.placed.filling.add_places.Goals.{then-seen-place+in_ok-merge, else-seen-place}
 use Rattle.star_group.proofs.placed.filling.add_places.Goals as goal

@@ -1,5 +1,4 @@
-use Rattle.star_group.specs.Entries.{entries_of}
-use Rattle.star_group.specs.Private.Numbers.{AreAsWide}
+use Rattle.star_group.proofs.Common.{entries_of, AreAsWide}
 use Rattle.star_group.proofs.PlacedRows.{IsFilled}
 use Rattle.star_group.proofs.placed.filling.add_places.Given as goal
 

@@ -1,37 +1,31 @@
-use Rattle.std.proofs.Common.{length, subst, sym}
-use Rattle.star_schema.specs.declared.group.Shape.TheVariants.{Plain}
-use Rattle.star_group.specs.ByPlace.{IsPlaced}
-use Rattle.star_group.specs.Private.BasePut.{group_with}
-use Rattle.star_group.specs.Private.Coarser.{AreOnce, shown_entries}
-use Rattle.star_group.specs.Private.Given.{rows_given}
-use Rattle.star_group.specs.Private.Listed.{listed_entries}
-use Rattle.star_group.specs.StoreRows.{AreRows}
+use Rattle.std.proofs.Common.{◌≤◌, ◌∙◌, arith, length, subst, sym}
+use Rattle.star_group.proofs.Common.{Plain, IsPlaced, group_with, AreOnce, listed_entries}
+use Rattle.star_group.proofs.Contents.{if_ok}
 use Rattle.star_group.proofs.KeyedRows.{rows_once}
-use Rattle.star_group.proofs.PlacedListing.{plain_rows}
+use Rattle.star_group.proofs.PlacedListing.{plain_grouped}
 use Rattle.star_group.proofs.placed.listing.list_rows.Goals as goal
 
-pub into_rows-requires : goal.into_rows-requires
-into_rows-requires c =
-    let gs = c.args.aggregates.now in
-    let once = subst AreOnce (sym c.into_listed-base.ensures.rows) (rows_once c.args.base) in
-    let last = c.in_ok-push_places.ensures c.args.total.now
-    (listed_entries c.into_listed-base.result) once
-    (c.in_ok-push_listed.ensures c.args.total.now c.in_ok-all.ensures) in
-    (rows_given Plain (length c.args.spans.now) gs c.args.total.now (shown_entries last.0), last.1)
+pub push_places-requires-clause-keys : goal.push_places-requires-clause-keys
+push_places-requires-clause-keys c =
+    omega (arith, c.requires.keys, c.into_listed-rows.ensures.width, c.reserve.ensures.width)
+
+pub given-requires-clause-few_keys : goal.given-requires-clause-few_keys
+given-requires-clause-few_keys c = omega (arith, c.requires.keys, c.args.base.trie.few)
 
 pub returns : goal.returns
-returns c = λ rest puts is sums.
-    let gs = c.args.aggregates.now in
+returns c =
     let spans = c.args.spans.now in
-    let total = c.args.total.now in
-    let d = group_with Plain (length spans) gs in
-    let once = subst AreOnce (sym c.into_listed-base.ensures.rows) (rows_once c.args.base) in
-    let last = c.in_ok-push_places.ensures total (listed_entries c.into_listed-base.result) once
-    (c.in_ok-push_listed.ensures total c.in_ok-all.ensures) in
-    let listed = last.2 Plain rest puts
-    (subst (λ es. IsPlaced d spans c.args.seen.now c.args.cells.now es rest puts)
-    (sym c.into_listed-base.ensures.rows) is) in
-    subst (AreRows d puts)
-    (sym (c.into_rows.ensures (rows_given Plain (length spans) gs total (shown_entries last.0))
-    last.1))
-    (plain_rows gs (length spans) last.0 total puts c.requires.keys is.fit listed.0 listed.1 sums)
+    let gs = c.args.aggregates.now in
+    let listed = c.reserve.ensures.rows ∙ c.into_listed-rows.ensures.rows in
+    let put = c.in_ok-push_places.ensures.rows (subst AreOnce (sym listed) (rows_once c.args.base))
+    in
+    let few : length spans ≤ 6 = omega (arith, c.requires.keys, c.args.base.trie.few) in
+    if_ok _ _ c.given.result
+    (λ rows are rest puts is.
+    let both = put Plain rest puts
+    (subst (λ es. IsPlaced (group_with Plain (length spans) gs) spans c.args.seen.now
+    c.args.cells.now es rest puts) (sym listed) is) in
+    are both.0 puts
+    (plain_grouped gs (length spans) (listed_entries c.push_places.new.rows) puts few is.fit
+    both.1))
+    c.given.ensures

@@ -1,71 +1,73 @@
-use Rattle.std.proofs.Common.{◌≡◌, ◌≤◌, ◌++◌, ◌∷◌, [], add-one, arith, length, rules, subst, sym, ◌∙◌}
-use Rattle.star_schema.specs.declared.group.Shape.TheVariants.{Plain}
-use Rattle.star_group.specs.Places.{places}
-use Rattle.star_group.specs.Private.Coarser.{shown_entries}
-use Rattle.star_group.specs.Private.FlatRows.{AreParts}
-use Rattle.star_group.specs.Private.Given.{rows_given}
+use Rattle.std.proofs.Common.{◌≡◌, ◌+◌, ◌∙◌, None, add-one, arith, length, rules, subst, suc, sym, take}
+use Rattle.star_group.proofs.Common.{get_or-take, places, AreOnce, listed_entries}
 use Rattle.star_group.proofs.PlacedListing.{IsListedTo, list_end, list_more, list_skip, list_start}
-use Rattle.star_group.proofs.placed.listing.push_places.Goals.{then-seen-place+in_ok-push_row, else-seen-place}
+use Rattle.star_group.proofs.placed.listing.push_places.Goals.{then-seen-place+in_ok-push, else-seen-place}
 use Rattle.star_group.proofs.placed.listing.push_places.Goals as goal
 
-pub push_row-requires-clause-wide : goal.push_row-requires-clause-wide
-push_row-requires-clause-wide c =
-    let eight : length c.row_at-row.result ≡ 8 = search rules in
-    omega (arith, eight, c.requires.few)
+pub push-requires-clause-narrow : goal.push-requires-clause-narrow
+push-requires-clause-narrow c = c.key_at-key.ensures.narrow c.loop-place.rows.width
+    (omega (arith, c.requires.keys, c.loop-place.invariant.width))
 
 pub loop-place-init : goal.loop-place-init
-loop-place-init c = λ total es once are. (
-  es,
-  are,
-  list_start c.args.aggregates.now c.args.spans.now c.args.seen.now c.args.cells.now es once,
-)
+loop-place-init c = record {
+  listed = λ once. list_start c.args.aggregates.now c.args.spans.now c.args.seen.now
+      c.args.cells.now (listed_entries c.args.rows.now) once;
+  width = search rules;
+  aggregate_count = search rules;
+}
 
 pub loop-place-preserved : goal.loop-place-preserved
-loop-place-preserved c = λ total es once are.
+loop-place-preserved c =
     let gs = c.args.aggregates.now in
     let spans = c.args.spans.now in
     let seen = c.args.seen.now in
     let cells = c.args.cells.now in
     let n = c.loop-place.place in
-    let now = c.loop-place.invariant total es once are in
+    let es = listed_entries c.args.rows.now in
+    let now = c.loop-place.invariant in
     elim c.if-seen-place.branch [
-      | then-seen-place+in_ok-push_row w ↦ (
-        now.0 ++ (w.key_at-key.result, w.row_at-row.result) ∷ [],
-        subst (λ all. AreParts (length spans) (length gs) all.count all.keys.items
-            (all.total.items ++ all.aggregates.items)
-            (rows_given Plain (length spans) gs total (shown_entries
-            (now.0 ++ (w.key_at-key.result, w.row_at-row.result) ∷ [])))) (sym w.all-is)
-            (w.in_ok-push_row.ensures total now.0 now.1),
-        subst (λ m. IsListedTo gs spans seen cells es m
-            (now.0 ++ (w.key_at-key.result, w.row_at-row.result) ∷ [])) (sym (add-one n))
-            (list_more gs spans seen cells es c.requires.long n c.loop-place-test.true now.0 now.2
-            c.requires.keys w.key_at-key.result w.key_at-key.ensures.key w.row_at-row.result
-            w.if-seen-place.true w.row_at-row.ensures),
-      )
-      | else-seen-place w ↦ (
-        now.0,
-        subst (λ all. AreParts (length spans) (length gs) all.count all.keys.items
-            (all.total.items ++ all.aggregates.items)
-            (rows_given Plain (length spans) gs total (shown_entries now.0))) (sym w.all-is)
-            now.1,
-        subst (λ m. IsListedTo gs spans seen cells es m now.0) (sym (add-one n))
-            (list_skip gs spans seen cells es c.requires.long n c.loop-place-test.true now.0 now.2
-            w.if-seen-place.false),
-      )
+      | then-seen-place+in_ok-push w ↦ subst (λ rows. record {
+        listed : AreOnce es → IsListedTo gs spans seen cells es (n + 1) (listed_entries rows);
+        width : rows.width ≡ c.args.rows.now.width;
+        aggregate_count : rows.aggregate_count ≡ c.args.rows.now.aggregate_count;
+      }) (sym w.rows-is) (record {
+        listed = λ once.
+            let row = take (length gs) w.row_at-row.result in
+            subst (λ m. IsListedTo gs spans seen cells es m (listed_entries w.push.new.self))
+            (sym (add-one n))
+            (subst (IsListedTo gs spans seen cells es (suc n)) (sym w.in_ok-push.ensures.rows)
+            (list_more gs spans seen cells es c.requires.long n c.loop-place-test.true
+            (listed_entries c.loop-place.rows) (now.listed once)
+            (omega (arith, c.requires.keys, c.args.rows.now.few)) w.key_at-key.result
+            w.key_at-key.ensures.key row w.if-seen-place.true
+            (λ a h. get_or-take (length gs) w.row_at-row.result a None h
+            ∙ w.row_at-row.ensures a h)));
+        width = w.push.ensures.width ∙ now.width;
+        aggregate_count = w.push.ensures.aggregate_count ∙ now.aggregate_count;
+      })
+      | else-seen-place w ↦ subst (λ rows. record {
+        listed : AreOnce es → IsListedTo gs spans seen cells es (n + 1) (listed_entries rows);
+        width : rows.width ≡ c.args.rows.now.width;
+        aggregate_count : rows.aggregate_count ≡ c.args.rows.now.aggregate_count;
+      }) (sym w.rows-is) (record {
+        listed = λ once. subst (λ m. IsListedTo gs spans seen cells es m
+            (listed_entries c.loop-place.rows)) (sym (add-one n))
+            (list_skip gs spans seen cells es c.requires.long n c.loop-place-test.true
+            (listed_entries c.loop-place.rows) (now.listed once) w.if-seen-place.false);
+        width = now.width;
+        aggregate_count = now.aggregate_count;
+      })
     ]
 
-pub returns : goal.returns
-returns c = λ total es once are.
-    let now = c.loop-place.invariant total es once are in
+pub returns-clause-rows : goal.returns-clause-rows
+returns-clause-rows c = λ once.
     let all : c.loop-place.place ≡ places c.args.spans.now =
     omega (
       arith,
       c.loop-place-test.false,
       c.loop-place.auto.place-end,
       c.requires.places,
-    ) in (
-      now.0,
-      now.1,
-      list_end c.args.aggregates.now c.args.spans.now c.args.seen.now c.args.cells.now es
-          c.loop-place.place all now.0 now.2,
-    )
+    ) in
+    list_end c.args.aggregates.now c.args.spans.now c.args.seen.now c.args.cells.now
+    (listed_entries c.args.rows.now) c.loop-place.place all (listed_entries c.loop-place.rows)
+    (c.loop-place.invariant.listed once)

@@ -1,10 +1,5 @@
 use Rattle.std.proofs.Common.{◌≡◌, ◌++◌, ◌∷◌, [], ◌∙◌, ap, arith, below_more, get_or, length, replicate, sym}
-use Rattle.std.proofs.lemmas.List.{get_or_append_left, get_or_default, length-replicate}
-use Rattle.std.proofs.Math.Seq.{get_or-append_seam}
-use Rattle.star_schema.specs.declared.group.Aggregate.TheVariants.{Count, Sum}
-use Rattle.star_program.specs.Rows.{cut}
-use Rattle.star_program.proofs.Rows.{length-cut}
-use Rattle.star_group.specs.ByPlace.{neutral}
+use Rattle.star_group.proofs.Common.{get_or_append_left, get_or_default, length-replicate, get_or-append_seam, Count, Sum, cut, length-cut, neutral}
 use Rattle.star_group.proofs.CutRows.{cut_one, more_long}
 use Rattle.star_group.proofs.placed.making.blank_cells.Goals as goal
 

@@ -1,8 +1,5 @@
 use Rattle.std.proofs.Common.{◌≡◌, ◌<◌, ◌*◌, ℕ, [], length, replicate}
-use Rattle.std.specs.Prelude.{slice_index_or}
-use Rattle.star_schema.specs.declared.group.Aggregate.TheVariants.{Count}
-use Rattle.star_program.specs.Rows.{cut}
-use Rattle.star_group.specs.ByPlace.{neutral}
+use Rattle.star_group.proofs.Common.{slice_index_or, Count, cut, neutral}
 use Rattle.star_group.proofs.placed.making.blank_cells.Given as goal
 
 abbrev pub invariant-loop-aggregate : goal.invariant-loop-aggregate

@@ -1,6 +1,5 @@
 use Rattle.std.proofs.Common.{◌≡◌, ◌≤◌, ◌<◌, ℕ, Some, drop, length}
-use Rattle.std.specs.Prelude.{slice_index_or}
-use Rattle.star_group.specs.Batches.{put_in}
+use Rattle.star_group.proofs.Common.{slice_index_or, put_in}
 use Rattle.star_group.specs.Places as spec
 use Rattle.star_group.proofs.placed.places.find_places.Given as goal
 

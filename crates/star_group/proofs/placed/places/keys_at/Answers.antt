@@ -1,7 +1,5 @@
 use Rattle.std.proofs.Common.{◌≡◌, ◌<◌, ◌++◌, ◌∷◌, [], List, Some, add-one, ap, arith, drop, length, subst, suc, sym, take, ◌∙◌}
-use Rattle.std.proofs.Math.Seq.{take-suc-set}
-use Rattle.std.proofs.lemmas.Grind.{common_steps}
-use Rattle.star_program.specs.declared.key.KeyValue.{KeyValue}
+use Rattle.star_group.proofs.Common.{take-suc-set, common_steps, KeyValue}
 use Rattle.star_group.specs.Places as spec
 use Rattle.star_group.proofs.SpanPlaces.{HasFirst, all_kept, behind_first, next_place}
 use Rattle.star_group.proofs.placed.places.keys_at.Goals as goal

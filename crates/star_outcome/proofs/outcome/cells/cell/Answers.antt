@@ -9,13 +9,13 @@ use Rattle.star_outcome.proofs.outcome.cells.cell.Goals as goal
 
 pub key_cell-requires : goal.key_cell-requires
 key_cell-requires c =
-    rw (c.part_at.ensures, c.keys.ensures, c.as_slice.ensures)
+    rw (c.key.ensures, c.as_slice.ensures)
     (decodable_at c.args.catalogue.now c.args.declared.now.keys
     (row_at c.args.rows.now c.args.number).keys c.in-Key.place c.requires.keys)
 
 pub returns-in-Key : goal.returns-in-Key
 returns-in-Key c =
-    let shown = rw (c.part_at.ensures, c.keys.ensures, c.as_slice.ensures) at c.key_cell.ensures in
+    let shown = rw (c.key.ensures, c.as_slice.ensures) at c.key_cell.ensures in
     if_ok _ _ c.key_cell.result (λ cell is.
     is
     ∙ ap key_cell (sym (decoded_at c.args.catalogue.now c.args.declared.now.keys

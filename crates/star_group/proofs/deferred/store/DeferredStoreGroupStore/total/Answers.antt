@@ -1,10 +1,6 @@
 use Rattle.std.proofs.Common.{None, ap, ◌∙◌, get_or}
-use Rattle.std.proofs.lemmas.List.{get_or_default}
-use Rattle.star_schema.specs.declared.group.Aggregate.TheVariants.{Count}
-use Rattle.star_schema.specs.Groups.{numbers_for}
+use Rattle.star_group.proofs.Common.{get_or_default, Count, numbers_for, shown, aggregate_at}
 use Rattle.star_group.specs.Deferred.{group_view}
-use Rattle.star_group.specs.Private.Given.{shown}
-use Rattle.star_program.specs.Puts.{aggregate_at}
 use Rattle.star_group.proofs.Totals.{shown_held}
 use Rattle.star_group.proofs.deferred.store.DeferredStoreGroupStore.total.Goals as goal
 

@@ -1,10 +1,5 @@
-use Rattle.std.proofs.Common.{arith, sym, ◌∙◌, subst}
-use Rattle.star_group.specs.Eager.{group_view}
-use Rattle.star_group.specs.Entries.{entries_of}
-use Rattle.star_group.specs.Private.Coarser.{shown_entries}
-use Rattle.star_group.specs.Private.Given.{rows_given}
-use Rattle.star_group.specs.StoreRows.{AreRows}
-use Rattle.star_group.proofs.AllRows.{are_rows}
+use Rattle.std.proofs.Common.{sym, subst}
+use Rattle.star_group.proofs.Common.{AreGrouped, group_with, AreOnce, listed_entries, AreRows}
 use Rattle.star_group.proofs.Contents.{if_ok}
 use Rattle.star_group.proofs.KeyedRows.{rows_once}
 use Rattle.star_group.proofs.eager.store.EagerStoreGroupStore.into_rows.Goals as goal
@@ -12,10 +7,14 @@ use Rattle.star_group.proofs.eager.store.EagerStoreGroupStore.into_rows.Goals as
 pub returns : goal.returns
 returns c =
     let s = c.args.self in
-    if_ok _ _ c.rows_given.result
-    (λ rows is puts has. subst (λ xs. AreRows (group_view s) puts xs)
-    (sym (is ∙ (λ i. rows_given s.shape s.key_count (c.as_slice-aggregates.ensures.value i)
-    s.total (shown_entries (c.into_listed-rows.ensures.rows i)))))
-    (are_rows (group_view s) puts (entries_of s.rows) s.total
-    (omega (arith, s.wide, s.rows.trie.few)) (rows_once s.rows) has))
-    c.rows_given.ensures
+    let same = c.as_slice.ensures.value in
+    let listed = c.into_listed-rows.ensures.rows in
+    if_ok _ _ c.given.result
+    (λ rows are puts has.
+    subst (λ hs. AreRows (group_with s.shape s.key_count hs) puts rows) same
+    (are (subst AreOnce (sym listed) (rows_once s.rows)) puts
+    (subst (λ hs. AreGrouped (group_with s.shape s.key_count hs)
+    (listed_entries c.into_listed-rows.result) puts) (sym same)
+    (subst (λ es. AreGrouped (group_with s.shape s.key_count s.aggregates.items) es puts)
+    (sym listed) has.grouped))))
+    c.given.ensures

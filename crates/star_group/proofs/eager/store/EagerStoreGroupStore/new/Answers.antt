@@ -1,7 +1,11 @@
-use Rattle.star_group.proofs.Contents.{holds_first}
+use Rattle.star_group.proofs.Bases.{no_rows}
+use Rattle.star_group.proofs.Merging.{held_none}
 use Rattle.star_group.proofs.Totals.{nothing_none}
+use Rattle.std.proofs.Common.{sym, ◌∙◌}
 use Rattle.star_group.proofs.eager.store.EagerStoreGroupStore.new.Goals as goal
 
 pub returns-clause-empty : goal.returns-clause-empty
-returns-clause-empty c =
-    holds_first _ _ _ c.in_ok-rows.ensures.empty (nothing_none _ c.new-3.ensures)
+returns-clause-empty c = record {
+  grouped = no_rows _ _ c.in_ok-rows.ensures.empty;
+  total = λ place h. nothing_none _ c.new-2.ensures place ∙ sym (held_none _);
+}

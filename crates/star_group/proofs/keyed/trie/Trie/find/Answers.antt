@@ -1,6 +1,5 @@
 use Rattle.std.proofs.Common.{◌≡◌, ◌<◌, ◌-◌, ◌∙◌, ap, sym, subst, arith}
-use Rattle.star_program.specs.Rows.{cut}
-use Rattle.star_group.specs.Private.Tries.{child, digit_at, key_at}
+use Rattle.star_group.proofs.Common.{cut, child, digit_at, key_at}
 use Rattle.star_group.proofs.Tries.{apart_when, start, further, missing}
 use Rattle.star_group.proofs.keyed.trie.Trie.find.Goals as goal
 

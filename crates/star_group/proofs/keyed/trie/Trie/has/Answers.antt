@@ -1,6 +1,5 @@
 use Rattle.std.proofs.Common.{◌≡◌, MatchBool, subst}
-use Rattle.star_program.specs.Rows.{cut}
-use Rattle.star_group.specs.Private.Tries.{key_at}
+use Rattle.star_group.proofs.Common.{cut, key_at}
 use Rattle.star_group.proofs.Tries.{held_when}
 use Rattle.star_group.proofs.keyed.trie.Trie.has.Goals as goal
 

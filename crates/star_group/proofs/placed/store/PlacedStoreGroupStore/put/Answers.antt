@@ -1,12 +1,6 @@
 use Rattle.std.proofs.Common.{◌≡◌, ◌*◌, ◌∷◌, None, Some, ap, length, sym, ◌∙◌}
-use Rattle.std.specs.List.{filter}
-use Rattle.std.specs.Vec.{with_items}
-use Rattle.std.proofs.lemmas.List.{with_items_is}
+use Rattle.star_group.proofs.Common.{filter, with_items, with_items_is, entries_of, group_view, is_outside, cell_place, Update}
 use Rattle.star_group.specs.Deferred as deferred
-use Rattle.star_group.specs.Entries.{entries_of}
-use Rattle.star_group.specs.Placed.{group_view}
-use Rattle.star_group.specs.Places.{is_outside, cell_place}
-use Rattle.star_program.specs.Puts.{Update}
 use Rattle.star_group.proofs.PlacedPuts.{outside_room, room_outside, takes_put}
 use Rattle.star_group.proofs.placed.store.PlacedStoreGroupStore.put.Goals as goal
 

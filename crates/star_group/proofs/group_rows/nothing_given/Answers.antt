@@ -1,0 +1,7 @@
+use Rattle.star_group.specs.Private.Listed.{listed_entries}
+use Rattle.star_group.proofs.GivenRows.{nothing_row}
+use Rattle.star_group.proofs.group_rows.nothing_given.Goals as goal
+
+pub returns : goal.returns
+returns c = nothing_row c.args.key_count c.args.aggregates.now _ _ (listed_entries c.args.rows) _
+    c.requires.none c.in_ok-push.ensures.rows c.over_nothing.ensures

@@ -1,0 +1,9 @@
+use Rattle.std.proofs.Common.{map, take}
+use Rattle.star_group.proofs.Common.{key_view, row_found, entries_of, AllStay}
+use Rattle.star_group.proofs.MergedRows.{among}
+use Rattle.star_group.proofs.rows.all_take.Given as goal
+
+abbrev pub invariant-loop-index : goal.invariant-loop-index
+invariant-loop-index l =
+    AllStay (row_found (entries_of l.rows)) (among (take l.index (map key_view l.row_keys)))
+    l.aggregates l.more
