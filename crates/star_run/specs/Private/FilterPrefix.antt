@@ -1,5 +1,5 @@
 -- The leading filters of a body: the keeps among its first instructions, as long as these only write registers. A turn ends early where the flag of one of them is false.
-use Rattle.std.specs.Prelude.{ℕ, zero, suc, ◌+◌, Bool, true, false, ◌&&◌, ◌||◌, Option, Some, None, if◌then◌else◌}
+use Rattle.std.specs.Prelude.{ℕ, zero, suc, ◌+◌, Bool, true, false, ◌&&◌, Option, Some, None, if◌then◌else◌}
 use Rattle.star_program.specs.declared.op.Op.{Op}
 use Rattle.star_program.specs.declared.op.Op.TheVariants.{Assign, Keep}
 use Rattle.star_program.specs.declared.op.Operation.{Operation}
@@ -7,11 +7,8 @@ use Rattle.star_program.specs.declared.op.Operation.TheVariants.{Find, Read}
 use Rattle.star_program.specs.declared.program.Parts.{Parts}
 use Rattle.star_program.specs.Code.{Code, Then}
 use Rattle.star_program.specs.Effects.{State, empty_state, next_registers}
-use Rattle.star_program.specs.Faults.{target_of}
-use Rattle.star_program.specs.Run.{End, Ended, Trapped, Limited, after, visited}
 use Rattle.star_program.specs.Values.{Registers, flag_read}
 use Rattle.star_program.specs.World.{World}
-use Rattle.star_safety.specs.Contexts.{is_target}
 
 -- ---- a turn
 
@@ -58,12 +55,6 @@ registers_behind w parts (suc n) (Then op rest) regs =
     registers_behind w parts n rest (next_registers w parts regs empty_state op)
 registers_behind w parts (suc n) code regs = regs
 
--- the registers that are written before it
-abbrev pub writes : ℕ → Code → ℕ → Bool
-writes zero code q = false
-writes (suc n) (Then op rest) q = is_target (target_of op) q || writes n rest q
-writes (suc n) code q = false
-
 -- how many look-ups there are before it
 abbrev pub op_looks : Op → ℕ
 op_looks (Assign t o) = looks o
@@ -85,23 +76,9 @@ abbrev pub shifted : ℕ → ℕ → State → State
 shifted visits lookups s =
     record s { visits = s.visits + visits; lookups = s.lookups + lookups }
 
-abbrev pub end_shifted : ℕ → ℕ → End → End
-end_shifted visits lookups (Ended s) = Ended (shifted visits lookups s)
-end_shifted visits lookups (Trapped at trap) = Trapped at trap
-end_shifted visits lookups Limited = Limited
-
 -- ---- turns that end early, where it is known row by row
 
--- how many of some turns, from a row on, end early
-abbrev pub one_early : Option ℕ → ℕ
-one_early None = 0
-one_early (Some lookups) = 1
-
-abbrev pub early_turns : (ℕ → Option ℕ) → ℕ → ℕ → ℕ
-early_turns ends zero row = 0
-early_turns ends (suc count) row = one_early (ends row) + early_turns ends count (row + 1)
-
--- how many look-ups there are in these
+-- how many look-ups there are in the turns, from a row on, that end early
 abbrev pub looks_early : Option ℕ → ℕ
 looks_early None = 0
 looks_early (Some lookups) = lookups
@@ -109,13 +86,3 @@ looks_early (Some lookups) = lookups
 abbrev pub early_looks : (ℕ → Option ℕ) → ℕ → ℕ → ℕ
 early_looks ends zero row = 0
 early_looks ends (suc count) row = looks_early (ends row) + early_looks ends count (row + 1)
-
-abbrev pub unless_early : Option ℕ → (State → End) → (State → End) → State → End
-unless_early None turn next s = after (turn (visited s)) next
-unless_early (Some lookups) turn next s = next s
-
--- the other turns alone, one after another
-abbrev pub other_turns : (ℕ → Option ℕ) → ℕ → ℕ → (ℕ → State → End) → State → End
-other_turns ends zero row turn s = Ended s
-other_turns ends (suc count) row turn s =
-    unless_early (ends row) (turn row) (other_turns ends count (row + 1) turn) s
