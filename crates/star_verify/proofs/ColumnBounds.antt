@@ -13,7 +13,7 @@ use Rattle.star_schema.proofs.Same.{at_index, column_same, index_within}
 use Rattle.star_interval.specs.declared.Interval.{Interval}
 use Rattle.star_interval.specs.Interval.{range_of}
 use Rattle.star_program.specs.World.{World}
-use Rattle.star_verify.specs.Private.Facts.{AreBoundsBefore, AreFacts}
+use Rattle.star_verify.specs.Facts.{AreBoundsBefore, AreFacts}
 
 module _ (w : World) (bounds : List Interval) (k : ℕ) (d : ColumnId) (new : Interval) where
   pub one_more : length bounds ≡ 58 → AreBoundsBefore w bounds k

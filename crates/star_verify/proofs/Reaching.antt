@@ -9,7 +9,7 @@ use Rattle.star_program.specs.World.{World}
 use Rattle.star_safety.specs.declared.reason.Reached.{Reached}
 use Rattle.star_safety.specs.Refusals.{with_bounds}
 use Rattle.star_verify.specs.declared.facts.Facts.{Facts}
-use Rattle.star_verify.specs.Private.Facts.{AreFacts}
+use Rattle.star_verify.specs.Facts.{AreFacts}
 
 abbrev between : ColumnId → Range → Reached
 between c r = record { column = c; low = r.low; high = r.high }

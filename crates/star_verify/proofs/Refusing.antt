@@ -19,7 +19,7 @@ use Rattle.star_safety.proofs.Forward.{first_standing}
 use Rattle.star_verify.specs.declared.facts.Facts.{Facts}
 use Rattle.star_verify.specs.declared.refusal.Refusal.{Refusal}
 use Rattle.star_verify.specs.declared.refusal.Refusal.TheVariants as told
-use Rattle.star_verify.specs.Private.Facts.{AreFacts}
+use Rattle.star_verify.specs.Facts.{AreFacts}
 use Rattle.star_verify.specs.Private.Judged.{IsFirst}
 use Rattle.star_verify.specs.Views.{refusal_view}
 

@@ -1,6 +1,5 @@
 -- What no public clause speaks of.
 pub mod Views
-pub mod Facts
 pub mod Bounded
 pub mod Made
 pub mod Kept

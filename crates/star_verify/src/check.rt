@@ -7,7 +7,7 @@ ghost use Rattle.star_program.specs.World.{World};
 ghost use Rattle.star_safety.specs.Contexts.{at_end, at_first};
 ghost use Rattle.star_safety.specs.Private.Forward.{first_reason, none_open};
 ghost use Rattle.star_safety.specs.Quote as spec;
-ghost use Rattle.star_verify.specs.Private.Facts.{AreFacts};
+ghost use Rattle.star_verify.specs.Facts.{AreFacts};
 ghost use Rattle.star_verify.specs.Private.Judged.{AreFewAt, IsChecked, IsFirst, IsSized, KeepsContext};
 ghost use Rattle.star_verify.specs.Private.Kept.{HasKeyShares};
 

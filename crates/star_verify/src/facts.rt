@@ -1,5 +1,4 @@
-// What a check needs of a catalogue: how many rows its tables have, and between what its numbers
-// lie.
+// The row counts and column bounds that a check of a program needs.
 
 ghost use Rattle.std.specs.Prelude.{◌≡◌, IfOk, None, slice_index_or};
 ghost use Rattle.star_schema.specs.Schema.{index_of};
@@ -9,7 +8,7 @@ ghost use Rattle.star_program.specs.World as world;
 ghost use Rattle.star_program.specs.World.{World};
 ghost use Rattle.star_safety.specs.Ranges as ranges;
 ghost use Rattle.star_safety.specs.Refusals as refusals;
-ghost use Rattle.star_verify.specs.Private.Facts.{AreFacts};
+ghost use Rattle.star_verify.specs.Facts.{AreFacts};
 ghost use Rattle.star_verify.specs.Private.Views.{known_view, reach_view};
 
 use crate::known::Known;
@@ -20,14 +19,15 @@ use star_safety::{Reached, ReachedColumns};
 use star_schema::{COLUMNS, ColumnId, Sizes, TableId, is_table, is_text, references};
 use std::alloc::{AllocError, Global};
 
-// How many columns all tables have.
-const COLUMN_COUNT: usize = 58;
-
-// The bounds go by the order of all columns, and are 0 and 0 for columns of texts.
+/// What the check of a program needs of some tables. Tables with equal facts accept the same
+/// programs, with the same quotes, and refuse the others alike.
 #[derive(Clone, Copy)]
-pub(crate) struct Facts {
-    pub(crate) sizes: Sizes,
-    pub(crate) bounds: [Interval; COLUMN_COUNT],
+pub struct Facts {
+    /// The row counts.
+    pub sizes: Sizes,
+    /// The least and the greatest number of each of the 58 columns, in their order; 0 and 0 for
+    /// columns of texts, and for columns without rows.
+    pub bounds: [Interval; 58],
 }
 
 // The least and the greatest number of a column, of a column of texts 0 and 0.
@@ -43,11 +43,11 @@ fn column_bounds(catalogue: &Catalogue, column: ColumnId) -> Interval
 }
 
 impl Facts {
-    // What a check needs of a catalogue.
-    pub(crate) fn of(catalogue: &Catalogue) -> Facts
+    /// Returns the facts of a catalogue.
+    pub fn of(catalogue: &Catalogue) -> Facts
         ensures { AreFacts (world_of catalogue.now) result }
     {
-        let mut bounds = [Interval::point(0); COLUMN_COUNT];
+        let mut bounds = [Interval::point(0); 58];
         for column in &COLUMNS {
             bounds[*column as usize] = column_bounds(catalogue, *column);
         }

@@ -13,7 +13,7 @@ ghost use Rattle.star_safety.specs.Private.Forward.{open_with};
 ghost use Rattle.star_safety.specs.Ranges.{kinds_known};
 ghost use Rattle.star_safety.specs.declared.reason.Reason.TheVariants.{Faulty};
 ghost use Rattle.star_safety.specs.Refusals.{op_reason, range_reason, source_reason, target_again};
-ghost use Rattle.star_verify.specs.Private.Facts.{AreFacts};
+ghost use Rattle.star_verify.specs.Facts.{AreFacts};
 ghost use Rattle.star_verify.specs.Private.Judged.{AreFewAt, InEachContext, IsFirst, IsReady, IsSized, KeepsContext, TellsReason};
 ghost use Rattle.star_verify.specs.Private.Kept.{AreTalliesFew, HasKeyShares, HasShares, flag_at};
 ghost use Rattle.star_verify.specs.Private.Made.{beyond_view};

@@ -2,6 +2,7 @@
 #![tactic(auto)]
 
 mod check;
+mod dry_run;
 mod facts;
 mod gifts;
 mod instructions;
@@ -20,6 +21,8 @@ mod verified;
 mod visits;
 mod walk;
 
+pub use dry_run::forecast;
+pub use facts::Facts;
 pub use refusal::Refusal;
 pub use star_safety::{Reached, ReachedColumns, Reason};
 pub use verified::{Refused, Verified, verify};

@@ -12,7 +12,7 @@ ghost use Rattle.star_safety.specs.Ranges as ranges;
 ghost use Rattle.star_safety.specs.Refusals.{overflow, range_reason, source_reason};
 ghost use Rattle.star_safety.specs.Tallies.{reach_of, read_range};
 ghost use Rattle.star_interval.specs.Range.{only};
-ghost use Rattle.star_verify.specs.Private.Facts.{AreFacts};
+ghost use Rattle.star_verify.specs.Facts.{AreFacts};
 ghost use Rattle.star_verify.specs.Private.Kept.{AreMarked, HasShares, flag_at};
 ghost use Rattle.star_verify.specs.Private.Made.{IsMade};
 ghost use Rattle.star_verify.specs.Private.Views.{known_in};

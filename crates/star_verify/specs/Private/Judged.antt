@@ -19,7 +19,7 @@ use Rattle.star_verify.specs.declared.instructions.Place.{Place}
 use Rattle.star_verify.specs.declared.refusal.Refusal.{Refusal}
 use Rattle.star_verify.specs.declared.refusal.Refusal.TheVariants as told
 use Rattle.star_verify.specs.declared.subject.Subject.{Subject}
-use Rattle.star_verify.specs.Private.Facts.{AreFacts}
+use Rattle.star_verify.specs.Facts.{AreFacts}
 use Rattle.star_verify.specs.Private.Kept.{AreMarked, AreTalliesFew, HasKeyShares, HasShares, flag_at}
 use Rattle.star_verify.specs.Private.Views.{known_in}
 use Rattle.star_verify.specs.Views.{refusal_view}

@@ -3,7 +3,7 @@ use Rattle.std.proofs.Common.{◌≡◌, ◌++◌, drop, map}
 use Rattle.std.specs.List.{filter}
 use Rattle.star_program.specs.World.{World}
 use Rattle.star_safety.specs.Refusals.{with_bounds}
-use Rattle.star_verify.specs.Private.Facts.{AreFacts}
+use Rattle.star_verify.specs.Facts.{AreFacts}
 use Rattle.star_verify.specs.Private.Views.{reach_view}
 use Rattle.star_verify.proofs.facts.Facts.reached.Given as goal
 

@@ -1,4 +1,4 @@
--- What a check needs of a world.
+-- The row counts and column bounds that a check of a program needs.
 use Rattle.std.specs.Prelude.{◌≡◌, ◌<◌, ℕ, List, slice_index_or}
 use Rattle.star_schema.specs.declared.column.ColumnId.{ColumnId}
 use Rattle.star_schema.specs.declared.table.TableId.{TableId}
@@ -9,12 +9,13 @@ use Rattle.star_interval.specs.Interval.{range_of}
 use Rattle.star_program.specs.World.{World}
 use Rattle.star_verify.specs.declared.facts.Facts.{Facts}
 
+-- they are those of a world
 pub record AreFacts (w : World) (facts : Facts) : Type 0 where
   pub sizes : (t : TableId) → size_of facts.sizes t ≡ w.size t
   pub bounds : (c : ColumnId) (i : Interval) → i ≡ slice_index_or facts.bounds (index_of c) i
       → range_of i ≡ w.bounds c
 
--- those of the columns that stand before a place among all
+-- the bounds of the columns before a position among all are those of a world
 abbrev pub AreBoundsBefore : World → List Interval → ℕ → Type 0
 AreBoundsBefore w bounds place =
     (c : ColumnId) (i : Interval) → index_of c < place
