@@ -1,11 +1,12 @@
 -- The tables of a folder, as they are read.
 use Rattle.std.proofs.Common.{◌≡◌, ℕ, List, [], refl}
-use Rattle.std.specs.Prelude.{Bool, Result, Ok, Err, OnOk}
+use Rattle.std.specs.Prelude.{Bool, Result, Ok, Err, IfOk, OnOk}
 use Rattle.star_schema.specs.declared.table.TableId.{TableId}
 use Rattle.star_schema.specs.declared.table.TableId.TheVariants.{Date, Customer, Supplier, Part, Lineorder}
 use Rattle.star_schema.specs.Database.{TableTexts}
 use Rattle.star_schema.specs.Most.{most_rows}
 use Rattle.star_reader.specs.Partway.{HasRead, Reading}
+use Rattle.star_catalogue.specs.Pieces.{AreRead}
 use Rattle.star_catalogue.specs.declared.read_tables.ReadTables.{ReadTables}
 use Rattle.star_cli.specs.ReadFolders.{AreWidelyRead, HasReadSome, StaysBetween}
 
@@ -55,3 +56,10 @@ all_read read date customer supplier part lineorder = (
     lineorder = lineorder.1;
   },
 )
+
+-- readers that were given these texts
+pub texts_read : {E : Type 0} (texts : TableTexts) (rows : ℕ) → rows ≡ most_rows
+    → (result : Result ReadTables E) → IfOk result (λ read. AreRead read rows texts)
+    → IfOk result AreWidelyRead
+texts_read texts rows widest (Ok read) are = (texts, rw widest at are)
+texts_read texts rows widest (Err error) are = tt

@@ -1,4 +1,5 @@
 mod Telling
 mod WorkedFailures
 pub mod Giving
+pub mod Loading
 pub mod FolderReads

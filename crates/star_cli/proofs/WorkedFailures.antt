@@ -14,7 +14,7 @@ use Rattle.star_engine.specs.declared.fault.EngineFault.TheVariants as engine
 use Rattle.star_engine.specs.declared.fault.EngineFault.TheVariants.{Query}
 use Rattle.star_cli.specs.declared.failure.Failure.TheVariants.{Words, File, Part, Unnamed, NamedTwice, OfFile, Unkept, Unwritten, OutOfMemory}
 use Rattle.star_service.specs.declared.reports.Halt.TheVariants as halts
-use Rattle.star_cli.specs.Failures.{failure_of_file, failure_of_halt, failure_of_words, failure_text, status_of}
+use Rattle.star_cli.specs.Failures.{failure_of_file, failure_of_halt, failure_text, status_of}
 use Rattle.star_service.specs.Names.{printed_name}
 
 -- of words that ask for nothing, of files that can't be read and of reports that end before the last,
@@ -22,6 +22,7 @@ use Rattle.star_service.specs.Names.{printed_name}
 module _ (name : Bor (List ℕ)) where
   lines : Gives failure_text (
       (Words words.NotText, Some (codes "error: a word is not UTF-8\n"))
+      ∷ (Words words.OutOfMemory, Some (codes "memory\n"))
       ∷ (OutOfMemory, Some (codes "memory\n"))
       ∷ (File name, Some (codes "file " ++ (printed_name name.now ++ codes "\n")))
       ∷ (Part 2, Some (codes "file lineorder.tbl.2\n"))
@@ -42,14 +43,12 @@ module _ (name : Bor (List ℕ)) where
       ∷ (Unkept name 10, Some (printed_name name.now ++ codes ": write 10\n"))
       ∷ (Unwritten 7, Some (codes "write 7\n")) ∷ [])
       × Gives status_of (
-      (Words words.NotText, 2) ∷ (Words words.EmptyFolder, 2) ∷ (Words words.NoCommand, 2)
+      (Words words.NotText, 2) ∷ (Words words.OutOfMemory, 7) ∷ (Words words.EmptyFolder, 2) ∷ (Words words.NoCommand, 2)
       ∷ (File name, 6) ∷ (Part 2, 6) ∷ (OutOfMemory, 7) ∷ (Unnamed name, 2) ∷ (NamedTwice name, 2)
       ∷ (OfFile name (Query (Unexpected 20)), 4) ∷ (Unkept name 10, 6) ∷ (Unwritten 7, 6) ∷ [])
-      × Gives failure_of_words
-      ((words.OutOfMemory, OutOfMemory) ∷ (words.NoCommand, Words words.NoCommand) ∷ [])
       × Gives (failure_of_file name) ((engine.OutOfMemory, OutOfMemory)
       ∷ (Query (Unexpected 20), OfFile name (Query (Unexpected 20))) ∷ [])
       × Gives failure_of_halt ((halts.OutOfMemory, OutOfMemory)
       ∷ (halts.Unkept name 10, Unkept name 10) ∷ (halts.Unwritten 7, Unwritten 7) ∷ [])
   unfolding failure_text words_fault_text engine_fault_text query_fault_text digits
-  lines = (refl, refl, refl, refl, refl)
+  lines = (refl, refl, refl, refl)

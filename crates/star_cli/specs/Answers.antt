@@ -4,7 +4,6 @@ use Rattle.star_schema.specs.declared.limits.Limits.{Limits}
 use Rattle.star_schema.specs.Most.{most_rows, most_visits}
 use Rattle.star_schema.specs.Database.{TableTexts}
 use Rattle.star_schema.specs.Loadable.{database_of}
-use Rattle.star_catalogue.specs.Load.{texts_view}
 use Rattle.star_engine.specs.declared.fault.EngineFault.{EngineFault}
 use Rattle.star_engine.specs.Answered.{Change, IsAnswered, IsUntouched}
 use Rattle.star_engine.specs.Bench.{AllFit, IsBench}
@@ -16,7 +15,6 @@ use Rattle.star_engine.specs.Queries.{IsExplained, IsNoQuery, IsQueryQuote, IsQu
 use Rattle.star_engine.specs.QuoteTexts.{IsQuoteText, IsUnquoted}
 use Rattle.star_engine.specs.Trials.{IsNoTrial, IsTrialReport}
 use Rattle.star_service.specs.Lines.{IsFaultTold}
-use Rattle.star_cli.specs.declared.answers.Bytes.{Bytes}
 use Rattle.star_words.specs.declared.request.Task.{Task}
 use Rattle.star_words.specs.declared.request.Task.TheVariants.{Sample, Check, Bench, Query, Explain, Exec, Quote, Trial}
 
@@ -104,18 +102,11 @@ IsGivenOf (Quote folder path) texts file out notes result =
 IsGivenOf (Trial folder path limits) texts file out notes result =
     IsNoneRefused (IsTried limits out texts file) result × IsUntouched notes
 
--- over the bytes that were read
-abbrev pub IsGiven : {S N : Type 0} → Task → Bytes → Change S → Change N
-    → Result Bool EngineFault → Type 0
-IsGiven task bytes out notes result =
-    IsGivenOf task (texts_view bytes.texts) bytes.file.now out notes result
-
--- a task over the tables of a folder, under the widest limit on rows
-abbrev pub IsOfFolder : Task → Type 0
-IsOfFolder Sample = ⊥
-IsOfFolder (Explain path) = ⊥
-IsOfFolder (Trial folder path limits) = limits.rows ≡ most_rows
-IsOfFolder _ = Unit {0}
+-- a task over tables, under the widest limit on rows
+abbrev pub IsOfTables : Task → Type 0
+IsOfTables (Explain path) = ⊥
+IsOfTables (Trial folder path limits) = limits.rows ≡ most_rows
+IsOfTables _ = Unit {0}
 
 -- ---- the exit status
 
@@ -134,8 +125,3 @@ pub record IsExitOf {S E : Type 0} (task : Task) (texts : TableTexts) (file : Li
   pub noted : E
   pub given : IsGivenOf task texts file out (record err { new = noted }) result
   pub ended : IsEnded (record err { old = noted }) result status
-
--- over the bytes that were read
-abbrev pub IsExit : {S E : Type 0} → Task → Bytes → Change S → Change E → (status : ℕ) → Type 0
-IsExit task bytes out err status =
-    IsExitOf task (texts_view bytes.texts) bytes.file.now out err status

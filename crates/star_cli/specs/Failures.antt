@@ -10,15 +10,8 @@ use Rattle.star_service.specs.Names.{printed_name}
 use Rattle.star_service.specs.declared.reports.Halt.{Halt}
 use Rattle.star_service.specs.declared.reports.Halt.TheVariants as halts
 use Rattle.star_words.specs.Faults.{words_fault_status, words_fault_text}
-use Rattle.star_words.specs.declared.fault.WordsFault.{WordsFault}
-use Rattle.star_words.specs.declared.fault.WordsFault.TheVariants as words
 use Rattle.star_cli.specs.declared.failure.Failure.{Failure}
 use Rattle.star_cli.specs.declared.failure.Failure.TheVariants.{Words, File, Part, Unnamed, NamedTwice, OfFile, Unkept, Unwritten, OutOfMemory}
-
--- words that ask for nothing: that too may be for want of memory
-abbrev pub failure_of_words : WordsFault → Failure
-failure_of_words words.OutOfMemory = OutOfMemory
-failure_of_words fault = Words fault
 
 -- a file that can't be read as a query or a program: that too may be for want of memory
 abbrev pub failure_of_file : Bor (List ℕ) → EngineFault → Failure

@@ -1,2 +1,3 @@
 -- What the contracts of functions that are not public cite.
+pub mod Asking
 pub mod FailedWrites

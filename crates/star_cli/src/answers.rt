@@ -1,54 +1,109 @@
-// The answer to a task, over the bytes that were read for it.
+// The answer to a task, over the tables and the file that were read for it.
 
+ghost use Rattle.std.specs.Prelude.{◌≡◌, ℕ, List, MatchResult};
 ghost use Rattle.star_schema.specs.Database.{TableTexts};
-ghost use Rattle.star_schema.specs.Most.{most_rows};
+ghost use Rattle.star_schema.specs.Loadable.{IsLoadable};
+ghost use Rattle.star_schema.specs.Most.{most_rows, most_visits};
 ghost use Rattle.star_catalogue.specs.Pieces.{AreRead};
-ghost use Rattle.star_cli.specs.Answers.{IsEnded, IsExit, IsExitOf, IsGiven, IsGivenOf, IsOfFolder};
+ghost use Rattle.star_cli.specs.Answers as spec;
+ghost use Rattle.star_cli.specs.Answers.{IsEnded, IsExitOf, IsGivenOf, IsListedAndBenched, IsOfTables};
+ghost use Rattle.star_cli.specs.Private.Asking.{AsksFor, IsNotAsked};
 ghost use Rattle.star_cli.specs.ReadFolders.{AreWidelyRead};
-ghost use Rattle.star_engine.specs.Answered.{change};
+ghost use Rattle.star_engine.specs.Answered.{OrMemory, change};
+ghost use Rattle.star_engine.specs.Loads.{loaded_of};
+ghost use Rattle.std.specs.Borrow.{Bor};
+ghost use Rattle.star_words.specs.declared.request.Task.{Task};
+ghost use Rattle.star_words.specs.declared.request.Task.TheVariants.{Explain};
 
-use crate::{calls, folder_calls};
+use crate::loads::engine_of;
 use star_common::Sink;
-use star_engine::{EngineFault, ReadTables, Texts, sample};
+use star_engine::{Engine, EngineFault, Question, ReadTables, explain_query};
+use star_schema::Limits;
 use star_service::tell_fault;
 use star_words::Task;
 use std::alloc::Global;
 
-/// The bytes that were read for a task: the five tables, and the task's file where it has
-/// one.
-#[derive(Clone, Copy)]
-pub struct Bytes<'a> {
-    pub texts: Texts<'a>,
-    pub file: &'a [u8],
+// What a task asks of an engine: an explanation asks nothing. The limits of a trial are those of its
+// visits.
+#[derive(Drop)]
+enum Asked {
+    Nothing,
+    List,
+    Bench,
+    ListAndBench,
+    Answer(Question),
+    Quote(Question),
+    Trial(Question, Limits),
 }
 
-// What the engine answers, and whether it refused no query of the benchmark.
-fn give<S: Sink, N: Sink>(
-    alloc: Global,
-    task: Task<'_>,
-    bytes: &Bytes<'_>,
-    out: &mut S,
-    notes: &mut N,
-) -> Result<bool, EngineFault>
-    ensures { IsGiven task.entry bytes.now (change S.contents S.is_failed out.old out.new)
-        (change N.contents N.is_failed notes.old notes.new) result }
+// Reads what a task asks.
+fn asked_of(alloc: Global, task: Task<'_>, file: &[u8]) -> Result<Asked, EngineFault>
+    ensures { IsOfTables task.entry
+        → MatchResult result (AsksFor task.entry file.now) (OrMemory (IsNotAsked task.entry file.now)) }
 {
-    let Bytes { texts, file } = *bytes;
     match task {
-        Task::Sample => calls::list_and_bench(alloc, &texts, out),
-        Task::Check { .. } => calls::list(alloc, &texts, out),
-        Task::Bench { .. } => calls::answer_benchmark(alloc, &texts, out),
-        Task::Query { .. } => calls::query(alloc, &texts, file, out, notes),
-        Task::Explain { .. } => calls::explain(alloc, file, out),
-        Task::Exec { .. } => calls::execute(alloc, &texts, file, out, notes),
-        Task::Quote { .. } => calls::quote(alloc, &texts, file, out),
-        Task::Trial { limits, .. } => calls::try_program(alloc, &texts, file, limits, out),
+        Task::Explain { .. } => Ok(Asked::Nothing),
+        Task::Sample => Ok(Asked::ListAndBench),
+        Task::Check { .. } => Ok(Asked::List),
+        Task::Bench { .. } => Ok(Asked::Bench),
+        Task::Query { .. } => Ok(Asked::Answer(Question::query(alloc, file)?)),
+        Task::Exec { .. } => Ok(Asked::Answer(Question::program(alloc, file)?)),
+        Task::Quote { .. } => Ok(Asked::Quote(Question::of_file(alloc, file)?)),
+        Task::Trial { limits, .. } => Ok(Asked::Trial(Question::program(alloc, file)?, limits)),
     }
 }
 
-// What the engine answers over the tables of a folder. The sample is in no folder, and an explanation
-// asks for no table.
-fn give_read<S: Sink, N: Sink>(
+// The answer of a call that refuses nothing by its Ok.
+fn whole(answer: Result<(), EngineFault>) -> Result<bool, EngineFault>
+    ensures { result ≡ spec.none_refused answer }
+{
+    match answer {
+        Ok(()) => Ok(true),
+        Err(fault) => Err(fault),
+    }
+}
+
+// The listing, and after it the reports of the benchmark.
+fn list_and_bench<S: Sink>(alloc: Global, engine: &Engine, out: &mut S) -> Result<bool, EngineFault>
+    ensures { (texts : TableTexts) → IsLoadable most_rows texts
+        → engine.now ≡ loaded_of most_rows most_visits texts
+        → IsListedAndBenched (change S.contents S.is_failed out.old out.new) texts result }
+{
+    match engine.check(alloc, out) {
+        Ok(()) => engine.bench(alloc, out),
+        Err(fault) => Err(fault),
+    }
+}
+
+// What an engine answers, and whether it refused no query of the benchmark.
+fn ask<S: Sink, N: Sink>(
+    alloc: Global,
+    engine: &Engine,
+    asked: Asked,
+    out: &mut S,
+    notes: &mut N,
+) -> Result<bool, EngineFault>
+    ensures { (texts : TableTexts) → IsLoadable most_rows texts
+        → engine.now ≡ loaded_of most_rows most_visits texts
+        → (task : Task) (file : List ℕ) → AsksFor task file asked → IsOfTables task
+        → IsGivenOf task texts file (change S.contents S.is_failed out.old out.new)
+        (change N.contents N.is_failed notes.old notes.new) result }
+{
+    match asked {
+        Asked::Nothing => Ok(true),
+        Asked::List => whole(engine.check(alloc, out)),
+        Asked::Bench => engine.bench(alloc, out),
+        Asked::ListAndBench => list_and_bench(alloc, engine, out),
+        Asked::Answer(question) => whole(engine.answer(alloc, question, out, notes)),
+        Asked::Quote(question) => whole(engine.quote(alloc, &question, out)),
+        Asked::Trial(question, limits) => {
+            whole(engine.trial(alloc, &question, limits.visits, out))
+        }
+    }
+}
+
+// What is answered to a task: its file is read as what it asks, and then the tables are loaded.
+fn give<S: Sink, N: Sink>(
     alloc: Global,
     task: Task<'_>,
     read: ReadTables,
@@ -57,20 +112,13 @@ fn give_read<S: Sink, N: Sink>(
     notes: &mut N,
 ) -> Result<bool, EngineFault>
     requires { AreWidelyRead read }
-    ensures { (texts : TableTexts) → AreRead read most_rows texts → IsOfFolder task.entry
+    ensures { (texts : TableTexts) → AreRead read most_rows texts → IsOfTables task.entry
         → IsGivenOf task.entry texts file.now (change S.contents S.is_failed out.old out.new)
         (change N.contents N.is_failed notes.old notes.new) result }
 {
-    match task {
-        Task::Sample => calls::list_and_bench(alloc, &sample(), out),
-        Task::Explain { .. } => calls::explain(alloc, file, out),
-        Task::Check { .. } => folder_calls::list(alloc, read, out),
-        Task::Bench { .. } => folder_calls::answer_benchmark(alloc, read, out),
-        Task::Query { .. } => folder_calls::query(alloc, read, file, out, notes),
-        Task::Exec { .. } => folder_calls::execute(alloc, read, file, out, notes),
-        Task::Quote { .. } => folder_calls::quote(alloc, read, file, out),
-        Task::Trial { limits, .. } => folder_calls::try_program(alloc, read, file, limits, out),
-    }
+    let asked = asked_of(alloc, task, file)?;
+    let engine = engine_of(alloc, read)?;
+    ask(alloc, &engine, asked, out, notes)
 }
 
 // The exit status after what the engine answered, and the line of its fault.
@@ -84,9 +132,11 @@ fn end<E: Sink>(alloc: Global, given: Result<bool, EngineFault>, err: &mut E) ->
     }
 }
 
-/// Does a task over the tables of a folder, which readers were given in pieces, and the bytes of the
-/// task's file where it has one, as `answer` does over texts.
-pub fn answer_read<S: Sink, E: Sink>(
+/// Writes what a task asks for on `out` and its notes on `err`, or tells on `err` why it can't, and
+/// gives the exit status. The tables were given to readers in pieces, and `file` has the bytes of the
+/// task's file where it has one. A line of a fault that can't be written changes no status; one for
+/// which there is no memory is told as want of memory.
+pub fn answer<S: Sink, E: Sink>(
     alloc: Global,
     task: Task<'_>,
     read: ReadTables,
@@ -95,27 +145,20 @@ pub fn answer_read<S: Sink, E: Sink>(
     err: &mut E,
 ) -> u8
     requires { AreWidelyRead read }
-    ensures { (texts : TableTexts) → AreRead read most_rows texts → IsOfFolder task.entry
+    ensures { (texts : TableTexts) → AreRead read most_rows texts → IsOfTables task.entry
         → IsExitOf task.entry texts file.now (change S.contents S.is_failed out.old out.new)
         (change E.contents E.is_failed err.old err.new) result }
 {
-    let given = give_read(alloc, task, read, file, out, err);
+    let given = give(alloc, task, read, file, out, err);
     end(alloc, given, err)
 }
 
-/// Writes what a task asks for on `out` and its notes on `err`, or tells on `err` why it can't, and
-/// gives the exit status. A line of a fault that can't be written changes no status; one for which
-/// there is no memory is told as want of memory.
-pub fn answer<S: Sink, E: Sink>(
-    alloc: Global,
-    task: Task<'_>,
-    bytes: &Bytes<'_>,
-    out: &mut S,
-    err: &mut E,
-) -> u8
-    ensures { IsExit task.entry bytes.now (change S.contents S.is_failed out.old out.new)
+/// Writes the program of the query of a file, as `answer` writes what other tasks ask for.
+pub fn explain<S: Sink, E: Sink>(alloc: Global, file: &[u8], out: &mut S, err: &mut E) -> u8
+    ensures { (path : Bor (List ℕ)) (texts : TableTexts) → IsExitOf (Explain path) texts file.now
+        (change S.contents S.is_failed out.old out.new)
         (change E.contents E.is_failed err.old err.new) result }
 {
-    let given = give(alloc, task, bytes, out, err);
+    let given = whole(explain_query(alloc, file, out));
     end(alloc, given, err)
 }

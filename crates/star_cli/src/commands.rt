@@ -5,16 +5,16 @@ ghost use Rattle.star_cli.specs.ReadFolders.{AreWidelyRead};
 ghost use Rattle.star_engine.specs.Answered.{change};
 ghost use Rattle.star_service.specs.Reports.{AreAllJudged};
 
-use crate::answers::{Bytes, answer, answer_read};
+use crate::answers::{answer, explain};
 use crate::directory::Directory;
 use crate::errands::{ReadFile, errands_of, read_files};
 use crate::failure::{Failure, end};
-use crate::files::{find_folder, read_file, read_tables};
+use crate::files::{find_folder, read_file, read_tables, sample_tables};
 use crate::input::StandardInput;
 use crate::loads::load_engine;
 use crate::progress::Watch;
 use star_common::{Out, Sink};
-use star_engine::{Engine, ReadTables, sample};
+use star_engine::{Engine, ReadTables};
 use star_service::{Errand, Halt, deliver_all, hold, judge_all, tell};
 use star_statements::Source;
 use star_words::{Reports, Request, Task, WordsFault, request_of};
@@ -40,7 +40,7 @@ fn read_for<'a, R: Files + AllocGlobal, P: Watch>(
 {
     Ok(match task {
         Task::Sample => Read {
-            tables: None,
+            tables: Some(sample_tables(rt.alloc())?),
             file: Vec::new(rt.alloc()),
         },
         Task::Explain { file } => Read {
@@ -64,7 +64,7 @@ fn read_for<'a, R: Files + AllocGlobal, P: Watch>(
     })
 }
 
-// Answers a task over what was read for it.
+// Answers a task over what was read for it; without tables it is an explanation.
 fn answer_over<S: Sink, E: Sink>(
     alloc: Global,
     task: Task<'_>,
@@ -75,16 +75,9 @@ fn answer_over<S: Sink, E: Sink>(
     requires { IfSome read.tables AreWidelyRead }
 {
     let Read { tables, file } = read;
-    let file = file.as_slice();
     match tables {
-        Some(tables) => answer_read(alloc, task, tables, file, out, err),
-        None => {
-            let bytes = Bytes {
-                texts: sample(),
-                file,
-            };
-            answer(alloc, task, &bytes, out, err)
-        }
+        Some(tables) => answer(alloc, task, tables, file.as_slice(), out, err),
+        None => explain(alloc, file.as_slice(), out, err),
     }
 }
 

@@ -6,7 +6,7 @@ ghost use Rattle.std.specs.Path.{path_file_stem};
 
 use crate::failure::Failure;
 use crate::files::read_file;
-use star_engine::check_text;
+use star_engine::Question;
 use star_service::Errand;
 use std::alloc::{AllocError, Global};
 use std::path::Path;
@@ -67,8 +67,8 @@ fn read_checked<'a, R: Files + AllocGlobal>(
     name: &'a str,
 ) -> Result<ReadFile<'a>, Failure<'a>> {
     let bytes = read_file(rt, path)?;
-    match check_text(rt.alloc(), bytes.as_slice()) {
-        Ok(()) => Ok(ReadFile { name, bytes }),
+    match Question::of_file(rt.alloc(), bytes.as_slice()) {
+        Ok(_) => Ok(ReadFile { name, bytes }),
         Err(fault) => Err(Failure::of_file(path, fault)),
     }
 }

@@ -3,8 +3,8 @@
 ghost use Rattle.std.specs.Prelude.{◌≡◌, ◌==◌, IfOk, string_bytes};
 ghost use Rattle.star_common.specs.Memory.{TellsMemory};
 ghost use Rattle.star_engine.specs.Answered.{change};
-ghost use Rattle.star_cli.specs.Failures.{AreReportsEnded, IsFailureTold, IsTextOf, IsToldOn, failure_of_file, failure_of_halt, failure_of_words, failure_text, status_of};
-ghost use Rattle.star_cli.specs.declared.failure.Failure.TheVariants.{OutOfMemory};
+ghost use Rattle.star_cli.specs.Failures.{AreReportsEnded, IsFailureTold, IsTextOf, IsToldOn, failure_of_file, failure_of_halt, failure_text, status_of};
+ghost use Rattle.star_cli.specs.declared.failure.Failure.TheVariants.{OutOfMemory, Words};
 
 use star_common::Sink;
 use star_engine::{EngineFault, FaultLine};
@@ -46,13 +46,10 @@ impl<'a> From<AllocError> for Failure<'a> {
 }
 
 impl<'a> From<WordsFault> for Failure<'a> {
-    ghost from_gives = { λ fault failure. failure ≡ failure_of_words fault };
+    ghost from_gives = { λ fault failure. failure ≡ Words fault };
 
     fn from(fault: WordsFault) -> Failure<'a> {
-        match fault {
-            WordsFault::OutOfMemory => Failure::OutOfMemory,
-            fault => Failure::Words(fault),
-        }
+        Failure::Words(fault)
     }
 }
 

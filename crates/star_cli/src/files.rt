@@ -6,7 +6,7 @@ ghost use Rattle.star_cli.specs.ReadFolders.{AreWidelyRead, HasReadSome, StaysBe
 
 use crate::failure::Failure;
 use crate::progress::{TableFile, Watch, Watched};
-use star_engine::{FileFault, Input, ReadTables, TableReader, read_expected, read_part};
+use star_engine::{FileFault, Input, ReadTables, TableReader, read_expected, read_part, sample};
 use star_schema::{Limits, TableId};
 use std::alloc::{AllocError, Global};
 use std::fs::{File, OpenFile};
@@ -275,6 +275,13 @@ pub(crate) fn read_tables<R: Files + AllocGlobal, P: Watch>(
     let read = read_all(rt, folder, progress);
     progress.end();
     read
+}
+
+/// The tables of the sample.
+pub(crate) fn sample_tables(alloc: Global) -> Result<ReadTables, AllocError>
+    ensures { IfOk result AreWidelyRead }
+{
+    ReadTables::of_texts(alloc, &sample(), Limits::widest())
 }
 
 /// Sees to it that a folder is there, which a failure names as the words do.

@@ -1,13 +1,14 @@
 -- What is printed of the programs of the thirteen queries is what is printed of the queries.
-use Rattle.std.proofs.Common.{◌≡◌, ◌<◌, ◌++◌, ◌∙◌, ℕ, Bool, true, false, List, [], ◌∷◌, ap, arith, drop, inl, inr, length, refl, subst, sym}
+use Rattle.std.proofs.Common.{◌≡◌, ◌≤◌, ◌<◌, ◌+◌, ◌++◌, ◌∙◌, ℕ, Bool, true, false, List, [], ◌∷◌, Some, ap, append_assoc, arith, drop, inl, inr, length, refl, subst, sym}
 use Rattle.std.specs.Prelude.{◌&&◌, ◌↔◌, IsTrue, codes}
 use Rattle.std.specs.Prelude.{Result, Err}
-use Rattle.std.specs.List.{AllByRecursion}
-use Rattle.std.proofs.lemmas.List.{length-append}
+use Rattle.std.specs.List.{AllByRecursion, slice_get}
+use Rattle.std.proofs.lemmas.List.{append-nil, drop_all, length-append}
+use Rattle.star_common.proofs.Lists.{drop_at_place}
 use Rattle.star_schema.specs.Database.{Database}
 use Rattle.star_plan.specs.Meaning.{Plan}
+use Rattle.star_program.specs.declared.program.Parts.{Parts}
 use Rattle.star_compile_laws.specs.Compiled.{compiled}
-use Rattle.star_engine.specs.declared.benchmark.Prepared.{Prepared}
 use Rattle.star_engine.specs.declared.fault.EngineFault.{EngineFault}
 use Rattle.star_engine.specs.declared.fault.EngineFault.TheVariants as engine
 use Rattle.star_engine.specs.declared.thirteen.BenchmarkQuery.{BenchmarkQuery}
@@ -18,12 +19,56 @@ use Rattle.star_engine.specs.Bench.{AreSections, IsBenchOver, IsFinding, IsSecti
 use Rattle.star_engine.specs.Executions.{quote_over}
 use Rattle.star_engine.specs.Notes.{quote_line}
 use Rattle.star_engine.specs.Queries.{FitsRows, IsPlanOf, fact_rows}
+use Rattle.star_engine.specs.Questions.{IsProgramOfQuery}
 use Rattle.star_engine.specs.Thirteen.{query_name, query_text}
-use Rattle.star_engine.specs.Private.BenchSteps.{AreSectionsOver, ArePrepared, IsRunFound, IsSectionOver}
-use Rattle.star_engine.specs.Private.QuerySteps.{IsProgramOfQuery}
-use Rattle.star_engine.proofs.QueryAnswers.{IsJudged, refusal_told}
+use Rattle.star_engine.specs.Private.BenchSteps.{IsRunFound}
+use Rattle.star_engine.specs.Private.QuerySteps.{IsJudged}
+use Rattle.star_engine.proofs.QueryAnswers.{refusal_told}
 
--- ---- verdicts
+-- ---- one query
+
+module _ (most : ℕ) (database : Database) (query : List ℕ) (p : Plan) (meant : IsPlanOf query p)
+    (laws : IsJudged most database query p) where
+  found_told : (fits : Bool) (text : List ℕ) → IsRunFound database most (compiled p) fits text
+      → IsFinding most database query text
+  found_told true text (telling, told, printed) =
+      inl (
+        laws.accepted.1 told.accepted,
+        rw (printed ∙ told.reported)
+            (laws.printed told.yields.s told.yields.ended told.outcome told.yields.told),
+      )
+  found_told false text (refusal, refused, printed) =
+      inr (refusal, refusal_told most database query p meant laws refusal refused, printed)
+
+  judgement : (fits : Bool) (text : List ℕ) → IsRunFound database most (compiled p) fits text
+      → IsTrue fits ↔ FitsRows most database query
+  judgement true text (telling, told, printed) =
+      ((λ is. laws.accepted.1 told.accepted), (λ fits. refl))
+  judgement false text (refusal, refused, printed) =
+      let told = refusal_told most database query p meant laws refusal refused in
+      ((λ is. absurd (cc)), (λ fits. absurd (told.unfit fits)))
+
+pub section_told : (most : ℕ) (database : Database) (q : BenchmarkQuery) (program : Parts)
+    → ((p : Plan) → IsPlanOf (query_text q) p → IsJudged most database (query_text q) p)
+    → IsProgramOfQuery (query_text q) program → (fits : Bool) (found section : List ℕ)
+    → IsRunFound database most program fits found
+    → section ≡ named_quote q (quote_over database program) ++ found
+    → IsSection most database q section × (IsTrue fits ↔ FitsRows most database (query_text q))
+section_told most database q program judged is fits found section finding printed =
+    let query = query_text q in
+    let laws = judged is.p is.meant in
+    let made : IsRunFound database most (compiled is.p) fits found =
+    subst (λ parts. IsRunFound database most parts fits found) is.made finding in
+    let quoted = ap (quote_over database) is.made ∙ laws.quoted in (
+      record {
+        found = found;
+        finding = found_told most database query is.p is.meant laws fits found made;
+        printed = printed ∙ ap (λ visits. named_quote q visits ++ found) quoted;
+      },
+      judgement most database query is.p is.meant laws fits found made,
+    )
+
+-- ---- one after another
 
 -- whether some queries of the benchmark fit
 abbrev pub IsVerdictOn : ℕ → Database → List BenchmarkQuery → (fit : Bool) → Type 0
@@ -35,67 +80,49 @@ both_verdicts : {A B : Type 0} (one others : Bool) → (IsTrue one ↔ A) → (I
 both_verdicts true others a b = ((λ is. (a.0 refl, b.0 is)), (λ both. b.1 both.1))
 both_verdicts false others a b = ((λ is. absurd (cc)), (λ both. a.1 both.0))
 
--- ---- sections
+and_assoc : (a b c : Bool) → a && (b && c) ≡ (a && b) && c
+and_assoc true b c = refl
+and_assoc false b c = refl
 
-module _ (most : ℕ) (database : Database)
-    (judged : (query : List ℕ) (p : Plan) → IsPlanOf query p → IsJudged most database query p) where
-  -- what is found of a query's program
-  found_told : (query : List ℕ) (p : Plan) → IsPlanOf query p → (fits : Bool) (text : List ℕ)
-      → IsRunFound database most (compiled p) fits text → IsFinding most database query text
-  found_told query p meant true text (outcome, run, printed) =
-      let laws = judged query p meant in
-      inl (
-        laws.accepted.1 run.accepted,
-        rw printed (laws.printed run.yields.s run.yields.ended outcome run.yields.told),
+and_true : (a : Bool) → a && true ≡ a
+and_true true = refl
+and_true false = refl
+
+module _ (most : ℕ) (database : Database) where
+  -- with the sections of the queries that remain the text is that of all
+  abbrev pub GoesOn : (all left : List BenchmarkQuery) → (fits : Bool) → (text : List ℕ) → Type 0
+  GoesOn all left fits text = (fit : Bool) (rest : List ℕ) → AreSections most database left rest
+      → IsVerdictOn most database left fit
+      → AreSections most database all (text ++ rest) × IsVerdictOn most database all (fits && fit)
+
+  pub one_section : (all : List BenchmarkQuery) (i : ℕ) (q : BenchmarkQuery) (fits one : Bool)
+      (text section : List ℕ) → slice_get all i ≡ Some q → IsSection most database q section
+      → (IsTrue one ↔ FitsRows most database (query_text q))
+      → GoesOn all (drop i all) fits text → GoesOn all (drop (i + 1) all) (fits && one) (text ++ section)
+  one_section all i q fits one text section at is verdict goes fit rest others verdicts =
+      let left : drop i all ≡ q ∷ drop (i + 1) all = drop_at_place all i q at in
+      let whole =
+      goes (one && fit) (section ++ rest)
+      (subst (λ qs. AreSections most database qs (section ++ rest)) (sym left)
+      (section, rest, is, others, refl))
+      (subst (λ qs. IsVerdictOn most database qs (one && fit)) (sym left)
+      (both_verdicts one fit verdict verdicts))
+      in (
+        subst (AreSections most database all) (sym (append_assoc text section rest)) whole.0,
+        subst (IsVerdictOn most database all) (and_assoc fits one fit) whole.1,
       )
-  found_told query p meant false text (refusal, refused, printed) =
-      inr (
-        refusal,
-        refusal_told most database query p meant (judged query p meant) refusal refused,
-        printed,
+
+  pub all_sections : (all : List BenchmarkQuery) (i : ℕ) (fits : Bool) (text : List ℕ)
+      → length all ≤ i → GoesOn all (drop i all) fits text
+      → AreSections most database all text × IsVerdictOn most database all fits
+  all_sections all i fits text past goes =
+      let none : drop i all ≡ [] = drop_all i all past in
+      let whole =
+      goes true [] (subst (λ qs. AreSections most database qs []) (sym none) refl)
+      (subst (λ qs. IsVerdictOn most database qs true) (sym none) ((λ is. tt), (λ fit. refl))) in (
+        subst (AreSections most database all) (append-nil text) whole.0,
+        subst (IsVerdictOn most database all) (and_true fits) whole.1,
       )
-
-  judgement : (query : List ℕ) (p : Plan) → IsPlanOf query p → (fits : Bool) (text : List ℕ)
-      → IsRunFound database most (compiled p) fits text → IsTrue fits ↔ FitsRows most database query
-  judgement query p meant true text (outcome, run, printed) =
-      ((λ is. (judged query p meant).accepted.1 run.accepted), (λ fits. refl))
-  judgement query p meant false text (refusal, refused, printed) =
-      let told = refusal_told most database query p meant (judged query p meant) refusal refused in
-      ((λ is. absurd (cc)), (λ fits. absurd (told.unfit fits)))
-
-  module _ (q : BenchmarkQuery) (x : Prepared) (named : x.query ≡ q)
-      (is : IsProgramOfQuery (query_text q) x.program) (fits : Bool) (section : List ℕ)
-      (over : IsSectionOver database most x fits section) where
-    finding : IsRunFound database most (compiled is.p) fits over.found
-    finding = subst (λ made. IsRunFound database most made fits over.found) is.made over.finding
-
-    quoted : quote_over database x.program ≡ fact_rows database
-    quoted = ap (quote_over database) is.made ∙ (judged (query_text q) is.p is.meant).quoted
-
-    section_told : IsSection most database q section
-    section_told = record {
-      found = over.found;
-      finding = found_told (query_text q) is.p is.meant fits over.found finding;
-      printed = over.printed ∙ (λ i. named_quote (named i) (quoted i) ++ over.found);
-    }
-
-    one_verdict : IsTrue fits ↔ FitsRows most database (query_text q)
-    one_verdict = judgement (query_text q) is.p is.meant fits over.found finding
-
-  pub sections_told : (qs : List BenchmarkQuery) (xs : List Prepared) (fit : Bool) (text : List ℕ)
-      → ArePrepared qs xs → AreSectionsOver database most xs fit text
-      → AreSections most database qs text × IsVerdictOn most database qs fit
-  sections_told [] [] fit text prepared (all, none) =
-      (none, subst (IsVerdictOn most database []) (sym all) ((λ is. tt), (λ none. refl)))
-  sections_told (q ∷ qs) (x ∷ xs) fit text (named, is, others)
-      (one, more, section, rest, over, left, both, whole) =
-      let told = sections_told qs xs more rest others left in (
-        (section, rest, section_told q x named is one section over, told.0, whole),
-        subst (IsVerdictOn most database (q ∷ qs)) (sym both)
-            (both_verdicts one more (one_verdict q x named is one section over) told.1),
-      )
-  sections_told [] (x ∷ xs) fit text prepared over = absurd prepared
-  sections_told (q ∷ qs) [] fit text prepared over = absurd prepared
 
 -- ---- the thirteen
 

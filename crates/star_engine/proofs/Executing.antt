@@ -1,29 +1,26 @@
 -- What is told of a program that is checked and then run.
 use Rattle.std.proofs.Common.{◌≡◌, ◌≤◌, ◌<◌, ℕ, List, Some, None, arith, inl, inr, length, refl, ◌∙◌}
-use Rattle.std.specs.Prelude.{◌↔◌, Result}
+use Rattle.std.specs.Prelude.{◌↔◌}
 use Rattle.star_common.specs.Memory.{UnlessMemory}
-use Rattle.star_schema.specs.Database.{Database, TableTexts}
-use Rattle.star_schema.specs.Loadable.{IsLoadable, database_of}
-use Rattle.star_program.specs.declared.outcome.Outcome.{Outcome}
+use Rattle.star_schema.specs.Database.{Database}
 use Rattle.star_program.specs.declared.program.Parts.{Parts}
 use Rattle.star_safety.specs.Admissible as admissible
 use Rattle.star_safety.specs.Admissible.{first_refusal}
 use Rattle.star_safety.specs.Admissible.{IsAdmissible}
-use Rattle.star_report.specs.Report.{report_text}
 use Rattle.star_verify.specs.declared.refusal.Refusal.{Refusal}
 use Rattle.star_verify.specs.declared.refusal.Refusal.TheVariants as why
 use Rattle.star_verify.specs.Views.{refusal_view}
 use Rattle.star_world.specs.WorldOf.{world_of}
 use Rattle.star_engine.specs.declared.fault.EngineFault.{EngineFault}
-use Rattle.star_engine.specs.declared.fault.EngineFault.TheVariants.{Program, Refused}
-use Rattle.star_engine.specs.Answered.{Change, OrMemory}
-use Rattle.star_engine.specs.Executions.{IsQuote, IsQuoteOver, IsRefusal, IsProgramTold, IsToldOver, IsUntold, IsUntoldOver, quote_over}
+use Rattle.star_engine.specs.declared.fault.EngineFault.TheVariants.{Refused}
+use Rattle.star_engine.specs.Answered.{OrMemory}
+use Rattle.star_engine.specs.Executions.{IsProgramTold, IsRefusal, IsUntoldOver, quote_over}
 use Rattle.star_engine.specs.Faults.{fault_of_refusal}
 use Rattle.star_engine.specs.Loads.{HoldsOfFile, IsProgramOf}
-use Rattle.star_engine.specs.Noted.{IsNoted}
+use Rattle.star_engine.specs.Noted.{Telling}
 use Rattle.star_engine.specs.Notes.{counts_line, quote_line}
-use Rattle.star_engine.specs.Private.Steps.{IsNotVerified, IsRun}
-use Rattle.star_engine.proofs.NotedAs.{noted_as}
+use Rattle.star_engine.specs.Private.Steps.{IsNotVerified}
+use Rattle.star_engine.proofs.Trials.{report_some}
 
 -- ---- notes have bytes
 
@@ -31,9 +28,21 @@ pub quote_some : (visits : ℕ) → 0 < length (quote_line visits)
 unfolding quote_line
 quote_some visits = omega arith
 
-pub counts_some : (visits lookups updates : ℕ) → 0 < length (counts_line visits lookups updates)
+counts_some : (visits lookups updates : ℕ) → 0 < length (counts_line visits lookups updates)
 unfolding counts_line
 counts_some visits lookups updates = omega arith
+
+-- so do what a run prints
+pub report_has_bytes : (database : Database) (most : ℕ) (program : Parts) (telling : Telling)
+    → IsProgramTold database most program telling → 0 < length telling.report
+report_has_bytes database most program telling told =
+    rw told.reported (report_some told.outcome.names told.outcome.rows)
+
+pub note_has_bytes : (database : Database) (most : ℕ) (program : Parts) (telling : Telling)
+    → IsProgramTold database most program telling → 0 < length telling.done
+note_has_bytes database most program telling told =
+    let outcome = told.outcome in
+    rw told.done (counts_some outcome.visits outcome.lookups outcome.updates)
 
 -- ---- the check
 
@@ -73,24 +82,6 @@ refused database most program (why.Refused at reason) none is =
 refused database most program (why.BadShow place) none is =
     refusal_of database most program (why.BadShow place) _ none (λ memory. cc) is refl
 
--- what is told of a run
-pub told_run : (database : Database) (most : ℕ) (program : Parts) (outcome : Outcome)
-    → IsRun database most program outcome
-    → IsProgramTold database most program (record {
-      quoted = quote_line (quote_over database program);
-      report = report_text outcome.names outcome.rows;
-      done = counts_line outcome.visits outcome.lookups outcome.updates;
-    })
-told_run database most program outcome has_run = record {
-  accepted = has_run.accepted;
-  outcome = outcome;
-  yields = has_run.yields;
-  within = has_run.within;
-  quoted = refl;
-  reported = refl;
-  done = refl;
-}
-
 -- ---- the program of a file
 
 module _ (visits : ℕ) (database : Database) (file : List ℕ) (program : Parts)
@@ -102,25 +93,3 @@ module _ (visits : ℕ) (database : Database) (file : List ℕ) (program : Parts
       → IsUntoldOver visits database file fault
   fault_of_program (Refused refusal) refused = of_program _ refused
   fault_of_program _ refused = absurd refused
-
-  pub of_file : {S N : Type 0} (out : Change S) (notes : Change N)
-      (result : Result (Unit {0}) EngineFault)
-      → IsNoted out notes (IsQuote database program) (IsProgramTold database visits program)
-      (IsNotVerified database visits program) result
-      → IsNoted out notes (IsQuoteOver database file) (IsToldOver visits database file)
-      (IsUntoldOver visits database file) result
-  of_file out notes result noted =
-      noted_as out notes (IsQuote database program) (IsQuoteOver database file)
-      (IsProgramTold database visits program) (IsToldOver visits database file)
-      (IsNotVerified database visits program) (IsUntoldOver visits database file) result
-      (λ note quoted. of_program _ quoted) (λ telling told. of_program _ told) fault_of_program
-      noted
-
--- over the texts that hold the rows
-pub untold_over : (rows visits : ℕ) (texts : TableTexts) (file : List ℕ) (fault : EngineFault)
-    → IsLoadable rows texts → IsUntoldOver visits (database_of texts) file fault
-    → IsUntold rows visits texts file fault
-untold_over rows visits texts file (Refused refusal) loadable is =
-    record { loadable = loadable; holds = is }
-untold_over rows visits texts file (Program fault) loadable is = is
-untold_over rows visits texts file _ loadable is = absurd is

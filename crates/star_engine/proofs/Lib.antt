@@ -15,11 +15,8 @@ pub mod QueryRuns
 pub mod QueryFaults
 pub mod QueryAnswers
 pub mod ProgramTexts
-pub mod Quoting
 pub mod TellingLemmas
 pub mod Meanings
 pub mod ThirteenMeant
-pub mod BenchSections
 pub mod BenchAnswers
 pub mod PieceFeeds
-pub mod Unloaded

@@ -4,11 +4,27 @@ use Rattle.std.specs.Prelude.{Result, Ok, Err}
 use Rattle.std.proofs.KnownBytes.{Appends-trans}
 use Rattle.std.proofs.Math.Seq.{take-append-add}
 use Rattle.std.proofs.lemmas.List.{length-append}
+use Rattle.star_verify.specs.declared.refusal.Refusal.{Refusal}
 use Rattle.star_engine.specs.declared.fault.EngineFault.{EngineFault}
-use Rattle.star_engine.specs.declared.fault.EngineFault.TheVariants.{OutOfMemory, Write}
-use Rattle.star_engine.specs.Answered.{Change, HasGained, HasGainedPart, IsUntouched, IsWritten, change}
+use Rattle.star_engine.specs.declared.fault.EngineFault.TheVariants.{OutOfMemory, Refused, Write}
+use Rattle.star_engine.specs.Answered.{Change, HasGained, HasGainedPart, IsUntouched, IsWritten, OrMemory, change}
 use Rattle.star_engine.specs.Noted.{BeforeTheReport, BehindTheReport, InTheReport, IsNoted, Telling}
 use Rattle.star_engine.specs.Private.Steps.{AreBothWritten, IsPart}
+
+-- a fault before anything is written, which is no refusal
+pub noted_stopped : {S N : Type 0} (out : Change S) (notes : Change N) (IsQuote : List ℕ → Type 0)
+    (IsTold : Telling → Type 0) (IsBefore IsDue : EngineFault → Type 0) (fault : EngineFault)
+    → IsUntouched out → IsUntouched notes → ((refusal : Refusal) → ¬ IsBefore (Refused refusal))
+    → ((f : EngineFault) → IsBefore f → IsDue f) → OrMemory IsBefore fault
+    → IsNoted out notes IsQuote IsTold IsDue (Err fault)
+noted_stopped out notes IsQuote IsTold IsBefore IsDue OutOfMemory same still never on is =
+    (same, inl still)
+noted_stopped out notes IsQuote IsTold IsBefore IsDue (Write sent) same still never on is =
+    absurd is
+noted_stopped out notes IsQuote IsTold IsBefore IsDue (Refused refusal) same still never on is =
+    absurd (never refusal is)
+noted_stopped out notes IsQuote IsTold IsBefore IsDue fault same still never on is =
+    (on fault is, same, still)
 
 -- the report was not sent whole, and no note is written behind it
 pub report_broken : {S N : Type 0} (out : Change S) (notes : Change N) (text report done : List ℕ)

@@ -1,30 +1,32 @@
 -- What is told of a file, by what is told of its program.
-use Rattle.std.proofs.Common.{◌∙◌, ℕ, Bool, true, false, List, ap, subst}
+use Rattle.std.proofs.Common.{◌∙◌, ℕ, Bool, true, false, List, ap, refl, subst}
 use Rattle.std.specs.Prelude.{MatchResult, Result, Ok, Err}
-use Rattle.star_schema.specs.Database.{Database}
+use Rattle.star_schema.specs.Database.{Database, TableTexts}
+use Rattle.star_schema.specs.Loadable.{IsLoadable, database_of}
+use Rattle.star_verify.specs.declared.refusal.Refusal.{Refusal}
 use Rattle.star_plan.specs.Meaning.{Plan}
 use Rattle.star_compile_laws.specs.Compiled.{compiled}
 use Rattle.star_program.specs.declared.program.Parts.{Parts}
 use Rattle.star_engine.specs.declared.fault.EngineFault.{EngineFault}
 use Rattle.star_engine.specs.declared.fault.EngineFault.TheVariants as engine
-use Rattle.star_engine.specs.Answered.{OrMemory}
-use Rattle.star_engine.specs.Executions.{IsProgramTold}
-use Rattle.star_engine.specs.Noted.{Telling}
-use Rattle.star_engine.specs.Notes.{forecast_line}
+use Rattle.star_engine.specs.declared.fault.EngineFault.TheVariants.{Load, Refused}
+use Rattle.star_engine.specs.Answered.{Change, OrMemory}
+use Rattle.star_engine.specs.Executions.{IsProgramTold, IsQuote, quote_over}
+use Rattle.star_engine.specs.Loads.{IsUnloaded}
+use Rattle.star_engine.specs.Noted.{IsNoted, Telling}
+use Rattle.star_engine.specs.Notes.{forecast_line, quote_line}
 use Rattle.star_engine.specs.Queries.{IsPlanOf}
-use Rattle.star_engine.specs.QuoteTexts.{IsNoneOfKind}
-use Rattle.star_engine.specs.Tellings.{IsJudgedOfKind, IsOfKind, IsProgramForecast, IsToldOfKind, IsUnjudgedOfKind, most_rows_over}
-use Rattle.star_engine.specs.Private.QuerySteps.{IsProgramOfKind}
+use Rattle.star_engine.specs.Questions.{IsProgramOfKind}
+use Rattle.star_engine.specs.QuoteTexts.{IsNoneOfKind, IsQuoteOfKindOver, IsUnquotedOfKind}
+use Rattle.star_engine.specs.Tellings.{IsJudgedOfKind, IsProgramForecast, IsToldOfKind, IsUnjudgedOfKind, most_rows_over}
+use Rattle.star_engine.specs.Private.QuerySteps.{IsJudged}
 use Rattle.star_engine.specs.Private.Steps.{IsNotVerified}
+use Rattle.star_engine.specs.Private.TextSteps.{IsQuoteOfTexts, IsToldOfTexts, IsUntoldOfTexts}
 use Rattle.star_engine.proofs.Executing.{fault_of_program}
-use Rattle.star_engine.proofs.QueryAnswers.{IsJudged, fault_told, report_told}
+use Rattle.star_engine.proofs.Loaded.{noted_over}
+use Rattle.star_engine.proofs.NotedAs.{noted_as}
+use Rattle.star_engine.proofs.QueryAnswers.{fault_told, report_told}
 use Rattle.star_engine.proofs.QueryFaults.{or_memory}
-
--- a file whose program was read
-pub readable : (is_program : Bool) (file : List ℕ) (program : Parts)
-    → IsProgramOfKind is_program file program → IsOfKind is_program file
-readable true file program told = (program, told)
-readable false file program told = (told.p, told.meant)
 
 -- a file that was not read
 pub unread : (is_program : Bool) (most : ℕ) (database : Database) (file : List ℕ)
@@ -48,6 +50,19 @@ matched_as IsValue IsOther IsDue IsOtherDue (Err fault) as_value as_fault is =
 
 module _ (most : ℕ) (database : Database) (file : List ℕ) (program : Parts)
     (laws : (p : Plan) → IsPlanOf file p → IsJudged most database file p) where
+  pub quoted : (is_program : Bool) → IsProgramOfKind is_program file program → (text : List ℕ)
+      → IsQuote database program text → IsQuoteOfKindOver is_program database file text
+  quoted true of_kind text is = record {
+    program = program;
+    of_file = of_kind;
+    holds = is;
+  }
+  quoted false of_kind text is = record {
+    is_query = (of_kind.p, of_kind.meant);
+    quoted = is ∙ ap quote_line
+        (ap (quote_over database) of_kind.made ∙ (laws of_kind.p of_kind.meant).quoted);
+  }
+
   pub judged : (is_program : Bool) → IsProgramOfKind is_program file program → (text : List ℕ)
       → IsProgramForecast database most program text
       → IsJudgedOfKind is_program most database file text
@@ -87,3 +102,92 @@ module _ (most : ℕ) (database : Database) (file : List ℕ) (program : Parts)
   unjudged false of_kind fault refused =
       fault_told most database file of_kind.p of_kind.meant (laws of_kind.p of_kind.meant) fault
       (subst (λ made. IsNotVerified database most made fault) of_kind.made refused)
+
+  pub noted : {S N : Type 0} (out : Change S) (notes : Change N)
+      (result : Result (Unit {0}) EngineFault) (is_program : Bool)
+      → IsProgramOfKind is_program file program
+      → IsNoted out notes (IsQuote database program) (IsProgramTold database most program)
+      (IsNotVerified database most program) result
+      → IsNoted out notes (IsQuoteOfKindOver is_program database file)
+      (IsToldOfKind is_program most database file) (IsUnjudgedOfKind is_program most database file)
+      result
+  noted out notes result is_program of_kind is =
+      noted_as out notes (IsQuote database program) (IsQuoteOfKindOver is_program database file)
+      (IsProgramTold database most program) (IsToldOfKind is_program most database file)
+      (IsNotVerified database most program) (IsUnjudgedOfKind is_program most database file) result
+      (quoted is_program of_kind) (told is_program of_kind) (unjudged is_program of_kind) is
+
+-- ---- over five texts
+
+-- the tables can't be loaded
+pub unloaded : (is_program : Bool) (rows visits : ℕ) (texts : TableTexts) (file : List ℕ)
+    (program : Parts) → IsProgramOfKind is_program file program → (fault : EngineFault)
+    → IsUnloaded rows texts fault → IsUntoldOfTexts is_program rows visits texts file fault
+unloaded true rows visits texts file program of_kind (Load fault) is = ((program, of_kind), is)
+unloaded false rows visits texts file program of_kind (Load fault) is =
+    ((of_kind.p, of_kind.meant), is)
+unloaded is_program rows visits texts file program of_kind _ is = absurd is
+
+-- or they can, and hold rows over which nothing is told
+pub untold_over : (is_program : Bool) (rows visits : ℕ) (texts : TableTexts) (file : List ℕ)
+    (fault : EngineFault) → IsLoadable rows texts
+    → IsUnjudgedOfKind is_program visits (database_of texts) file fault
+    → IsUntoldOfTexts is_program rows visits texts file fault
+untold_over true rows visits texts file (Refused refusal) loadable is =
+    record { loadable = loadable; holds = is }
+untold_over true rows visits texts file (engine.Program fault) loadable is = is
+untold_over true rows visits texts file _ loadable is = absurd is
+untold_over false rows visits texts file (Refused refusal) loadable is =
+    record { loadable = loadable; holds = is }
+untold_over false rows visits texts file (engine.Query fault) loadable is = is
+untold_over false rows visits texts file (engine.Plan fault) loadable is = is
+untold_over false rows visits texts file _ loadable is = absurd is
+
+pub noted_of_texts : (is_program : Bool) (rows visits : ℕ) (texts : TableTexts) (file : List ℕ)
+    {S N : Type 0} (out : Change S) (notes : Change N) (result : Result (Unit {0}) EngineFault)
+    → IsLoadable rows texts
+    → IsNoted out notes (IsQuoteOfKindOver is_program (database_of texts) file)
+    (IsToldOfKind is_program visits (database_of texts) file)
+    (IsUnjudgedOfKind is_program visits (database_of texts) file) result
+    → IsNoted out notes (IsQuoteOfTexts is_program rows texts file)
+    (IsToldOfTexts is_program rows visits texts file)
+    (IsUntoldOfTexts is_program rows visits texts file) result
+noted_of_texts is_program rows visits texts file out notes result loadable is =
+    noted_over rows texts (database_of texts) loadable refl out notes
+    (λ database. IsQuoteOfKindOver is_program database file)
+    (λ database. IsToldOfKind is_program visits database file)
+    (λ database. IsUnjudgedOfKind is_program visits database file)
+    (IsUntoldOfTexts is_program rows visits texts file) result
+    (untold_over is_program rows visits texts file) is
+
+-- a question was not read
+pub none : (is_program : Bool) (rows visits : ℕ) (texts : TableTexts) (file : List ℕ)
+    (fault : EngineFault) → IsNoneOfKind is_program file fault
+    → IsUntoldOfTexts is_program rows visits texts file fault
+none true rows visits texts file (engine.Program fault) is = is
+none true rows visits texts file _ is = absurd is
+none false rows visits texts file (engine.Query fault) is = is
+none false rows visits texts file (engine.Plan fault) is = is
+none false rows visits texts file _ is = absurd is
+
+pub never_refused : (is_program : Bool) (file : List ℕ) (refusal : Refusal)
+    → ¬ IsNoneOfKind is_program file (Refused refusal)
+never_refused true file refusal is = is
+never_refused false file refusal is = is
+
+pub unquoted_tables : (is_program : Bool) (rows : ℕ) (texts : TableTexts) (file : List ℕ)
+    (program : Parts) → IsProgramOfKind is_program file program → (fault : EngineFault)
+    → IsUnloaded rows texts fault → IsUnquotedOfKind is_program rows texts file fault
+unquoted_tables true rows texts file program of_kind (Load fault) is = ((program, of_kind), is)
+unquoted_tables false rows texts file program of_kind (Load fault) is =
+    ((of_kind.p, of_kind.meant), is)
+unquoted_tables is_program rows texts file program of_kind _ is = absurd is
+
+pub unquoted_none : (is_program : Bool) (rows : ℕ) (texts : TableTexts) (file : List ℕ)
+    (fault : EngineFault) → IsNoneOfKind is_program file fault
+    → IsUnquotedOfKind is_program rows texts file fault
+unquoted_none true rows texts file (engine.Program fault) is = is
+unquoted_none true rows texts file _ is = absurd is
+unquoted_none false rows texts file (engine.Query fault) is = is
+unquoted_none false rows texts file (engine.Plan fault) is = is
+unquoted_none false rows texts file _ is = absurd is

@@ -16,7 +16,7 @@ use Rattle.star_engine.specs.declared.fault.EngineFault.{EngineFault}
 use Rattle.star_engine.specs.declared.fault.EngineFault.TheVariants as engine
 use Rattle.star_engine.specs.Answered.{OrMemory}
 use Rattle.star_engine.specs.Faults.{fault_of_trial}
-use Rattle.star_engine.specs.Loads.{IsProgramOf}
+use Rattle.star_engine.specs.Loads.{IsNoProgram, IsProgramOf, IsUnloaded}
 use Rattle.star_engine.specs.Trials.{IsNoTrial, IsNoTrialOver}
 
 -- over the texts that hold the rows
@@ -27,6 +27,18 @@ no_trial_over most texts file visits (engine.Trial fault) loadable is =
     record { loadable = loadable; holds = is }
 no_trial_over most texts file visits (engine.Program fault) loadable is = is
 no_trial_over most texts file visits _ loadable is = absurd is
+
+pub no_trial_unloaded : (most : ℕ) (texts : TableTexts) (file : List ℕ) (visits : ℕ) (program : Parts)
+    → IsProgramOf file program → (fault : EngineFault) → IsUnloaded most texts fault
+    → IsNoTrial most texts file visits fault
+no_trial_unloaded most texts file visits program of_file (engine.Load fault) is =
+    ((program, of_file), is)
+no_trial_unloaded most texts file visits program of_file _ is = absurd is
+
+pub no_trial_none : (most : ℕ) (texts : TableTexts) (file : List ℕ) (visits : ℕ)
+    (fault : EngineFault) → IsNoProgram file fault → IsNoTrial most texts file visits fault
+no_trial_none most texts file visits (engine.Program fault) is = is
+no_trial_none most texts file visits _ is = absurd is
 
 -- a report has a byte
 pub report_some : (names : List (List ℕ)) (rows : List (List Cell)) → 0

@@ -10,6 +10,7 @@ pub mod Executions
 pub mod Reading
 pub mod Queries
 pub mod QueryRuns
+pub mod Questions
 pub mod QuoteTexts
 pub mod Tellings
 pub mod Thirteen

@@ -3,3 +3,4 @@ pub mod Steps
 pub mod QuerySteps
 pub mod BenchSteps
 pub mod PieceSteps
+pub mod TextSteps

@@ -1,5 +1,5 @@
--- What is told of a file, be it a program or a query: whether it can be read, what is known of its run
--- before it over the rows of five tables, and its report with its notes.
+-- What is told of a file, be it a program or a query, over the rows of five tables: what is known of its
+-- run before it, and its report with its notes.
 use Rattle.std.specs.Prelude.{◌≡◌, ℕ, Bool, true, false, List, string_bytes}
 use Rattle.star_schema.specs.Database.{Database}
 use Rattle.star_safety.specs.MostRows.{most_report_rows}
@@ -7,26 +7,14 @@ use Rattle.star_compile_laws.specs.Compiled.{compiled}
 use Rattle.star_plan.specs.Meaning.{Plan}
 use Rattle.star_program.specs.declared.program.Parts.{Parts}
 use Rattle.star_engine.specs.declared.fault.EngineFault.{EngineFault}
-use Rattle.star_engine.specs.declared.tellings.Told.{Told}
+use Rattle.star_engine.specs.declared.executions.Told.{Told}
 use Rattle.star_engine.specs.Executions.{IsAcceptedWithin, IsToldOver, IsUntoldOver, quote_over}
-use Rattle.star_engine.specs.Loads.{HoldsOfFile, IsProgram}
+use Rattle.star_engine.specs.Loads.{HoldsOfFile}
 use Rattle.star_engine.specs.Noted.{Telling}
 use Rattle.star_engine.specs.Notes.{forecast_line}
-use Rattle.star_engine.specs.Queries.{FitsRows, IsPlanOf, IsQuery, IsQueryToldOver, IsUnansweredOver, fact_rows}
+use Rattle.star_engine.specs.Queries.{FitsRows, IsPlanOf, IsQueryToldOver, IsUnansweredOver, fact_rows}
 use Rattle.star_engine.specs.QuoteTexts.{is_program_file}
 use Rattle.star_world.specs.WorldOf.{world_of}
-
--- ---- a file alone
-
-abbrev pub IsOfKind : (is_program : Bool) → (file : List ℕ) → Type 0
-IsOfKind true file = IsProgram file
-IsOfKind false file = IsQuery file
-
--- a file that spells a program, or that means a query, whichever it is taken for
-abbrev pub IsReadable : (file : List ℕ) → Type 0
-IsReadable file = IsOfKind (is_program_file file) file
-
--- ---- over the rows of five tables
 
 -- how many rows the report of a program over these tables can have at most
 abbrev pub most_rows_over : Database → Parts → ℕ

@@ -1,20 +1,24 @@
 // The engine's calls over the tables of five texts.
 
-ghost use Rattle.std.specs.Prelude.{◌≡◌, ◌≤◌, ◌^◌, ◌↔◌, Err, IfErr, IfOk, IsTrue, OnOk};
+ghost use Rattle.std.specs.Prelude.{◌≡◌, ◌≤◌, ◌^◌, ◌↔◌, ℕ, Bool, List, Err, IfErr, IfOk, IsTrue, MatchResult, OnOk};
 ghost use Rattle.star_schema.specs.Loadable.{database_of};
 ghost use Rattle.star_catalogue.specs.Load.{texts_view};
-ghost use Rattle.star_engine.specs.Answered.{HasWritten, IsBrokenOff, IsRefused, IsUntouched, change};
+ghost use Rattle.star_engine.specs.Answered.{HasWritten, IsBrokenOff, IsRefused, IsUntouched, OrMemory, change};
 ghost use Rattle.star_engine.specs.Bench.{AllFit, IsBench};
 ghost use Rattle.star_engine.specs.Executions.{IsFileReport, IsQuoteOf, IsToldOf, IsUntold};
 ghost use Rattle.star_engine.specs.Listing.{IsListing};
 ghost use Rattle.star_engine.specs.Loads.{IsUnloaded};
-ghost use Rattle.star_engine.specs.Noted.{HasTold, IsTellingBrokenOff, IsTellingRefused, IsTellingUntold};
+ghost use Rattle.star_engine.specs.Noted.{HasTold, IsNoted, IsTellingBrokenOff, IsTellingRefused, IsTellingUntold};
 ghost use Rattle.star_engine.specs.Queries.{IsExplained, IsNoQuery, IsQueryQuote, IsQueryTold, IsReportOf, IsUnanswered};
-ghost use Rattle.star_engine.specs.QuoteTexts.{IsQuoteText, IsUnquoted};
+ghost use Rattle.star_engine.specs.Questions.{Asks};
+ghost use Rattle.star_engine.specs.QuoteTexts.{IsNoneOfKind, IsQuoteText, IsUnquoted};
 ghost use Rattle.star_engine.specs.Trials.{IsNoTrial, IsTrialReport};
+ghost use Rattle.star_engine.specs.Private.TextSteps.{IsQuoteOfTexts, IsToldOfTexts, IsUntoldOfTexts};
 
+use crate::engine::Engine;
+use crate::executions::write_text;
 use crate::fault::EngineFault;
-use crate::{answers, benchmark, queries};
+use crate::question::Question;
 use star_catalogue::Texts;
 use star_common::Sink;
 use star_schema::Limits;
@@ -36,7 +40,30 @@ pub fn check<S: Sink>(
     ensures memory { result ≡ Err EngineFault.OutOfMemory
         → IsUntouched (change S.contents S.is_failed out.old out.new) }
 {
-    answers::check(alloc, texts, limits, out)
+    let engine = Engine::load(alloc, texts, limits)?;
+    engine.check(alloc, out)
+}
+
+// Answers a question that was read, or returns its fault, over the tables of five texts.
+fn answer<S: Sink, N: Sink>(
+    alloc: Global,
+    texts: &Texts<'_>,
+    question: Result<Question, EngineFault>,
+    limits: Limits,
+    out: &mut S,
+    notes: &mut N,
+) -> Result<(), EngineFault>
+    ensures { (is_program : Bool) (file : List ℕ)
+        → MatchResult question (Asks is_program file) (OrMemory (IsNoneOfKind is_program file))
+        → IsNoted (change S.contents S.is_failed out.old out.new)
+        (change N.contents N.is_failed notes.old notes.new)
+        (IsQuoteOfTexts is_program limits.rows (texts_view texts.now) file)
+        (IsToldOfTexts is_program limits.rows limits.visits (texts_view texts.now) file)
+        (IsUntoldOfTexts is_program limits.rows limits.visits (texts_view texts.now) file) result }
+{
+    let question = question?;
+    let engine = Engine::load(alloc, texts, limits)?;
+    engine.answer(alloc, question, out, notes)
 }
 
 /// Answers the query that a text means over the tables of five texts: writes its report on `out`.
@@ -71,7 +98,14 @@ pub fn answer_query<S: Sink, N: Sink>(
         (change N.contents N.is_failed notes.old notes.new)
         (IsQueryQuote limits.rows (texts_view texts.now) query.now) }
 {
-    queries::answer_query(alloc, texts, query, limits, out, notes)
+    answer(
+        alloc,
+        texts,
+        Question::query(alloc, query),
+        limits,
+        out,
+        notes,
+    )
 }
 
 /// Checks the program whose text a file holds over the tables, runs it, and writes its report on
@@ -105,7 +139,14 @@ pub fn answer_program<S: Sink, N: Sink>(
         (change N.contents N.is_failed notes.old notes.new)
         (IsQuoteOf limits.rows (texts_view texts.now) file.now) }
 {
-    answers::answer_program(alloc, texts, file, limits, out, notes)
+    answer(
+        alloc,
+        texts,
+        Question::program(alloc, file),
+        limits,
+        out,
+        notes,
+    )
 }
 
 /// Writes how many visits are quoted over the tables: of the program that a file spells, or of the
@@ -128,7 +169,9 @@ pub fn quote_text<S: Sink>(
     ensures memory { result ≡ Err EngineFault.OutOfMemory
         → IsUntouched (change S.contents S.is_failed out.old out.new) }
 {
-    answers::quote_text(alloc, texts, file, limits, out)
+    let question = Question::of_file(alloc, file)?;
+    let engine = Engine::load(alloc, texts, limits)?;
+    engine.quote(alloc, &question, out)
 }
 
 /// Writes the text of the program of a query, as `answer_program` and `trial_program` read it. No
@@ -143,7 +186,9 @@ pub fn explain_query<S: Sink>(alloc: Global, query: &[u8], out: &mut S) -> Resul
     ensures memory { result ≡ Err EngineFault.OutOfMemory
         → IsUntouched (change S.contents S.is_failed out.old out.new) }
 {
-    queries::explain_query(alloc, query, out)
+    let question = Question::query(alloc, query)?;
+    let text = question.to_text()?;
+    write_text(out, text.as_slice())
 }
 
 /// Runs the program whose text a file holds over the tables, with at most `visits` turns of
@@ -166,7 +211,9 @@ pub fn trial_program<S: Sink>(
     ensures memory { result ≡ Err EngineFault.OutOfMemory
         → IsUntouched (change S.contents S.is_failed out.old out.new) }
 {
-    answers::trial_program(alloc, texts, file, visits, limits, out)
+    let question = Question::program(alloc, file)?;
+    let engine = Engine::load(alloc, texts, limits)?;
+    engine.trial(alloc, &question, visits, out)
 }
 
 /// Answers the thirteen queries of the benchmark over one load of the tables of five texts: writes
@@ -190,5 +237,6 @@ pub fn bench<S: Sink>(
     ensures fits { IfOk result
         (λ fits. IsTrue fits ↔ AllFit limits.visits (database_of (texts_view texts.now))) }
 {
-    benchmark::bench(alloc, texts, limits, out)
+    let engine = Engine::load(alloc, texts, limits)?;
+    engine.bench(alloc, out)
 }

@@ -1,31 +1,31 @@
 // Five tables that are loaded once and asked often.
 
-ghost use Rattle.std.specs.Prelude.{◌≡◌, ◌≤◌, ◌^◌, ◌↔◌, Err, IfErr, IfOk, IsTrue, MatchResult, OnOk, string_bytes};
+ghost use Rattle.std.specs.Prelude.{◌≡◌, ◌≤◌, ◌^◌, ◌↔◌, ℕ, Bool, true, List, IfErr, IfOk, IsTrue, MatchResult, string_bytes};
 ghost use Rattle.star_schema.specs.Database.{TableTexts};
-ghost use Rattle.star_schema.specs.Loadable.{IsLoadable};
+ghost use Rattle.star_schema.specs.Loadable.{IsLoadable, database_of};
 ghost use Rattle.star_catalogue.specs.Load.{texts_view};
-ghost use Rattle.star_catalogue.specs.Pieces.{AreRead};
-ghost use Rattle.star_query_meaning.specs.Reports.{IsReport};
-ghost use Rattle.star_engine.specs.Answered.{HasWritten, IsBrokenOff, IsRefused, IsUntouched, OrMemory, change};
+ghost use Rattle.star_catalogue.specs.Pieces.{AreRead, AreReadSome};
+ghost use Rattle.star_engine.specs.Answered.{IsAnswered, OrMemory, change};
 ghost use Rattle.star_engine.specs.Bench.{AllFit, IsBenchOver};
-ghost use Rattle.star_engine.specs.Executions.{IsFileReportOver, IsQuoteOver, IsToldOver, IsUntoldOver};
 ghost use Rattle.star_engine.specs.Listing.{IsListingOver};
 ghost use Rattle.star_engine.specs.Loads.{AreLoadedRows, AreOfLoadableTexts, IsUnloaded, loaded_of};
-ghost use Rattle.star_engine.specs.Noted.{HasTold, IsTellingBrokenOff, IsTellingRefused, IsTellingUntold};
-ghost use Rattle.star_engine.specs.Queries.{IsQueryQuoteOver, IsQueryToldOver, IsUnansweredOver};
-ghost use Rattle.star_engine.specs.QuoteTexts.{IsQuoteTextOver, IsUnquotedOver};
-ghost use Rattle.star_engine.specs.Tellings.{IsFileToldOver, IsJudgedOver, IsUnjudgedOver, telling_of};
+ghost use Rattle.star_engine.specs.Noted.{IsNoted};
+ghost use Rattle.star_engine.specs.Questions.{Asks};
+ghost use Rattle.star_engine.specs.QuoteTexts.{IsQuoteOfKindOver};
+ghost use Rattle.star_engine.specs.Tellings.{IsJudgedOfKind, IsToldOfKind, IsUnjudgedOfKind, telling_of};
 ghost use Rattle.star_engine.specs.Trials.{IsBoundedReport, IsNoTrialOver};
 
-use crate::answers::{answer_program_over, list, quote_text_over, trial_over};
-use crate::benchmark::bench_over;
+use crate::benchmark::bench_of;
+use crate::executions::{Told, checked, execute, forecast, report_of, run_checked, write_text};
 use crate::fault::EngineFault;
-use crate::loading::load_read;
-use crate::queries::answer_query_over;
-use crate::tellings::{Told, judge_over, tell_over};
+use crate::listing::list_tables;
+use crate::notes::program_note;
+use crate::query_laws::each_query_is_judged;
+use crate::question::Question;
 use star_catalogue::{Catalogue, ReadTables, Texts};
 use star_common::Sink;
 use star_schema::Limits;
+use star_verify::Verified;
 use std::alloc::Global;
 use std::marker::Model;
 
@@ -50,6 +50,16 @@ impl Model for Engine {
     } };
 
     ghost invariant = { λ engine. AreOfLoadableTexts engine.limits.rows engine.catalogue };
+}
+
+// The catalogue of the tables that five readers were given.
+fn load_read(alloc: Global, read: ReadTables) -> Result<Catalogue, EngineFault>
+    requires { AreReadSome read }
+    ensures { (most : ℕ) (texts : TableTexts) → AreRead read most texts → MatchResult result
+        (λ catalogue. IsLoadable most texts × (catalogue ≡ database_of texts))
+        (OrMemory (IsUnloaded most texts)) }
+{
+    Ok(Catalogue::finish(alloc, read)?)
 }
 
 impl Engine {
@@ -96,149 +106,110 @@ impl Engine {
 
     /// Writes how many rows each table has, and the bounds of its columns of numbers.
     pub fn check<S: Sink>(&self, alloc: Global, out: &mut S) -> Result<(), EngineFault>
-        ensures written { OnOk result (HasWritten (change S.contents S.is_failed out.old out.new)
-            (IsListingOver self.now.database)) }
-        ensures broken { IfErr result (IsBrokenOff (change S.contents S.is_failed out.old out.new)
-            (IsListingOver self.now.database)) }
-        ensures refused { IfErr result (IsRefused (change S.contents S.is_failed out.old out.new)
-            (λ fault. ⊥)) }
-        ensures memory { result ≡ Err EngineFault.OutOfMemory
-            → IsUntouched (change S.contents S.is_failed out.old out.new) }
+        ensures { IsAnswered (change S.contents S.is_failed out.old out.new)
+            (IsListingOver self.now.database) (λ fault. ⊥) result }
     {
-        list(alloc, &self.catalogue, out)
+        let text = list_tables(alloc, &self.catalogue)?;
+        write_text(out, text.as_bytes())
     }
 
-    /// Answers the query that a text means over the loaded tables: writes its report on `out`.
+    /// Answers a question: writes its report on `out`.
     ///
-    /// A note of the quote, which is lineorder's row count, goes to `notes` before the query is
-    /// judged, and one of what the run of its program did after the report. A query that doesn't
-    /// fit is refused.
-    pub fn answer_query<S: Sink, N: Sink>(
+    /// A note of how many visits are quoted, which of a query is lineorder's row count, goes to `notes`
+    /// before the question is checked, and one of what the run did after the report. A query that
+    /// doesn't fit is refused, and so is a program that is not admissible over the tables or of which
+    /// more visits are quoted than the limits allow.
+    pub fn answer<S: Sink, N: Sink>(
         &self,
         alloc: Global,
-        query: &[u8],
+        question: Question,
         out: &mut S,
         notes: &mut N,
     ) -> Result<(), EngineFault>
-        // The report alone, and then with its notes.
-        ensures reported { OnOk result (HasWritten (change S.contents S.is_failed out.old out.new)
-            (IsReport self.now.database query.now)) }
-        ensures noted { OnOk result (HasTold (change S.contents S.is_failed out.old out.new)
+        ensures { (is_program : Bool) (file : List ℕ) → Asks is_program file question
+            → IsNoted (change S.contents S.is_failed out.old out.new)
             (change N.contents N.is_failed notes.old notes.new)
-            (IsQueryToldOver self.now.visits self.now.database query.now)) }
-        ensures broken { IfErr result (IsTellingBrokenOff (change S.contents S.is_failed out.old out.new)
-            (change N.contents N.is_failed notes.old notes.new)
-            (IsQueryQuoteOver self.now.database query.now)
-            (IsQueryToldOver self.now.visits self.now.database query.now)) }
-        ensures refused { IfErr result (IsTellingRefused (change S.contents S.is_failed out.old out.new)
-            (change N.contents N.is_failed notes.old notes.new)
-            (IsQueryQuoteOver self.now.database query.now)
-            (IsUnansweredOver self.now.visits self.now.database query.now)) }
-        ensures memory { result ≡ Err EngineFault.OutOfMemory
-            → IsTellingUntold (change S.contents S.is_failed out.old out.new)
-            (change N.contents N.is_failed notes.old notes.new)
-            (IsQueryQuoteOver self.now.database query.now) }
+            (IsQuoteOfKindOver is_program self.now.database file)
+            (IsToldOfKind is_program self.now.visits self.now.database file)
+            (IsUnjudgedOfKind is_program self.now.visits self.now.database file) result }
     {
-        answer_query_over(alloc, &self.catalogue, query, self.limits, out, notes)
+        each_query_is_judged(&self.catalogue);
+        execute(
+            alloc,
+            &self.catalogue,
+            question.program,
+            self.limits,
+            out,
+            notes,
+        )
     }
 
-    /// Checks the program whose text a file holds over the loaded tables, runs it, and writes its
-    /// report on `out`. A note of how many visits are quoted goes to `notes` before the check, and
-    /// one of what the run did after the report. A program is refused where it is not admissible
-    /// over the tables, or more visits are quoted than the limits allow.
-    pub fn answer_program<S: Sink, N: Sink>(
-        &self,
-        alloc: Global,
-        file: &[u8],
-        out: &mut S,
-        notes: &mut N,
-    ) -> Result<(), EngineFault>
-        // The report alone, and then with its notes.
-        ensures reported { OnOk result (HasWritten (change S.contents S.is_failed out.old out.new)
-            (IsFileReportOver self.now.database file.now)) }
-        ensures noted { OnOk result (HasTold (change S.contents S.is_failed out.old out.new)
-            (change N.contents N.is_failed notes.old notes.new)
-            (IsToldOver self.now.visits self.now.database file.now)) }
-        ensures broken { IfErr result (IsTellingBrokenOff (change S.contents S.is_failed out.old out.new)
-            (change N.contents N.is_failed notes.old notes.new)
-            (IsQuoteOver self.now.database file.now)
-            (IsToldOver self.now.visits self.now.database file.now)) }
-        ensures refused { IfErr result (IsTellingRefused (change S.contents S.is_failed out.old out.new)
-            (change N.contents N.is_failed notes.old notes.new)
-            (IsQuoteOver self.now.database file.now)
-            (IsUntoldOver self.now.visits self.now.database file.now)) }
-        ensures memory { result ≡ Err EngineFault.OutOfMemory
-            → IsTellingUntold (change S.contents S.is_failed out.old out.new)
-            (change N.contents N.is_failed notes.old notes.new)
-            (IsQuoteOver self.now.database file.now) }
+    /// Returns what `answer` writes: the report and its notes.
+    pub fn report(&self, alloc: Global, question: Question) -> Result<Told, EngineFault>
+        ensures { (is_program : Bool) (file : List ℕ) → Asks is_program file question
+            → MatchResult result (λ told.
+            IsToldOfKind is_program self.now.visits self.now.database file (telling_of told))
+            (OrMemory (IsUnjudgedOfKind is_program self.now.visits self.now.database file)) }
     {
-        answer_program_over(alloc, &self.catalogue, file, self.limits, out, notes)
+        each_query_is_judged(&self.catalogue);
+        run_checked(alloc, &self.catalogue, question.program, self.limits)
     }
 
-    /// Writes how many visits are quoted over the loaded tables: of the program that a file spells,
-    /// or of the program of the query that it means. A file that begins with `star program ` is
-    /// taken for a program, and any other for a query. Nothing is checked against the tables.
-    pub fn quote_text<S: Sink>(
+    /// Returns the line of what is known before a question is run, once it is checked: how many visits
+    /// are quoted, and how many rows the report can have at most. Nothing is run. The question is
+    /// refused as `answer` does.
+    pub fn forecast(&self, alloc: Global, question: Question) -> Result<String, EngineFault>
+        ensures { (is_program : Bool) (file : List ℕ) → Asks is_program file question
+            → MatchResult result (λ line.
+            IsJudgedOfKind is_program self.now.visits self.now.database file (string_bytes line))
+            (OrMemory (IsUnjudgedOfKind is_program self.now.visits self.now.database file)) }
+    {
+        each_query_is_judged(&self.catalogue);
+        forecast(alloc, &self.catalogue, question.program, self.limits)
+    }
+
+    /// Writes how many visits of a question are quoted over the loaded tables. Nothing is checked
+    /// against them.
+    pub fn quote<S: Sink>(
         &self,
         alloc: Global,
-        file: &[u8],
+        question: &Question,
         out: &mut S,
     ) -> Result<(), EngineFault>
-        ensures written { OnOk result (HasWritten (change S.contents S.is_failed out.old out.new)
-            (IsQuoteTextOver self.now.database file.now)) }
-        ensures broken { IfErr result (IsBrokenOff (change S.contents S.is_failed out.old out.new)
-            (IsQuoteTextOver self.now.database file.now)) }
-        ensures refused { IfErr result (IsRefused (change S.contents S.is_failed out.old out.new)
-            (IsUnquotedOver file.now)) }
-        ensures memory { result ≡ Err EngineFault.OutOfMemory
-            → IsUntouched (change S.contents S.is_failed out.old out.new) }
+        ensures { (is_program : Bool) (file : List ℕ) → Asks is_program file question.now
+            → IsAnswered (change S.contents S.is_failed out.old out.new)
+            (IsQuoteOfKindOver is_program self.now.database file) (λ fault. ⊥) result }
     {
-        quote_text_over(alloc, &self.catalogue, file, out)
+        each_query_is_judged(&self.catalogue);
+        let note = program_note(alloc, &self.catalogue, &question.program)?;
+        write_text(out, note.as_bytes())
     }
 
-    /// The line of what is known before a run of what a file holds over the loaded tables, once it is
-    /// checked: how many visits are quoted, and how many rows the report can have at most. Nothing is
-    /// run. The file is taken for a program or a query as `quote_text` does, and refused as
-    /// `answer_program` and `answer_query` do.
-    pub fn judge_text(&self, alloc: Global, file: &[u8]) -> Result<String, EngineFault>
-        ensures { MatchResult result
-            (λ line. IsJudgedOver self.now.visits self.now.database file.now (string_bytes line))
-            (OrMemory (IsUnjudgedOver self.now.visits self.now.database file.now)) }
-    {
-        judge_over(alloc, &self.catalogue, file, self.limits)
-    }
-
-    /// What is told over the loaded tables of the run of what a file holds: its report and its notes,
-    /// as `answer_program` or `answer_query` write them. The file is taken for a program or a query as
-    /// `quote_text` does.
-    pub fn tell_text(&self, alloc: Global, file: &[u8]) -> Result<Told, EngineFault>
-        ensures { MatchResult result
-            (λ told. IsFileToldOver self.now.visits self.now.database file.now (telling_of told))
-            (OrMemory (IsUnjudgedOver self.now.visits self.now.database file.now)) }
-    {
-        tell_over(alloc, &self.catalogue, file, self.limits)
-    }
-
-    /// Runs the program whose text a file holds over the loaded tables, with at most `visits` turns
-    /// of scans, and writes its report. The engine's own limit on visits has no part in it.
-    pub fn trial_program<S: Sink>(
+    /// Runs a program over the loaded tables, with at most `visits` turns of scans, and writes its
+    /// report. The engine's own limit on visits has no part in it.
+    pub fn trial<S: Sink>(
         &self,
         alloc: Global,
-        file: &[u8],
+        question: &Question,
         visits: u64,
         out: &mut S,
     ) -> Result<(), EngineFault>
         requires { visits ≤ 10 ^ 15 }
-        ensures written { OnOk result (HasWritten (change S.contents S.is_failed out.old out.new)
-            (IsBoundedReport self.now.database file.now visits)) }
-        ensures broken { IfErr result (IsBrokenOff (change S.contents S.is_failed out.old out.new)
-            (IsBoundedReport self.now.database file.now visits)) }
-        ensures refused { IfErr result (IsRefused (change S.contents S.is_failed out.old out.new)
-            (IsNoTrialOver self.now.database file.now visits)) }
-        ensures memory { result ≡ Err EngineFault.OutOfMemory
-            → IsUntouched (change S.contents S.is_failed out.old out.new) }
+        ensures { (file : List ℕ) → Asks true file question.now
+            → IsAnswered (change S.contents S.is_failed out.old out.new)
+            (IsBoundedReport self.now.database file visits)
+            (IsNoTrialOver self.now.database file visits) result }
     {
-        trial_over(alloc, &self.catalogue, file, visits, out)
+        let report = report_of(alloc, &self.catalogue, &question.program, visits)?;
+        write_text(out, report.as_slice())
+    }
+
+    /// Checks a question over the loaded tables, for runs of it that are measured.
+    pub fn verify(&self, alloc: Global, question: Question) -> Result<Verified<'_>, EngineFault>
+        ensures { IfOk result (λ verified. (verified.database ≡ self.now.database)
+            × (verified.program ≡ question.program)) }
+    {
+        checked(alloc, &self.catalogue, question.program, self.limits)
     }
 
     /// Answers the thirteen queries of the benchmark over the loaded tables: writes of each its
@@ -246,17 +217,13 @@ impl Engine {
     /// text is made before any of it is written. The answer is whether no query was refused. There
     /// is none for want of memory and a failed write alone.
     pub fn bench<S: Sink>(&self, alloc: Global, out: &mut S) -> Result<bool, EngineFault>
-        ensures written { OnOk result (HasWritten (change S.contents S.is_failed out.old out.new)
-            (IsBenchOver self.now.visits self.now.database)) }
-        ensures broken { IfErr result (IsBrokenOff (change S.contents S.is_failed out.old out.new)
-            (IsBenchOver self.now.visits self.now.database)) }
-        ensures refused { IfErr result (IsRefused (change S.contents S.is_failed out.old out.new)
-            (λ fault. ⊥)) }
-        ensures memory { result ≡ Err EngineFault.OutOfMemory
-            → IsUntouched (change S.contents S.is_failed out.old out.new) }
+        ensures answered { IsAnswered (change S.contents S.is_failed out.old out.new)
+            (IsBenchOver self.now.visits self.now.database) (λ fault. ⊥) result }
         ensures fits { IfOk result
             (λ fits. IsTrue fits ↔ AllFit self.now.visits self.now.database) }
     {
-        bench_over(alloc, &self.catalogue, self.limits, out)
+        let found = bench_of(alloc, &self.catalogue, self.limits)?;
+        write_text(out, found.text.as_slice())?;
+        Ok(found.fits)
     }
 }

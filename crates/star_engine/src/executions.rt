@@ -1,27 +1,38 @@
-// Programs that are checked and then run, with what is told of them.
+// Programs that are checked and then run, with what is printed of them.
 
-ghost use Rattle.std.specs.Prelude.{◌≡◌, ◌<◌, MatchResult, length};
-ghost use Rattle.star_report.specs.Report.{report_text};
-ghost use Rattle.star_engine.specs.Answered.{HasGained, OrMemory, change};
+ghost use Rattle.std.specs.Prelude.{◌≡◌, ◌<◌, ◌≤◌, ◌^◌, ℕ, List, IfOk, MatchResult, length, string_bytes};
+ghost use Rattle.star_engine.specs.Answered.{HasGained, IsWritten, OrMemory, change};
 ghost use Rattle.star_engine.specs.Executions.{IsAcceptedWithin, IsQuote, IsProgramTold};
 ghost use Rattle.star_engine.specs.Faults.{fault_of_refusal};
+ghost use Rattle.star_engine.specs.Loads.{IsProgramOf};
 ghost use Rattle.star_engine.specs.Noted.{IsNoted};
-ghost use Rattle.star_engine.specs.Notes.{counts_line};
-ghost use Rattle.star_engine.specs.Private.Steps.{AreBothWritten, IsNotVerified, IsPart, IsRun};
+ghost use Rattle.star_engine.specs.Private.Steps.{AreBothWritten, IsNotVerified, IsPart};
+ghost use Rattle.star_engine.specs.Tellings.{IsProgramForecast, telling_of};
+ghost use Rattle.star_engine.specs.Trials.{IsBoundedReport, IsNoTrialOver};
 ghost use Rattle.star_engine.specs.declared.fault.EngineFault.TheVariants.{Write};
 
 use crate::fault::EngineFault;
-use crate::notes::{counts_note, quote_note};
-use crate::writing::write_text;
+use crate::notes::{counts_note, forecast_note, program_note, quote_note};
 use star_catalogue::Catalogue;
 use star_common::{Sink, write_whole};
-use star_machine::run;
-use star_program::{Outcome, Program};
+use star_machine::{run, trial};
+use star_program::Program;
 use star_report::report_text;
 use star_safety::law::admissible_programs_within_the_limit_are_not_refused;
 use star_schema::Limits;
 use star_verify::{Refused, Verified, verify};
-use std::alloc::Global;
+use std::alloc::{AllocError, Global};
+
+/// What is printed of a run.
+#[derive(Drop)]
+pub struct Told {
+    /// The line of how many visits are quoted.
+    pub quoted: String,
+    /// The report.
+    pub report: Vec<u8>,
+    /// The line of what the run did.
+    pub done: String,
+}
 
 fn fault_of(refused: Refused) -> EngineFault
     ensures { result ≡ fault_of_refusal refused.refusal }
@@ -48,18 +59,76 @@ pub(crate) fn checked<'c>(
     }
 }
 
-// What a program gives that nothing refuses.
-pub(crate) fn outcome_of(
+/// Runs a verified program, and returns what is printed of the run.
+pub fn run_text(alloc: Global, verified: &Verified<'_>) -> Result<Told, AllocError>
+    ensures { (most : ℕ) → IsAcceptedWithin verified.now.database most verified.now.program
+        → IfOk result (λ told.
+        IsProgramTold verified.now.database most verified.now.program (telling_of told)) }
+{
+    let outcome = run(alloc, verified)?;
+    let quoted = quote_note(alloc, verified.quote())?;
+    let report = report_text(alloc, &outcome)?;
+    let done = counts_note(alloc, &outcome)?;
+    Ok(Told {
+        quoted,
+        report,
+        done,
+    })
+}
+
+// Runs a program over loaded tables, once it is checked.
+pub(crate) fn run_checked(
     alloc: Global,
     catalogue: &Catalogue,
     program: Program,
     limits: Limits,
-) -> Result<Outcome, EngineFault>
-    ensures { MatchResult result (IsRun catalogue.now limits.visits program)
+) -> Result<Told, EngineFault>
+    ensures { MatchResult result
+        (λ told. IsProgramTold catalogue.now limits.visits program (telling_of told))
         (OrMemory (IsNotVerified catalogue.now limits.visits program)) }
 {
     let verified = checked(alloc, catalogue, program, limits)?;
-    Ok(run(alloc, &verified)?)
+    Ok(run_text(alloc, &verified)?)
+}
+
+// What is known before a run of a program over loaded tables, once it is checked.
+pub(crate) fn forecast(
+    alloc: Global,
+    catalogue: &Catalogue,
+    program: Program,
+    limits: Limits,
+) -> Result<String, EngineFault>
+    ensures { MatchResult result
+        (λ line. IsProgramForecast catalogue.now limits.visits program (string_bytes line))
+        (OrMemory (IsNotVerified catalogue.now limits.visits program)) }
+{
+    let verified = checked(alloc, catalogue, program, limits)?;
+    Ok(forecast_note(alloc, &verified)?)
+}
+
+// The report of a program over loaded tables, run for at most `visits` turns of scans.
+pub(crate) fn report_of(
+    alloc: Global,
+    catalogue: &Catalogue,
+    program: &Program,
+    visits: u64,
+) -> Result<Vec<u8>, EngineFault>
+    requires { visits ≤ 10 ^ 15 }
+    ensures told { (file : List ℕ) → IsProgramOf file program.now → MatchResult result
+        (λ report. IsBoundedReport catalogue.now file visits report.items)
+        (OrMemory (IsNoTrialOver catalogue.now file visits)) }
+    ensures some { IfOk result (λ report. 0 < length report.items) }
+{
+    let outcome = trial(alloc, catalogue, program, visits)?;
+    Ok(report_text(alloc, &outcome)?)
+}
+
+// Writes a text that has a byte.
+pub(crate) fn write_text<S: Sink>(out: &mut S, text: &[u8]) -> Result<(), EngineFault>
+    requires { 0 < length text.now }
+    ensures { IsWritten (change S.contents S.is_failed out.old out.new) text.now result }
+{
+    Ok(write_whole(out, text)?)
 }
 
 // Writes a note, when `sent` bytes of the report have been sent.
@@ -76,27 +145,20 @@ fn write_note<N: Sink>(notes: &mut N, note: &[u8], sent: u64) -> Result<(), Engi
     }
 }
 
-// Writes the report of a run, and then the note of what it did. Both are made before any of them is
-// written.
-fn tell<S: Sink, N: Sink>(
-    alloc: Global,
-    outcome: &Outcome,
-    out: &mut S,
-    notes: &mut N,
-) -> Result<(), EngineFault>
+// Writes the report of a run, and then the note of what it did.
+fn write_told<S: Sink, N: Sink>(told: &Told, out: &mut S, notes: &mut N) -> Result<(), EngineFault>
+    requires report { 0 < length told.now.report.items }
+    requires done { 0 < length (string_bytes told.now.done) }
     ensures { AreBothWritten (change S.contents S.is_failed out.old out.new)
         (change N.contents N.is_failed notes.old notes.new)
-        (report_text outcome.now.names outcome.now.rows)
-        (counts_line outcome.now.visits outcome.now.lookups outcome.now.updates) result }
+        told.now.report.items (string_bytes told.now.done) result }
 {
-    let report = report_text(alloc, outcome)?;
-    let done = counts_note(alloc, outcome)?;
-    write_text(out, report.as_slice())?;
-    write_note(notes, done.as_bytes(), report.len() as u64)
+    write_text(out, told.report.as_slice())?;
+    write_note(notes, told.done.as_bytes(), told.report.len() as u64)
 }
 
 // Writes the note of a program's quote, checks the program over loaded tables, runs it, and writes
-// its report and the note of what the run did.
+// its report and the note of what the run did. All is made before the report is written.
 pub(crate) fn execute<S: Sink, N: Sink>(
     alloc: Global,
     catalogue: &Catalogue,
@@ -110,8 +172,8 @@ pub(crate) fn execute<S: Sink, N: Sink>(
         (IsProgramTold catalogue.now limits.visits program)
         (IsNotVerified catalogue.now limits.visits program) result }
 {
-    let note = quote_note(alloc, catalogue, &program)?;
+    let note = program_note(alloc, catalogue, &program)?;
     write_note(notes, note.as_bytes(), 0)?;
-    let outcome = outcome_of(alloc, catalogue, program, limits)?;
-    tell(alloc, &outcome, out, notes)
+    let told = run_checked(alloc, catalogue, program, limits)?;
+    write_told(&told, out, notes)
 }

@@ -1,7 +1,7 @@
 // The notes of a run.
 
 ghost use Rattle.std.specs.Prelude.{◌≡◌, IfOk, string_bytes};
-ghost use Rattle.star_engine.specs.Executions.{quote_over};
+ghost use Rattle.star_engine.specs.Executions.{IsQuote, quote_over};
 ghost use Rattle.star_engine.specs.Notes.{counts_line, forecast_line, quote_line};
 ghost use Rattle.star_engine.specs.Tellings.{most_rows_over};
 
@@ -10,25 +10,23 @@ use star_program::{Outcome, Program};
 use star_verify::{Verified, quote};
 use std::alloc::{AllocError, Global};
 
-// How many visits of a program over loaded tables are quoted.
-fn quoted(catalogue: &Catalogue, program: &Program) -> u128
-    ensures { result ≡ quote_over catalogue.now program.now }
-{
-    quote(program, &catalogue.sizes())
-}
-
 // The note of how many visits are quoted.
 #[tactic(auto, unfolding(crate::specs::Notes::quote_line))]
-pub(crate) fn quote_note(
+pub(crate) fn quote_note(alloc: Global, visits: u128) -> Result<String, AllocError>
+    ensures { IfOk result (λ note. string_bytes note ≡ quote_line visits) }
+{
+    format!(in alloc; "quote {visits}\n")
+}
+
+// That of a program over loaded tables.
+pub(crate) fn program_note(
     alloc: Global,
     catalogue: &Catalogue,
     program: &Program,
 ) -> Result<String, AllocError>
-    ensures { IfOk result
-        (λ note. string_bytes note ≡ quote_line (quote_over catalogue.now program.now)) }
+    ensures { IfOk result (λ note. IsQuote catalogue.now program.now (string_bytes note)) }
 {
-    let visits = quoted(catalogue, program);
-    format!(in alloc; "quote {visits}\n")
+    quote_note(alloc, quote(program, &catalogue.sizes()))
 }
 
 // The note of how many visits are quoted of a program that nothing refuses, and how many rows its

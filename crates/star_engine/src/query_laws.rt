@@ -24,8 +24,10 @@ ghost use Rattle.star_engine.specs.Loads.{AreLoadedRows};
 ghost use Rattle.star_engine.specs.Queries.{FitsRows, IsNoQuery, IsPlanOf, IsQueryTold, IsQueryToldOver, IsUnanswered, IsUnansweredOver, fact_rows};
 ghost use Rattle.star_engine.specs.Noted.{Telling};
 ghost use Rattle.star_engine.specs.QueryRuns.{HasReported, PrintsTheReport};
+ghost use Rattle.star_engine.specs.Private.QuerySteps.{IsJudged};
 ghost use Rattle.star_engine.specs.Thirteen.{query_text};
 
+use star_catalogue::Catalogue;
 use star_compile_laws::acceptance::compiled_programs_are_accepted_where_they_fit_the_tables;
 use star_compile_laws::answers::{
     compiled_programs_count_the_rows, compiled_programs_report_their_queries,
@@ -95,6 +97,16 @@ pub fn programs_of_queries_report_them()
     compiled_programs_report_their_queries();
     compiled_programs_count_the_rows();
     sound_rows_have_a_world();
+}
+
+// What the laws say of the program of each query over loaded tables.
+pub(crate) fn each_query_is_judged(catalogue: &Catalogue)
+    ensures { (most : ℕ) (query : List ℕ) (p : Plan) → IsPlanOf query p
+        → IsJudged most catalogue.now query p }
+{
+    queries_that_fit_are_answered();
+    programs_of_queries_report_them();
+    catalogue.law();
 }
 
 /// Each of the thirteen texts of the benchmark means a query, and a query that is well named. So

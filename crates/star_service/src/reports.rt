@@ -1,10 +1,10 @@
 // Reports of many files over tables that are loaded once: each is kept under its name, and a line of
 // it is told. Or the files are checked and not run, and what is known before a run is told of each.
 
-ghost use Rattle.std.specs.Prelude.{◌≡◌, ◌<◌, Err, IfOk, length};
+ghost use Rattle.std.specs.Prelude.{◌≡◌, ◌<◌, Err, IfOk, MatchResult, length, string_bytes};
 ghost use Rattle.star_common.specs.Memory.{TellsMemory};
-ghost use Rattle.star_engine.specs.Answered.{change};
-ghost use Rattle.star_engine.specs.Tellings.{telling_of};
+ghost use Rattle.star_engine.specs.Answered.{OrMemory, change};
+ghost use Rattle.star_engine.specs.Tellings.{IsFileToldOver, IsJudgedOver, IsUnjudgedOver, telling_of};
 ghost use Rattle.star_service.specs.Private.ReportSteps.{IsKeptAndTold, IsLineWritten, IsRefusalTold};
 ghost use Rattle.star_service.specs.Reports as spec;
 ghost use Rattle.star_service.specs.Reports.{AreAllDelivered, AreAllJudged, IsDelivered, IsJudged, told_line};
@@ -14,7 +14,7 @@ ghost use Rattle.star_service.specs.declared.reports.Halt.TheVariants.{OutOfMemo
 use crate::names::Shown;
 use crate::shelf::{Shelf, ShelfFault};
 use star_common::{Sink, write_whole};
-use star_engine::{Engine, EngineFault, FaultLine, Told};
+use star_engine::{Engine, EngineFault, FaultLine, Question, Told};
 use std::alloc::{AllocError, Global};
 
 /// A file, and the name of its report.
@@ -135,6 +135,26 @@ fn tell_refusal<'a, S: Sink>(
     Ok(false)
 }
 
+// What is printed of the run of what a file holds.
+fn report_of(alloc: Global, engine: &Engine, file: &[u8]) -> Result<Told, EngineFault>
+    ensures { MatchResult result (λ told.
+        IsFileToldOver engine.now.visits engine.now.database file.now (telling_of told))
+        (OrMemory (IsUnjudgedOver engine.now.visits engine.now.database file.now)) }
+{
+    let question = Question::of_file(alloc, file)?;
+    engine.report(alloc, question)
+}
+
+// The line of what is known before it.
+fn forecast_of(alloc: Global, engine: &Engine, file: &[u8]) -> Result<String, EngineFault>
+    ensures { MatchResult result (λ line.
+        IsJudgedOver engine.now.visits engine.now.database file.now (string_bytes line))
+        (OrMemory (IsUnjudgedOver engine.now.visits engine.now.database file.now)) }
+{
+    let question = Question::of_file(alloc, file)?;
+    engine.forecast(alloc, question)
+}
+
 // Answers a file over loaded tables: keeps its report under its name, and tells a line of it. The
 // answer is whether it was not refused.
 fn deliver<'a, K: Shelf, S: Sink>(
@@ -149,7 +169,7 @@ fn deliver<'a, K: Shelf, S: Sink>(
         (change S.contents S.is_failed out.old out.new) result }
 {
     let Errand { name, file } = errand;
-    match engine.tell_text(alloc, file) {
+    match report_of(alloc, engine, file) {
         Ok(told) => {
             keep_told(alloc, name, &told, shelf, out)?;
             Ok(true)
@@ -170,7 +190,7 @@ fn judge<'a, S: Sink>(
         (change S.contents S.is_failed out.old out.new) result }
 {
     let Errand { name, file } = errand;
-    match engine.judge_text(alloc, file) {
+    match forecast_of(alloc, engine, file) {
         Ok(forecast) => {
             let line = named(alloc, name, forecast.as_bytes())?;
             write_line(out, line.as_slice())?;

@@ -1,17 +1,18 @@
 // Sessions: statements that are read one after another, and answered over tables that are loaded once.
 
 ghost use Rattle.std.specs.Prelude.{◌≡◌};
-ghost use Rattle.star_engine.specs.Answered.{change};
+ghost use Rattle.star_engine.specs.Answered.{IsAnswered, change};
+ghost use Rattle.star_engine.specs.QuoteTexts.{IsQuoteTextOver, IsUnquotedOver};
 ghost use Rattle.star_service.specs.Sessions as spec;
-ghost use Rattle.star_service.specs.Sessions.{IsAnswerTo, IsConversed, IsLineEnded, IsReportEnded, IsSession, IsSessionEnded, IsStep};
+ghost use Rattle.star_service.specs.Sessions.{IsAnswerTo, IsConversed, IsLineEnded, IsReportEnded, IsReported, IsSession, IsSessionEnded, IsStep};
 ghost use Rattle.star_service.specs.Private.Turns.{IsTurn};
 ghost use Rattle.star_statements.specs.Questions.{asked_by_text};
 ghost use Rattle.star_statements.specs.Sources.{has_failed, reader_of};
 
 use crate::lines::{MEMORY_LINE, MEMORY_STATUS, tell, tell_fault};
 use star_common::{Sink, write_whole};
-use star_engine::{Engine, EngineFault, QueryFault, explain_query};
-use star_statements::{Question, ReadFault, Source, question_of, read_statement};
+use star_engine::{Engine, EngineFault, QueryFault, Question, explain_query};
+use star_statements::{Question as Statement, ReadFault, Source, question_of, read_statement};
 use std::alloc::Global;
 use std::io::Read;
 
@@ -31,6 +32,35 @@ fn end_report<S: Sink>(out: &mut S) -> Result<(), EngineFault>
     Ok(write_whole(out, b"\n")?)
 }
 
+// The report of a query.
+fn answer_query<S: Sink, N: Sink>(
+    alloc: Global,
+    engine: &Engine,
+    query: &[u8],
+    out: &mut S,
+    notes: &mut N,
+) -> Result<(), EngineFault>
+    ensures { IsReported engine.now query.now (change S.contents S.is_failed out.old out.new)
+        (change N.contents N.is_failed notes.old notes.new) result }
+{
+    let question = Question::query(alloc, query)?;
+    engine.answer(alloc, question, out, notes)
+}
+
+// How many visits of what a statement asks for are quoted.
+fn quote<S: Sink>(
+    alloc: Global,
+    engine: &Engine,
+    file: &[u8],
+    out: &mut S,
+) -> Result<(), EngineFault>
+    ensures { IsAnswered (change S.contents S.is_failed out.old out.new)
+        (IsQuoteTextOver engine.now.database file.now) (IsUnquotedOver file.now) result }
+{
+    let question = Question::of_file(alloc, file)?;
+    engine.quote(alloc, &question, out)
+}
+
 // The report of a query, with an empty line after it.
 fn report<S: Sink, N: Sink>(
     alloc: Global,
@@ -42,7 +72,7 @@ fn report<S: Sink, N: Sink>(
     ensures { IsReportEnded engine.now query.now (change S.contents S.is_failed out.old out.new)
         (change N.contents N.is_failed notes.old notes.new) result }
 {
-    match engine.answer_query(alloc, query, out, notes) {
+    match answer_query(alloc, engine, query, out, notes) {
         Ok(()) => end_report(out),
         Err(fault) => Err(fault),
     }
@@ -61,11 +91,11 @@ fn answer_statement<S: Sink, N: Sink>(
         (change N.contents N.is_failed notes.old notes.new) result }
 {
     match question_of(text) {
-        Question::Nothing => Ok(()),
-        Question::TooLong => Err(EngineFault::Query(QueryFault::TooLong)),
-        Question::Query(query) => report(alloc, engine, query, out, notes),
-        Question::Explain(query) => explain_query(alloc, query, out),
-        Question::Quote(query) => engine.quote_text(alloc, query, out),
+        Statement::Nothing => Ok(()),
+        Statement::TooLong => Err(EngineFault::Query(QueryFault::TooLong)),
+        Statement::Query(query) => report(alloc, engine, query, out, notes),
+        Statement::Explain(query) => explain_query(alloc, query, out),
+        Statement::Quote(query) => quote(alloc, engine, query, out),
     }
 }
 

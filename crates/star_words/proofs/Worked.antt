@@ -9,7 +9,6 @@ use Rattle.clap.specs.declared.error.kind.ErrorKind.TheVariants.{DisplayHelp, Di
 use Rattle.star_common.proofs.Tables.{Gives}
 use Rattle.star_schema.specs.declared.limits.Limits.{Limits}
 use Rattle.star_words.specs.Faults.{fault_of_kind, words_fault_status, words_fault_text, words_status}
-use Rattle.star_words.specs.Private.Tasks.{IsTaskFault, IsTaskNamed, task_commands}
 use Rattle.star_words.specs.Requests.{HasFolders, HasTaskFolder, IsNamed, IsWordsFault, folder_commands, is_in, known_commands, request_name, task_name}
 use Rattle.star_words.specs.declared.fault.WordsFault.TheVariants.{EmptyFolder, NoCommand, NotText, OutOfMemory}
 use Rattle.star_words.specs.declared.request.Reports.{Reports}
@@ -41,9 +40,7 @@ module _ (folder file : Bor (List ℕ)) (limits : Limits) (reports : Reports) wh
       ≡ (Some (codes "exec") ≡ Some (codes "query")))
       × (IsNamed [] (Answer Sample) ≡ (none ≡ none))
       × (IsNamed (codes "sample" ∷ []) (Answer Sample) ≡ (none ≡ Some (codes "sample")))
-      × (IsTaskNamed (codes "exec" ∷ codes "query" ∷ []) (Exec folder file)
-      ≡ (Some (codes "exec") ≡ Some (codes "exec")))
-  by_words = (refl, refl, refl, refl, refl)
+  by_words = (refl, refl, refl, refl)
 
   folders : (HasTaskFolder (Check folder) ≡ (0 < length folder.now))
       × (HasTaskFolder (Trial folder file limits) ≡ (0 < length folder.now))
@@ -67,10 +64,6 @@ kinds_of_commands : Gives (λ some. map (is_in some) commands) ((
     ∷ (
       known_commands,
       true ∷ true ∷ true ∷ true ∷ true ∷ true ∷ true ∷ true ∷ false ∷ false ∷ [],
-    )
-    ∷ (
-      task_commands,
-      true ∷ true ∷ true ∷ true ∷ true ∷ true ∷ true ∷ false ∷ false ∷ false ∷ [],
     ) ∷ [])
 kinds_of_commands = refl
 
@@ -79,9 +72,7 @@ module _ (name : List ℕ) (words : List (List ℕ)) where
       × (IsWordsFault (name ∷ words) NoCommand ≡ (is_in known_commands name ≡ false))
       × (IsWordsFault (name ∷ words) NotText ≡ ⊥)
       × (IsWordsFault (name ∷ words) OutOfMemory ≡ Unit {0}) × (IsWordsFault [] OutOfMemory ≡ ⊥)
-      × (IsTaskFault (name ∷ words) NoCommand ≡ (is_in task_commands name ≡ false))
-      × (IsTaskFault (name ∷ words) EmptyFolder ≡ IsWordsFault (name ∷ words) EmptyFolder)
-  faults = (refl, refl, refl, refl, refl, refl, refl)
+  faults = (refl, refl, refl, refl, refl)
 
 -- ---- lines and statuses; what the parser of words lets not pass has its own text, and its status by
 -- its kind, and want of memory is as any other

@@ -41,14 +41,14 @@ fn limit_word<'a>(alloc: Global) -> Arg<'a>
     word(
         alloc,
         "LIMIT",
-        "How many turns of scans may begin at most, from 0 to 1000000000000000",
+        "The largest number of rows to visit, from 0 to 1000000000000000",
     )
     .allow_negative_numbers(true)
     .value_parser(value_parser!(i64).range(0..=MOST_VISITS as i64))
 }
 
-// A command that asks for nothing yet.
-fn wordless<'a>(alloc: Global, help: Help) -> Result<Command<'a>, AllocError>
+/// A command that has no words yet: the one that has commands of its own has none.
+pub(crate) fn wordless<'a>(alloc: Global, help: Help) -> Result<Command<'a>, AllocError>
     ensures { IfOk result IsWordless }
 {
     Command::new(alloc, help.name)
@@ -56,11 +56,6 @@ fn wordless<'a>(alloc: Global, help: Help) -> Result<Command<'a>, AllocError>
         .after_help(help.after)
         .no_binary_name(true)
         .bin_name(help.called)
-}
-
-/// A command that has no words: the one that has commands of its own, or one that is told alone.
-pub(crate) fn program<'a>(alloc: Global, help: Help) -> Result<Command<'a>, AllocError> {
-    wordless(alloc, help)
 }
 
 /// A command that asks for a folder.
@@ -108,16 +103,14 @@ fn file_words<'a>(alloc: Global) -> Arg<'a> {
 fn quote_flag<'a>(alloc: Global) -> Arg<'a> {
     Arg::new(alloc, "quote")
         .long("quote")
-        .help(
-            "Tells of each file how many rows it visits and its report can have at most, and runs none",
-        )
+        .help("Prints how many rows each file visits and its report has at most, and runs none")
         .action(ArgAction::SetTrue)
 }
 
 /// A command that asks for a folder, a folder for reports, and files.
 pub(crate) fn over_files<'a>(alloc: Global, help: Help) -> Result<Command<'a>, AllocError> {
     over_folder(alloc, help)?
-        .arg(word(alloc, "TARGET", "A folder that is there, for the reports"))?
+        .arg(word(alloc, "TARGET", "An existing folder for the reports"))?
         .arg(file_words(alloc))?
         .arg(quote_flag(alloc))
 }
@@ -149,7 +142,7 @@ pub(crate) enum Asked {
 // Makes a command that asks for what `asked` says.
 fn asking<'a>(alloc: Global, help: Help, asked: Asked) -> Result<Command<'a>, AllocError> {
     match asked {
-        Asked::Nothing => program(alloc, help),
+        Asked::Nothing => wordless(alloc, help),
         Asked::Folder => over_folder(alloc, help),
         Asked::File(file) => over_file(alloc, help, file),
         Asked::FolderAndFile(file) => over_folder_and_file(alloc, help, file),

@@ -2,7 +2,6 @@
 
 ghost use Rattle.std.specs.Prelude.{◌≡◌, [], Ok, Some, IfErr, IfOk, codes, map, string_bytes};
 ghost use Rattle.star_words.specs.Private.Asked.{HasLimit, HasWord, IsCommandFault, IsFolderFault, IsParsersFault, IsReportsFault};
-ghost use Rattle.star_words.specs.Private.Tasks.{IsTaskFault, IsTaskNamed};
 ghost use Rattle.star_schema.specs.Most.{most_rows};
 ghost use Rattle.star_words.specs.Requests.{HasFolders, HasMostRows, HasTaskFolder, IsFolderName, IsNamed, IsOfMostRows, IsWordsFault, task_name};
 ghost use Rattle.star_words.specs.declared.request.Request.TheVariants.{Answer};
@@ -14,12 +13,13 @@ use crate::help::{
     REPORTS, SESSION, STAR, TABLES, TRIAL,
 };
 use crate::parser::{
-    Asked, asking_all, over_file, over_files, over_folder, over_folder_and_file, program,
-    under_limit,
+    Asked, asking_all, over_file, over_files, over_folder, over_folder_and_file, under_limit,
+    wordless,
 };
 use clap::{ArgMatches, Command};
 use star_schema::{Limits, MOST_ROWS};
 use std::alloc::{AllocError, Global};
+use std::convert::AsStr;
 
 /// What the program is to do.
 #[derive(Clone, Copy)]
@@ -106,7 +106,7 @@ fn versioned<'a>(star: Command<'a>) -> Command<'a> {
 // The program with its commands, for help and for what is wrong with words that name none.
 fn star_command<'a>(alloc: Global) -> Result<Command<'a>, AllocError> {
     let commands = asking_all(alloc, &COMMANDS)?;
-    versioned(program(alloc, STAR)?).subcommands(commands)
+    versioned(wordless(alloc, STAR)?).subcommands(commands)
 }
 
 // The value of a word that the parser lets not be missing.
@@ -205,79 +205,19 @@ fn trial_of<'a>(alloc: Global, words: &'a [String]) -> Result<Task<'a>, WordsFau
     trial_given(&matches)
 }
 
-fn parsed<'a>(alloc: Global, words: &'a [String]) -> Result<ArgMatches<'a>, WordsFault>
+fn parsed<'a, S: AsStr>(alloc: Global, words: &'a [S]) -> Result<ArgMatches<'a>, WordsFault>
     ensures { IfErr result IsParsersFault }
 {
     Ok(star_command(alloc)?.try_get_matches_from(words)?)
 }
 
-fn page_of<'a>(alloc: Global, words: &'a [&'a str]) -> Result<ArgMatches<'a>, WordsFault>
-    ensures { IfErr result IsParsersFault }
-{
-    Ok(star_command(alloc)?.try_get_matches_from(words)?)
-}
-
-// What is said of words whose first names no command: it may ask for help or the version.
-fn no_command<'a>(alloc: Global, words: &'a [String]) -> WordsFault
+// What is said of words whose first names no command: they may ask for help or the version.
+fn no_command<'a, S: AsStr>(alloc: Global, words: &'a [S]) -> WordsFault
     ensures { IsCommandFault result }
 {
     match parsed(alloc, words) {
         Ok(_) => WordsFault::NoCommand,
         Err(fault) => fault,
-    }
-}
-
-// What help says of the tables, which is all that there is to say of them.
-fn tables_told<'a>(alloc: Global) -> WordsFault
-    ensures { IsCommandFault result }
-{
-    match page_of(alloc, &["help", "tables"]) {
-        Ok(_) => WordsFault::NoCommand,
-        Err(fault) => fault,
-    }
-}
-
-// The task that the words ask for.
-// Each command's words are parsed by themselves: of the command that is parsed the parser's clauses
-// say that the required words are there, and of one inside it little more than its name.
-fn task_of<'a>(alloc: Global, words: &'a [String]) -> Result<Task<'a>, WordsFault>
-    ensures none { words.now ≡ [] → result ≡ Ok Sample }
-    ensures fault { IfErr result (IsTaskFault (map string_bytes words.now)) }
-    ensures named { IfOk result (IsTaskNamed (map string_bytes words.now)) }
-    ensures folder { IfOk result HasTaskFolder }
-    ensures rows { IfOk result HasMostRows }
-{
-    let Some((name, rest)) = words.split_first() else {
-        return Ok(Task::Sample);
-    };
-    match name.as_str() {
-        "check" => {
-            let folder = folder_of(alloc, CHECK, rest)?;
-            Ok(Task::Check { folder })
-        }
-        "bench" => {
-            let folder = folder_of(alloc, BENCH, rest)?;
-            Ok(Task::Bench { folder })
-        }
-        "query" => {
-            let (folder, file) = folder_and_file_of(alloc, QUERY, QUERY_FILE, rest)?;
-            Ok(Task::Query { folder, file })
-        }
-        "explain" => {
-            let file = file_of(alloc, EXPLAIN, QUERY_FILE, rest)?;
-            Ok(Task::Explain { file })
-        }
-        "exec" => {
-            let (folder, file) = folder_and_file_of(alloc, EXEC, PROGRAM_FILE, rest)?;
-            Ok(Task::Exec { folder, file })
-        }
-        "quote" => {
-            let (folder, file) = folder_and_file_of(alloc, QUOTE, EITHER_FILE, rest)?;
-            Ok(Task::Quote { folder, file })
-        }
-        "trial" => trial_of(alloc, rest),
-        "tables" if rest.is_empty() => Err(tables_told(alloc)),
-        _ => Err(no_command(alloc, words)),
     }
 }
 
@@ -319,6 +259,8 @@ fn reports_of<'a>(alloc: Global, words: &'a [String]) -> Result<Reports<'a>, Wor
     reports_given(alloc, &matches)
 }
 
+// Each command's words are parsed by themselves: of the command that is parsed the parser's clauses
+// say that the required words are there, and of one inside it little more than its name.
 /// Tells what `words` ask for, which are those of a command line without the program's own name: the
 /// first is the name of a command, and of no words an answer over the sample is asked for. The name of
 /// no folder is empty. Only the visits of a trial have a limit that is asked for. On `Err` the words ask
@@ -330,14 +272,43 @@ pub fn request_of<'a>(alloc: Global, words: &'a [String]) -> Result<Request<'a>,
     ensures folders { IfOk result HasFolders }
     ensures rows { IfOk result IsOfMostRows }
 {
-    match words.split_first() {
-        Some((name, rest)) if name.as_str() == "session" => {
+    let Some((name, rest)) = words.split_first() else {
+        return Ok(Request::Answer(Task::Sample));
+    };
+    let task = match name.as_str() {
+        "check" => {
+            let folder = folder_of(alloc, CHECK, rest)?;
+            Task::Check { folder }
+        }
+        "bench" => {
+            let folder = folder_of(alloc, BENCH, rest)?;
+            Task::Bench { folder }
+        }
+        "query" => {
+            let (folder, file) = folder_and_file_of(alloc, QUERY, QUERY_FILE, rest)?;
+            Task::Query { folder, file }
+        }
+        "explain" => {
+            let file = file_of(alloc, EXPLAIN, QUERY_FILE, rest)?;
+            Task::Explain { file }
+        }
+        "exec" => {
+            let (folder, file) = folder_and_file_of(alloc, EXEC, PROGRAM_FILE, rest)?;
+            Task::Exec { folder, file }
+        }
+        "quote" => {
+            let (folder, file) = folder_and_file_of(alloc, QUOTE, EITHER_FILE, rest)?;
+            Task::Quote { folder, file }
+        }
+        "trial" => trial_of(alloc, rest)?,
+        "session" => {
             let folder = folder_of(alloc, SESSION, rest)?;
-            Ok(Request::Session { folder })
+            return Ok(Request::Session { folder });
         }
-        Some((name, rest)) if name.as_str() == "reports" => {
-            Ok(Request::Reports(reports_of(alloc, rest)?))
-        }
-        _ => Ok(Request::Answer(task_of(alloc, words)?)),
-    }
+        "reports" => return Ok(Request::Reports(reports_of(alloc, rest)?)),
+        // What help says of the tables is all that there is to say of them.
+        "tables" if rest.is_empty() => return Err(no_command(alloc, &["help", "tables"])),
+        _ => return Err(no_command(alloc, words)),
+    };
+    Ok(Request::Answer(task))
 }

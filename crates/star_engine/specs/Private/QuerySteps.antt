@@ -1,22 +1,35 @@
--- What the steps of an answer to a query make.
-use Rattle.std.specs.Prelude.{◌≡◌, ℕ, List, Bool, true, false}
+-- What the laws say of the program of a query.
+use Rattle.std.specs.Prelude.{◌≡◌, ◌≤◌, ◌<◌, ◌↔◌, ℕ, List, Some}
+use Rattle.std.specs.Option.{option_map}
+use Rattle.star_schema.specs.Database.{Database, rows_in}
+use Rattle.star_schema.specs.Columns.{bounds_in}
 use Rattle.star_plan.specs.Meaning.{Plan}
-use Rattle.star_program.specs.declared.program.Parts.{Parts}
+use Rattle.star_program.specs.Effects.{State}
+use Rattle.star_program.specs.Run.{Ended, run_of}
+use Rattle.star_safety.specs.Admissible.{Refused, TooCostly, first_refusal}
+use Rattle.star_world.specs.WorldOf.{world_of}
 use Rattle.star_compile_laws.specs.Compiled.{compiled}
-use Rattle.star_engine.specs.Loads.{IsProgramOf}
-use Rattle.star_engine.specs.Queries.{IsPlanOf}
-use Rattle.star_engine.specs.QuoteTexts.{is_program_file}
+use Rattle.star_compile_laws.specs.Counts.{HasCounted}
+use Rattle.star_compile_laws.specs.Judged.{IsOverflow}
+use Rattle.star_compile_laws.specs.Wide.{turn_wide}
+use Rattle.star_engine.specs.Executions.{IsAcceptedWithin, quote_over}
+use Rattle.star_engine.specs.Queries.{FitsRows, IsPlanOf, fact_rows}
+use Rattle.star_engine.specs.QueryRuns.{PrintsTheReport}
 
--- the program of the query that a text means
-pub record IsProgramOfQuery (text : List ℕ) (program : Parts) : Type 0 where
-  pub p : Plan
-  pub meant : IsPlanOf text p
-  pub made : program ≡ compiled p
-
--- the program that a file is taken to tell
-abbrev pub IsProgramOfKind : (is_program : Bool) → (file : List ℕ) → Parts → Type 0
-IsProgramOfKind true file program = IsProgramOf file program
-IsProgramOfKind false file program = IsProgramOfQuery file program
-
-abbrev pub IsProgramOfFile : (file : List ℕ) → Parts → Type 0
-IsProgramOfFile file program = IsProgramOfKind (is_program_file file) file program
+-- what the laws say of the program of a query over the rows of five tables
+pub record IsJudged (most : ℕ) (database : Database) (query : List ℕ) (p : Plan) : Type 0 where
+  pub accepted : FitsRows most database query
+      ↔ IsAcceptedWithin database most (compiled p)
+  pub costly : most < fact_rows database
+      → first_refusal (world_of database) most (compiled p)
+      ≡ Some (TooCostly (fact_rows database))
+  pub wide : fact_rows database ≤ most → ¬ FitsRows most database query
+      → IsOverflow (first_refusal (world_of database) most (compiled p))
+  pub quoted : quote_over database (compiled p) ≡ fact_rows database
+  pub printed : (s : State) → run_of (world_of database) (compiled p) ≡ Ended s
+      → PrintsTheReport database query p s
+  pub first : fact_rows database ≤ most
+      → first_refusal (world_of database) most (compiled p)
+      ≡ option_map Refused (turn_wide (bounds_in (rows_in database)) p)
+  pub counted : (s : State) → run_of (world_of database) (compiled p) ≡ Ended s
+      → (meant : IsPlanOf query p) → HasCounted (rows_in database) meant.tree p s

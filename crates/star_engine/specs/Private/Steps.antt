@@ -1,15 +1,11 @@
 -- The faults of the steps before anything is written.
-use Rattle.std.specs.Prelude.{◌≡◌, ◌≤◌, ◌⊎◌, ℕ, List, Result, Ok, Err, length}
-use Rattle.star_outcome.specs.Yields.{Yields}
-use Rattle.star_program.specs.declared.outcome.Outcome.{Outcome}
+use Rattle.std.specs.Prelude.{◌≡◌, ◌⊎◌, ℕ, List, Result, Ok, Err, length}
 use Rattle.star_program.specs.declared.program.Parts.{Parts}
-use Rattle.star_program.specs.Run.{run_of}
 use Rattle.star_schema.specs.Database.{Database}
-use Rattle.star_world.specs.WorldOf.{world_of}
 use Rattle.star_engine.specs.declared.fault.EngineFault.{EngineFault}
 use Rattle.star_engine.specs.declared.fault.EngineFault.TheVariants.{OutOfMemory, Refused, Write}
 use Rattle.star_engine.specs.Answered.{Change, HasGained, HasGainedPart, IsUntouched}
-use Rattle.star_engine.specs.Executions.{IsAcceptedWithin, IsRefusal, quote_over}
+use Rattle.star_engine.specs.Executions.{IsRefusal}
 
 -- want of memory alone
 abbrev pub IsMemory : EngineFault → Type 0
@@ -20,13 +16,6 @@ IsMemory fault = ⊥
 abbrev pub IsNotVerified : Database → ℕ → Parts → EngineFault → Type 0
 IsNotVerified database most program (Refused refusal) = IsRefusal database most program refusal
 IsNotVerified database most program _ = ⊥
-
--- a program that was accepted has run
-pub record IsRun (database : Database) (most : ℕ) (program : Parts) (outcome : Outcome)
-    : Type 0 where
-  pub accepted : IsAcceptedWithin database most program
-  pub yields : Yields (world_of database) program (run_of (world_of database) program) outcome
-  pub within : outcome.visits ≤ quote_over database program
 
 -- ---- writing
 

@@ -1,26 +1,38 @@
 use Rattle.std.proofs.Common.{refl}
+use Rattle.std.proofs.lemmas.Result.{err_from_is_err_and}
+use Rattle.star_schema.specs.Most.{most_rows}
+use Rattle.star_engine.specs.Answered.{change}
+use Rattle.star_engine.specs.Loads.{IsUnloaded}
+use Rattle.star_cli.specs.Private.Asking.{IsNotAsked}
+use Rattle.star_cli.proofs.Giving.{given_up, never_asked, not_asked, not_loaded}
 use Rattle.star_cli.proofs.answers.give.Goals as goal
 
-pub returns-in-Sample : goal.returns-in-Sample
-returns-in-Sample g c = rw c.in-Sample.is (c.list_and_bench.ensures, refl)
+pub returns-in_err-asked : goal.returns-in_err-asked
+returns-in_err-asked g c = λ texts are of_tables.
+    let from = c.from_residual in
+    let p = err_from_is_err_and from.result from.ensures.1 in
+    let file = c.args.file.now in
+    rw (p.1, p.2)
+    (given_up (change g.S.Sink.contents g.S.Sink.is_failed c.args.out.now c.args.out.now)
+    (change g.N.Sink.contents g.N.Sink.is_failed c.args.notes.now c.args.notes.now) refl refl texts file
+    c.in_err-asked.field-0.0 (IsNotAsked c.args.task file) (c.in_err-asked.ensures of_tables)
+    (never_asked c.args.task file) c.args.task (not_asked c.args.task texts file))
 
-pub returns-in-Check : goal.returns-in-Check
-returns-in-Check g c = rw c.in-Check.is (c.list.ensures, refl)
+pub returns-in_err-engine : goal.returns-in_err-engine
+returns-in_err-engine g c = λ texts are of_tables.
+    let from = c.from_residual-in_err-engine in
+    let p = err_from_is_err_and from.result from.ensures.1 in
+    let file = c.args.file.now in
+    rw (p.1, p.2)
+    (given_up (change g.S.Sink.contents g.S.Sink.is_failed c.args.out.now c.args.out.now)
+    (change g.N.Sink.contents g.N.Sink.is_failed c.args.notes.now c.args.notes.now) refl refl texts file
+    c.in_err-engine.field-0.0 (IsUnloaded most_rows texts) (c.in_err-engine.ensures.loaded texts are)
+    (λ refusal never. never) c.args.task
+    (not_loaded c.args.task texts file c.in_ok-asked.asked (c.in_ok-asked.ensures of_tables)
+    of_tables))
 
-pub returns-in-Bench : goal.returns-in-Bench
-returns-in-Bench g c = rw c.in-Bench.is (c.answer_benchmark.ensures, refl)
-
-pub returns-in-Query : goal.returns-in-Query
-returns-in-Query g c = rw c.in-Query.is c.query.ensures
-
-pub returns-in-Explain : goal.returns-in-Explain
-returns-in-Explain g c = rw c.in-Explain.is (c.explain.ensures, refl)
-
-pub returns-in-Exec : goal.returns-in-Exec
-returns-in-Exec g c = rw c.in-Exec.is c.execute.ensures
-
-pub returns-in-Quote : goal.returns-in-Quote
-returns-in-Quote g c = rw c.in-Quote.is (c.quote.ensures, refl)
-
-pub returns-in-Trial : goal.returns-in-Trial
-returns-in-Trial g c = rw c.in-Trial.is (c.try_program.ensures, refl)
+pub returns : goal.returns
+returns g c = λ texts are of_tables.
+    let engine = c.in_ok-engine.ensures.loaded texts are in
+    c.ask.ensures texts engine.0 engine.1 c.args.task c.args.file.now
+    (c.in_ok-asked.ensures of_tables) of_tables

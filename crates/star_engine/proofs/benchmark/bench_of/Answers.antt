@@ -1,29 +1,19 @@
+use Rattle.std.proofs.lemmas.Option.{slice_get-get_or}
+use Rattle.star_engine.specs.declared.thirteen.BenchmarkQuery.TheVariants.{Q11}
 use Rattle.star_engine.specs.declared.thirteen.TheConstants.{THIRTEEN}
-use Rattle.star_engine.specs.Loads.{AreLoadedRows}
-use Rattle.star_engine.proofs.BenchAnswers.{sections_told}
+use Rattle.star_engine.proofs.BenchAnswers.{all_sections, one_section}
 use Rattle.star_engine.proofs.benchmark.bench_of.Goals as goal
+
+pub loop-query-preserved : goal.loop-query-preserved
+loop-query-preserved c =
+    let at = slice_get-get_or THIRTEEN c.loop-query.query-index Q11 c.loop-query-test.true in
+    rw c.in_ok-extend_from_slice.ensures.items (rw c.as_slice.ensures.value
+    (one_section c.args.limits.visits c.args.catalogue.now THIRTEEN c.loop-query.query-index _
+    c.loop-query.fits c.in_ok-section.section.fits c.loop-query.text.items
+    c.in_ok-section.section.text.items at c.in_ok-section.ensures.0 c.in_ok-section.ensures.1
+    c.loop-query.invariant))
 
 pub returns : goal.returns
 returns c =
-    let most = c.args.limits.visits in
-    let database = c.args.catalogue.now in
-    let loaded : AreLoadedRows database = record {
-      sound = c.law.ensures.sound;
-      rows = c.law.ensures.rows;
-      bounds = c.law.ensures.bounds;
-    } in
-    let fit = c.queries_that_fit_are_answered.ensures in
-    let report = c.programs_of_queries_report_them.ensures in
-    let found = c.in_ok-sections_of.field-0 in
-    sections_told most database
-    (λ query p meant. record {
-      accepted = fit.accepted most database query p loaded meant;
-      costly = fit.costly most database p;
-      wide = fit.wide most database query p meant;
-      quoted = report.quoted database p;
-      printed = λ s. report.printed database query p s loaded meant;
-      first = fit.first most database query p meant;
-      counted = λ s ended meant. report.counted database query p s loaded meant ended;
-    })
-    THIRTEEN c.in_ok-all.all found.fits found.text.items c.in_ok-all.ensures
-    c.in_ok-sections_of.ensures
+    all_sections c.args.limits.visits c.args.catalogue.now THIRTEEN c.loop-query.query-index
+    c.loop-query.fits c.loop-query.text.items c.loop-query-test.false c.loop-query.invariant

@@ -1,17 +1,51 @@
+use Rattle.std.proofs.Common.{refl}
+use Rattle.std.proofs.lemmas.Result.{err_from_is_err_and}
+use Rattle.star_schema.specs.Loadable.{database_of}
+use Rattle.star_catalogue.specs.Load.{texts_view}
+use Rattle.star_engine.specs.Answered.{IsAnswered, change}
+use Rattle.std.specs.Prelude.{Bool}
+use Rattle.star_engine.specs.Bench.{IsBench, IsBenchOver}
+use Rattle.star_engine.specs.Loads.{IsUnloaded}
+use Rattle.star_engine.proofs.Answering.{stopped}
 use Rattle.star_engine.proofs.ByClauses.{has_written, is_broken_off, is_refused, is_untouched}
+use Rattle.star_engine.proofs.Loaded.{answered_over}
 use Rattle.star_engine.proofs.calls.bench.Goals as goal
 
-pub returns-clause-written : goal.returns-clause-written
-returns-clause-written g c = search (has_written, c.bench.ensures.answered)
+pub returns-in_err-engine : goal.returns-in_err-engine
+returns-in_err-engine g c =
+    let texts = texts_view c.args.texts.now in
+    let rows = c.args.limits.rows in
+    let visits = c.args.limits.visits in
+    let from = c.from_residual in
+    let p = err_from_is_err_and from.result from.ensures.1 in
+    let sink = change g.S.Sink.contents g.S.Sink.is_failed c.args.out.now c.args.out.now in
+    let of_text = IsBench rows visits texts in
+    let of_fault = IsUnloaded rows texts in
+    let is : IsAnswered sink of_text of_fault from.result = rw (p.1, p.2)
+    (stopped (Bool) sink of_text of_fault c.in_err-engine.field-0.0 refl
+    c.in_err-engine.ensures.refused) in record {
+      written = has_written sink of_text of_fault from.result is;
+      broken = is_broken_off sink of_text of_fault from.result is;
+      refused = is_refused sink of_text of_fault from.result is;
+      memory = is_untouched sink of_text of_fault from.result is;
+      fits = rw p.1 tt;
+    }
 
-pub returns-clause-broken : goal.returns-clause-broken
-returns-clause-broken g c = search (is_broken_off, c.bench.ensures.answered)
-
-pub returns-clause-refused : goal.returns-clause-refused
-returns-clause-refused g c = search (is_refused, c.bench.ensures.answered)
-
-pub returns-clause-memory : goal.returns-clause-memory
-returns-clause-memory g c = search (is_untouched, c.bench.ensures.answered)
-
-pub returns-clause-fits : goal.returns-clause-fits
-returns-clause-fits g c = c.bench.ensures.fits
+pub returns : goal.returns
+returns g c =
+    let texts = texts_view c.args.texts.now in
+    let rows = c.args.limits.rows in
+    let visits = c.args.limits.visits in
+    let sink = change g.S.Sink.contents g.S.Sink.is_failed c.args.out.now c.bench.new.out in
+    let of_text = IsBench rows visits texts in
+    let of_fault = IsUnloaded rows texts in
+    let is = answered_over rows texts (database_of texts) c.in_ok-engine.ensures.loadable refl sink
+    (IsBenchOver visits) (λ database fault. ⊥) of_fault c.bench.result
+    (λ fault loadable never. absurd never)
+    (rw c.in_ok-engine.ensures.loaded at c.bench.ensures.answered) in record {
+      written = has_written sink of_text of_fault c.bench.result is;
+      broken = is_broken_off sink of_text of_fault c.bench.result is;
+      refused = is_refused sink of_text of_fault c.bench.result is;
+      memory = is_untouched sink of_text of_fault c.bench.result is;
+      fits = rw c.in_ok-engine.ensures.loaded at c.bench.ensures.fits;
+    }

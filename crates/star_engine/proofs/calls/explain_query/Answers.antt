@@ -1,14 +1,28 @@
+use Rattle.std.proofs.Common.{◌∙◌}
+use Rattle.star_compile_laws.specs.Compiled.{compiled}
+use Rattle.star_engine.specs.Answered.{change}
+use Rattle.star_engine.specs.Queries.{IsExplained, IsNoQuery}
+use Rattle.star_engine.proofs.Answering.{written}
 use Rattle.star_engine.proofs.ByClauses.{has_written, is_broken_off, is_refused, is_untouched}
+use Rattle.star_engine.proofs.ProgramTexts.{program_text_some}
 use Rattle.star_engine.proofs.calls.explain_query.Goals as goal
 
-pub returns-clause-written : goal.returns-clause-written
-returns-clause-written g c = search (has_written, c.explain_query.ensures)
+pub write_text-requires : goal.write_text-requires
+write_text-requires g c =
+    let text = c.in_ok-text.ensures c.args.query.now c.in_ok-question.ensures in
+    rw (c.as_slice.ensures.value ∙ text.written) (program_text_some (compiled text.p))
 
-pub returns-clause-broken : goal.returns-clause-broken
-returns-clause-broken g c = search (is_broken_off, c.explain_query.ensures)
-
-pub returns-clause-refused : goal.returns-clause-refused
-returns-clause-refused g c = search (is_refused, c.explain_query.ensures)
-
-pub returns-clause-memory : goal.returns-clause-memory
-returns-clause-memory g c = search (is_untouched, c.explain_query.ensures)
+pub returns : goal.returns
+returns g c =
+    let query = c.args.query.now in
+    let sink = change g.S.Sink.contents g.S.Sink.is_failed c.args.out.now c.write_text.new.out in
+    let of_text = IsExplained query in
+    let of_fault = IsNoQuery query in
+    let is = written sink c.as_slice.result.now of_text of_fault c.write_text.result
+    (rw c.as_slice.ensures.value (c.in_ok-text.ensures query c.in_ok-question.ensures))
+    c.write_text.ensures in record {
+      written = has_written sink of_text of_fault c.write_text.result is;
+      broken = is_broken_off sink of_text of_fault c.write_text.result is;
+      refused = is_refused sink of_text of_fault c.write_text.result is;
+      memory = is_untouched sink of_text of_fault c.write_text.result is;
+    }

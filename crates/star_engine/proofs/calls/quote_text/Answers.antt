@@ -1,14 +1,52 @@
+use Rattle.std.proofs.Common.{refl}
+use Rattle.std.proofs.lemmas.Result.{err_from_is_err_and}
+use Rattle.star_schema.specs.Loadable.{database_of}
+use Rattle.star_catalogue.specs.Load.{texts_view}
+use Rattle.star_engine.specs.Answered.{IsAnswered, change}
+use Rattle.star_engine.specs.Loads.{IsUnloaded}
+use Rattle.star_engine.specs.QuoteTexts.{IsQuoteText, IsQuoteTextOver, IsUnquoted, is_program_file}
+use Rattle.star_engine.proofs.QueryFaults.{or_memory}
+use Rattle.star_engine.proofs.TellingLemmas.{unquoted_tables}
+use Rattle.star_engine.proofs.Answering.{stopped}
 use Rattle.star_engine.proofs.ByClauses.{has_written, is_broken_off, is_refused, is_untouched}
+use Rattle.star_engine.proofs.Loaded.{answered_over}
 use Rattle.star_engine.proofs.calls.quote_text.Goals as goal
 
-pub returns-clause-written : goal.returns-clause-written
-returns-clause-written g c = search (has_written, c.quote_text.ensures)
+pub returns-in_err-engine : goal.returns-in_err-engine
+returns-in_err-engine g c =
+    let texts = texts_view c.args.texts.now in
+    let rows = c.args.limits.rows in
+    let file = c.args.file.now in
+    let from = c.from_residual-in_err-engine in
+    let p = err_from_is_err_and from.result from.ensures.1 in
+    let sink = change g.S.Sink.contents g.S.Sink.is_failed c.args.out.now c.args.out.now in
+    let of_text = IsQuoteText rows texts file in
+    let of_fault = IsUnquoted rows texts file in
+    let is : IsAnswered sink of_text of_fault from.result = rw (p.1, p.2)
+    (stopped (Unit {0}) sink of_text of_fault c.in_err-engine.field-0.0 refl
+    (or_memory (IsUnloaded rows texts) of_fault c.in_err-engine.field-0.0
+    (unquoted_tables (is_program_file file) rows texts file c.in_ok-question.question.program
+    c.in_ok-question.ensures) c.in_err-engine.ensures.refused)) in record {
+      written = has_written sink of_text of_fault from.result is;
+      broken = is_broken_off sink of_text of_fault from.result is;
+      refused = is_refused sink of_text of_fault from.result is;
+      memory = is_untouched sink of_text of_fault from.result is;
+    }
 
-pub returns-clause-broken : goal.returns-clause-broken
-returns-clause-broken g c = search (is_broken_off, c.quote_text.ensures)
-
-pub returns-clause-refused : goal.returns-clause-refused
-returns-clause-refused g c = search (is_refused, c.quote_text.ensures)
-
-pub returns-clause-memory : goal.returns-clause-memory
-returns-clause-memory g c = search (is_untouched, c.quote_text.ensures)
+pub returns : goal.returns
+returns g c =
+    let texts = texts_view c.args.texts.now in
+    let rows = c.args.limits.rows in
+    let file = c.args.file.now in
+    let sink = change g.S.Sink.contents g.S.Sink.is_failed c.args.out.now c.quote.new.out in
+    let of_text = IsQuoteText rows texts file in
+    let of_fault = IsUnquoted rows texts file in
+    let is = answered_over rows texts (database_of texts) c.in_ok-engine.ensures.loadable refl sink
+    (λ database. IsQuoteTextOver database file) (λ database fault. ⊥) of_fault c.quote.result
+    (λ fault loadable never. absurd never)
+    (rw c.in_ok-engine.ensures.loaded at (c.quote.ensures (is_program_file file) file c.in_ok-question.ensures)) in record {
+      written = has_written sink of_text of_fault c.quote.result is;
+      broken = is_broken_off sink of_text of_fault c.quote.result is;
+      refused = is_refused sink of_text of_fault c.quote.result is;
+      memory = is_untouched sink of_text of_fault c.quote.result is;
+    }

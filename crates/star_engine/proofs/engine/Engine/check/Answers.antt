@@ -1,14 +1,19 @@
-use Rattle.star_engine.proofs.ByClauses.{has_written, is_broken_off, is_refused, is_untouched}
+use Rattle.std.proofs.Common.{◌∙◌}
+use Rattle.star_schema.specs.Database.{rows_in}
+use Rattle.star_engine.specs.Answered.{change}
+use Rattle.star_engine.specs.Listing.{IsListingOver}
+use Rattle.star_engine.proofs.Answering.{written}
+use Rattle.star_engine.proofs.ListingLemmas.{listing_some}
 use Rattle.star_engine.proofs.engine.Engine.check.Goals as goal
 
-pub returns-clause-written : goal.returns-clause-written
-returns-clause-written g c = rw (← c.self.view_is) (search (has_written, c.list.ensures))
+pub write_text-requires : goal.write_text-requires
+write_text-requires g c =
+    rw (c.as_bytes.ensures.value ∙ c.in_ok-text.ensures)
+    (listing_some (rows_in c.self.inside.catalogue))
 
-pub returns-clause-broken : goal.returns-clause-broken
-returns-clause-broken g c = rw (← c.self.view_is) (search (is_broken_off, c.list.ensures))
-
-pub returns-clause-refused : goal.returns-clause-refused
-returns-clause-refused g c = search (is_refused, c.list.ensures)
-
-pub returns-clause-memory : goal.returns-clause-memory
-returns-clause-memory g c = search (is_untouched, c.list.ensures)
+pub returns : goal.returns
+returns g c =
+    rw (← c.self.view_is) (written
+    (change g.S.Sink.contents g.S.Sink.is_failed c.args.out.now c.write_text.new.out)
+    c.as_bytes.result.now (IsListingOver c.self.inside.catalogue) (λ fault. ⊥) c.write_text.result
+    (rw c.as_bytes.ensures.value c.in_ok-text.ensures) c.write_text.ensures)

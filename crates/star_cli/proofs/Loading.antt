@@ -1,0 +1,41 @@
+-- What a load under the widest limits gives.
+use Rattle.std.proofs.Common.{◌≡◌, ℕ, ap, subst}
+use Rattle.std.specs.Prelude.{Result, Ok, Err, IfErr, IfOk, MatchResult}
+use Rattle.star_schema.specs.Database.{TableTexts}
+use Rattle.star_schema.specs.Loadable.{IsLoadable}
+use Rattle.star_schema.specs.Most.{most_rows, most_visits}
+use Rattle.star_engine.specs.declared.fault.EngineFault.{EngineFault}
+use Rattle.star_engine.specs.Answered.{OrMemory}
+use Rattle.star_engine.specs.Loads.{IsUnloaded, Loaded, loaded_of}
+use Rattle.star_cli.specs.FolderLoads.{IsWidest}
+
+abbrev pub IsLoadedOf : (rows visits : ℕ) → TableTexts → Result Loaded EngineFault → Type 0
+IsLoadedOf rows visits texts result = MatchResult result
+    (λ engine. IsLoadable rows texts × (engine ≡ loaded_of rows visits texts))
+    (OrMemory (IsUnloaded rows texts))
+
+in_one : (rows visits : ℕ) (texts : TableTexts) (result : Result Loaded EngineFault)
+    → IfOk result (λ engine. IsLoadable rows texts)
+    → IfOk result (λ engine. engine ≡ loaded_of rows visits texts)
+    → IfErr result (OrMemory (IsUnloaded rows texts)) → IsLoadedOf rows visits texts result
+in_one rows visits texts (Ok engine) loadable loaded refused = (loadable, loaded)
+in_one rows visits texts (Err fault) loadable loaded refused = refused
+
+pub of_widest : (texts : TableTexts) (rows visits : ℕ) → rows ≡ most_rows → visits ≡ most_visits
+    → (result : Result Loaded EngineFault) → IfOk result (λ engine. IsLoadable rows texts)
+    → IfOk result (λ engine. engine ≡ loaded_of rows visits texts)
+    → IfErr result (OrMemory (IsUnloaded rows texts))
+    → IsLoadedOf most_rows most_visits texts result
+of_widest texts rows visits is_rows is_visits result loadable loaded refused =
+    subst (λ n. IsLoadedOf most_rows n texts result) is_visits
+    (subst (λ n. IsLoadedOf n visits texts result) is_rows
+    (in_one rows visits texts result loadable loaded refused))
+
+pub is_widest : (texts : TableTexts) (result : Result Loaded EngineFault)
+    → IsLoadedOf most_rows most_visits texts result → IfOk result IsWidest
+is_widest texts (Ok engine) is = (
+  (texts, is.0, ap (λ (l : Loaded). l.database) is.1),
+  ap (λ (l : Loaded). l.rows) is.1,
+  ap (λ (l : Loaded). l.visits) is.1,
+)
+is_widest texts (Err fault) is = tt

@@ -1,5 +1,0 @@
-use Rattle.star_engine.proofs.loading.load_read.Goals as goal
-
-pub returns : goal.returns
-returns c = λ most texts are.
-    (c.in_ok-finish.ensures.loadable most texts are, c.in_ok-finish.ensures.rows most texts are)

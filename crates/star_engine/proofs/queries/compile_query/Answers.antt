@@ -1,5 +1,0 @@
-use Rattle.std.proofs.Common.{rules}
-use Rattle.star_engine.proofs.queries.compile_query.Goals as goal
-
-pub returns-in_err-plan : goal.returns-in_err-plan
-returns-in_err-plan c = search rules

@@ -1,0 +1,27 @@
+-- What is answered to a question of one kind or the other over five texts.
+use Rattle.std.specs.Prelude.{ℕ, List, Bool, true, false}
+use Rattle.star_schema.specs.Database.{TableTexts}
+use Rattle.star_engine.specs.declared.fault.EngineFault.{EngineFault}
+use Rattle.star_engine.specs.Executions.{IsUntold}
+use Rattle.star_engine.specs.Loads.{HoldsOfRows}
+use Rattle.star_engine.specs.Noted.{Telling}
+use Rattle.star_engine.specs.Queries.{IsUnanswered}
+use Rattle.star_engine.specs.QuoteTexts.{IsQuoteOfKindOver}
+use Rattle.star_engine.specs.Tellings.{IsToldOfKind}
+
+-- the note of its quote
+abbrev pub IsQuoteOfTexts : (is_program : Bool) → (rows : ℕ) → TableTexts → (file text : List ℕ) → Type 0
+IsQuoteOfTexts is_program rows texts file text =
+    HoldsOfRows rows texts (λ database. IsQuoteOfKindOver is_program database file text)
+
+-- what is told of it
+abbrev pub IsToldOfTexts : (is_program : Bool) → (rows visits : ℕ) → TableTexts → (file : List ℕ)
+    → Telling → Type 0
+IsToldOfTexts is_program rows visits texts file telling =
+    HoldsOfRows rows texts (λ database. IsToldOfKind is_program visits database file telling)
+
+-- why nothing is told of it
+abbrev pub IsUntoldOfTexts : (is_program : Bool) → (rows visits : ℕ) → TableTexts → (file : List ℕ)
+    → EngineFault → Type 0
+IsUntoldOfTexts true rows visits texts file fault = IsUntold rows visits texts file fault
+IsUntoldOfTexts false rows visits texts file fault = IsUnanswered rows visits texts file fault

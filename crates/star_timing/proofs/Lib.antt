@@ -1,3 +1,0 @@
-mod LineParts
-mod TimeLemmas
-mod WorkedTimes

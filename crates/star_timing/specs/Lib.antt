@@ -1,5 +1,0 @@
-pub mod Asked
-pub mod Lines
-pub mod Runs
-pub mod Told
-pub mod Times
