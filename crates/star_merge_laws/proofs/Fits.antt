@@ -1,0 +1,175 @@
+-- A plan that fits the rows of lineorder fits those of a part that has a row.
+use Rattle.std.proofs.Common.{◌≡◌, ℕ, ℤ, zero, suc, ◌≤◌, Bool, true, ◌&&◌, List, [], ◌∷◌, ◌++◌, length, ◌≤ℤ◌, ◌+ℤ◌, ◌-ℤ◌, ◌*ℤ◌, refl, subst, arith}
+use Rattle.std.specs.Int.{int_min, int_max}
+use Rattle.std.specs.List.{list_all}
+use Rattle.std.proofs.lemmas.Bool.{and_from, and_parts}
+use Rattle.std.proofs.lemmas.Int.{ints, clamps}
+use Rattle.std.proofs.lemmas.List.{length-append}
+use Rattle.std.proofs.lemmas.List.Elements.{All-head}
+use Rattle.star_interval.specs.Range.{IsOrdered, IsWithin, Range, corner_range, fits_i64}
+use Rattle.star_interval.proofs.Products.{products_within}
+use Rattle.star_interval.proofs.Ranges.{fits_held, fits_i64_fits, holds_high, holds_low, holds_within, within_hull_left, within_hull_right}
+use Rattle.star_interval.proofs.Sums.{differences_within, sums_within}
+use Rattle.star_schema.specs.declared.column.ColumnId.{ColumnId}
+use Rattle.star_schema.specs.Bounds.{greatest, least, numbers_of}
+use Rattle.star_schema.specs.Columns.{bounds_in}
+use Rattle.star_schema.specs.Database.{Database}
+use Rattle.star_schema.specs.Schema.{table_of}
+use Rattle.star_schema.proofs.Extremes.{greatest_above, least_below}
+use Rattle.star_query.specs.Tree.{Expression, Measure, add, column, constant, count, fold, mul, sub}
+use Rattle.star_plan.specs.Fits.{Fits, expression_range, measure_fits, nodes_fit}
+use Rattle.star_plan.specs.Meaning.{Plan, Row}
+use Rattle.star_merge_laws.specs.Facts.{hull_of_rows}
+use Rattle.star_merge_laws.proofs.Facts.{in_table}
+use Rattle.star_merge_laws.specs.Tables.{tables_with}
+
+corners_ordered : (op : ℤ → ℤ → ℤ) (a b : Range) → IsOrdered (corner_range op a b)
+corners_ordered op a b =
+    of_four (op a.low b.low) (op a.low b.high) (op a.high b.low) (op a.high b.high)
+  where
+    of_four : (x y z w : ℤ)
+        → int_min (int_min x y) (int_min z w) ≤ℤ int_max (int_max x y) (int_max z w)
+    of_four x y z w = omega (arith, ints, clamps)
+
+-- ---- smaller ranges fit where greater ones do
+
+smaller_fits : (a b : Range) → IsOrdered a → IsWithin a b → fits_i64 b ≡ true → fits_i64 a ≡ true
+smaller_fits a b ordered inside h =
+    let fits = (fits_i64_fits b).0 h in
+    (fits_i64_fits a).1 (
+      fits_held b a.low fits (holds_within a b a.low inside (holds_low a ordered)),
+      fits_held b a.high fits (holds_within a b a.high inside (holds_high a ordered)),
+    )
+
+module _ (small great : ColumnId → Range) (ordered : (c : ColumnId) → IsOrdered (small c))
+    (inside : (c : ColumnId) → IsWithin (small c) (great c)) where
+  range_ordered : (e : Expression ColumnId) → IsOrdered (expression_range small e)
+  range_ordered (column c) = ordered c
+  range_ordered (constant z) = omega (arith, ints)
+  range_ordered (add a b) = corners_ordered ◌+ℤ◌ (expression_range small a) (expression_range small b)
+  range_ordered (sub a b) = corners_ordered ◌-ℤ◌ (expression_range small a) (expression_range small b)
+  range_ordered (mul a b) = corners_ordered ◌*ℤ◌ (expression_range small a) (expression_range small b)
+
+  range_inside : (e : Expression ColumnId)
+      → IsWithin (expression_range small e) (expression_range great e)
+  range_inside (column c) = inside c
+  range_inside (constant z) = record { from = omega (arith, ints); to = omega (arith, ints) }
+  range_inside (add a b) = sums_within (expression_range small a) (expression_range small b)
+      (expression_range great a) (expression_range great b) (range_ordered a) (range_ordered b)
+      (range_inside a) (range_inside b)
+  range_inside (sub a b) = differences_within (expression_range small a)
+      (expression_range small b) (expression_range great a) (expression_range great b)
+      (range_ordered a) (range_ordered b) (range_inside a) (range_inside b)
+  range_inside (mul a b) = products_within (expression_range small a) (expression_range small b)
+      (expression_range great a) (expression_range great b) (range_ordered a) (range_ordered b)
+      (range_inside a) (range_inside b)
+
+  at_node : (e : Expression ColumnId) → fits_i64 (expression_range great e) ≡ true
+      → fits_i64 (expression_range small e) ≡ true
+  at_node e h = smaller_fits (expression_range small e) (expression_range great e)
+      (range_ordered e) (range_inside e) h
+
+  both_nodes : (p q r s t u : Bool) → (p ≡ true → s ≡ true) → (q ≡ true → t ≡ true)
+      → (r ≡ true → u ≡ true) → (p && (q && r)) ≡ true → (s && (t && u)) ≡ true
+  both_nodes p q r s t u one two three h =
+      let first = and_parts p (q && r) h in
+      let later = and_parts q r first.1 in
+      and_from s (t && u) (one first.0) (and_from t u (two later.0) (three later.1))
+
+  nodes_smaller : (e : Expression ColumnId) → nodes_fit great e ≡ true → nodes_fit small e ≡ true
+  nodes_smaller (column c) h = at_node (column c) h
+  nodes_smaller (constant z) h = h
+  nodes_smaller (add a b) h = both_nodes (nodes_fit great a) (nodes_fit great b)
+      (fits_i64 (expression_range great (add a b))) (nodes_fit small a) (nodes_fit small b)
+      (fits_i64 (expression_range small (add a b))) (nodes_smaller a) (nodes_smaller b)
+      (at_node (add a b)) h
+  nodes_smaller (sub a b) h = both_nodes (nodes_fit great a) (nodes_fit great b)
+      (fits_i64 (expression_range great (sub a b))) (nodes_fit small a) (nodes_fit small b)
+      (fits_i64 (expression_range small (sub a b))) (nodes_smaller a) (nodes_smaller b)
+      (at_node (sub a b)) h
+  nodes_smaller (mul a b) h = both_nodes (nodes_fit great a) (nodes_fit great b)
+      (fits_i64 (expression_range great (mul a b))) (nodes_fit small a) (nodes_fit small b)
+      (fits_i64 (expression_range small (mul a b))) (nodes_smaller a) (nodes_smaller b)
+      (at_node (mul a b)) h
+
+  measures_smaller : (ms : List (Measure ColumnId)) → list_all (measure_fits great) ms ≡ true
+      → list_all (measure_fits small) ms ≡ true
+  measures_smaller [] h = refl
+  measures_smaller (count ∷ ms) h = measures_smaller ms h
+  measures_smaller (fold f e ∷ ms) h =
+      let parts = and_parts (nodes_fit great e) (list_all (measure_fits great) ms) h in
+      and_from (nodes_fit small e) (list_all (measure_fits small) ms) (nodes_smaller e parts.0)
+      (measures_smaller ms parts.1)
+
+-- ---- the bounds of a part that has a row lie within those of the whole
+
+none_ordered : least [] ≤ℤ greatest []
+unfolding least greatest
+none_ordered = omega (arith, ints)
+
+bounds_ordered : (zs : List ℤ) → least zs ≤ℤ greatest zs
+bounds_ordered [] = none_ordered
+bounds_ordered (z ∷ zs) =
+    let low = All-head (λ n. least (z ∷ zs) ≤ℤ n) z zs (least_below (z ∷ zs)) in
+    let high = All-head (λ n. n ≤ℤ greatest (z ∷ zs)) z zs (greatest_above (z ∷ zs)) in
+    omega (arith, ints, low, high)
+
+within_itself : (r : Range) → IsWithin r r
+within_itself r = record { from = omega (arith, ints); to = omega (arith, ints) }
+
+module _ (m n : ℕ) (a b : Range) where
+  left_inside : 1 ≤ m → IsWithin a (hull_of_rows m n a b)
+  left_inside h = by m n h
+    where
+      by : (m n : ℕ) → 1 ≤ m → IsWithin a (hull_of_rows m n a b)
+      by zero n h = absurd (omega (arith, h))
+      by (suc m) zero h = within_itself a
+      by (suc m) (suc n) h = within_hull_left a b
+
+  right_inside : 1 ≤ n → IsWithin b (hull_of_rows m n a b)
+  right_inside h = by m n h
+    where
+      by : (m n : ℕ) → 1 ≤ n → IsWithin b (hull_of_rows m n a b)
+      by zero n h = within_itself b
+      by (suc m) zero h = absurd (omega (arith, h))
+      by (suc m) (suc n) h = within_hull_right a b
+
+module _ (database : Database) (xs ys : List Row) where
+  abbrev bounds_over : List Row → ColumnId → Range
+  bounds_over rows c = bounds_in (tables_with database rows) c
+
+  first_inside : 1 ≤ length xs → (c : ColumnId)
+      → IsWithin (bounds_over xs c) (bounds_over (xs ++ ys) c)
+  first_inside h c = subst (IsWithin (bounds_over xs c)) (in_table database xs ys c (table_of c))
+      (left_inside (length xs) (length ys) (bounds_over xs c) (bounds_over ys c) h)
+
+  second_inside : 1 ≤ length ys → (c : ColumnId)
+      → IsWithin (bounds_over ys c) (bounds_over (xs ++ ys) c)
+  second_inside h c = subst (IsWithin (bounds_over ys c)) (in_table database xs ys c (table_of c))
+      (right_inside (length xs) (length ys) (bounds_over xs c) (bounds_over ys c) h)
+
+  ordered_over : (rows : List Row) (c : ColumnId) → IsOrdered (bounds_over rows c)
+  ordered_over rows c = bounds_ordered (numbers_of c (tables_with database rows (table_of c)))
+
+  abbrev FitsOver : ℕ → Plan → List Row → Type 0
+  FitsOver most p rows = Fits (length rows) most (bounds_over rows) p
+
+  pub first_fits : (most : ℕ) (p : Plan) → 1 ≤ length xs → FitsOver most p (xs ++ ys)
+      → FitsOver most p xs
+  first_fits most p some h =
+      let count = length-append xs ys in
+      record {
+        visits = omega (arith, count, h.visits);
+        nodes = measures_smaller (bounds_over xs) (bounds_over (xs ++ ys)) (ordered_over xs)
+            (first_inside some) p.measures h.nodes;
+      }
+
+  pub second_fits : (most : ℕ) (p : Plan) → 1 ≤ length ys → FitsOver most p (xs ++ ys)
+      → FitsOver most p ys
+  second_fits most p some h =
+      let count = length-append xs ys in
+      record {
+        visits = omega (arith, count, h.visits);
+        nodes = measures_smaller (bounds_over ys) (bounds_over (xs ++ ys)) (ordered_over ys)
+            (second_inside some) p.measures h.nodes;
+      }

@@ -1,0 +1,14 @@
+pub mod Totals
+pub mod Merging
+pub mod LoadableParts
+pub mod Facts
+pub mod Values
+pub mod Many
+pub mod Rows
+pub mod Fits
+pub mod PartialFacts
+pub mod MergedAnswers
+pub mod Texts
+pub mod Regrouping
+pub mod Spans
+pub mod MergedOutputs

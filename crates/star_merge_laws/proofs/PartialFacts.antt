@@ -1,0 +1,198 @@
+-- What facts tell of a query, totals in any order, and partials by plans.
+use Rattle.std.proofs.Common.{◌≡◌, ◌∙◌, ◌↔◌, ℕ, ◌+◌, ◌≤◌, suc, true, List, [], ◌∷◌, ◌++◌, Option, inl, inr, length, map, refl, sym, subst, ap, arith}
+use Rattle.std.specs.Prelude.{ℤ, nat_lt, pos}
+use Rattle.std.specs.List.{list_all}
+use Rattle.std.specs.List.Sorted.{IsPermutation}
+use Rattle.std.specs.Option.{option_map_or}
+use Rattle.std.proofs.lemmas.Bool.{and_from, and_parts, lt-ltb, ltb-true}
+use Rattle.std.proofs.lemmas.List.{append_assoc, length-append}
+use Rattle.std.proofs.lemmas.List.Sorted.{Contains-permutation, IsPermutation-append, IsPermutation-append_comm, IsPermutation-map, IsPermutation-refl, IsPermutation-sym, IsPermutation-trans}
+use Rattle.std.proofs.lemmas.List.Folds.{list_all-append}
+use Rattle.star_schema.specs.declared.group.Aggregate.{Aggregate}
+use Rattle.star_schema.specs.declared.group.GroupColumn.{GroupColumn}
+use Rattle.star_schema.specs.declared.group.Shape.{Shape}
+use Rattle.star_schema.specs.declared.group.GroupColumn.TheVariants as group
+use Rattle.star_schema.specs.Columns.{bounds_in}
+use Rattle.star_schema.specs.Database.{Database}
+use Rattle.star_schema.specs.Groups.{GroupRow, IsGroup, belongs}
+use Rattle.star_schema.specs.Order.{value_cmp}
+use Rattle.star_schema.specs.Tables.{Value}
+use Rattle.star_interval.specs.Range.{only}
+use Rattle.star_query.specs.Tree.{Tree}
+use Rattle.star_plan.specs.Fits.{measure_fits}
+use Rattle.star_plan.specs.Meaning.{Plan, Row, aggregate_of}
+use Rattle.star_plan.specs.Names.{column_at}
+use Rattle.star_plan.specs.Sound.{IsSoundPlan, is_group_column}
+use Rattle.star_merge_laws.specs.Facts.{AreFactsOf, Facts}
+use Rattle.star_merge_laws.specs.Merging.{AreMerged, as_row, merged, merged_totals, parts_of, total_over}
+use Rattle.star_merge_laws.specs.Parts.{with_lineorder}
+use Rattle.star_merge_laws.proofs.Totals.{merged_assoc, merged_comm}
+use Rattle.star_program.specs.declared.outcome.Cell.{Cell}
+use Rattle.star_query_meaning.specs.Fitting.{FitsTables}
+use Rattle.star_query_meaning.specs.Rows.{measures_of}
+use Rattle.star_query_meaning.proofs.Reorderings.{filter_reordered, reordered}
+use Rattle.star_merge_laws.specs.Partials.{FitsFacts, IsMergedAnswer, Partial, groups_of_partials}
+use Rattle.star_merge_laws.specs.Plain.{columns_at, plain_plan}
+use Rattle.star_merge_laws.specs.Tables.{tables_with}
+
+-- ---- whether a query fits hangs on the facts alone
+
+pub fits_by_facts : (database : Database) (rows : List Row) (most : ℕ) (facts : Facts) (q : Tree)
+    → AreFactsOf (with_lineorder database rows) facts
+    → FitsFacts most facts q ↔ FitsTables most (tables_with database rows) q
+fits_by_facts database rows most facts q are =
+    let bounds : facts.bounds ≡ bounds_in (tables_with database rows) = λ i c. are.bounds c i in
+    let nodes = ap (λ (b : _). list_all (measure_fits (λ n. option_map_or b (column_at n) (only (pos 0))))
+    (measures_of q.items)) bounds in (
+      λ h. record { visits = subst (λ n. n ≤ most) are.rows h.visits; nodes = sym nodes ∙ h.nodes },
+      λ h. record { visits = subst (λ n. n ≤ most) (sym are.rows) h.visits; nodes = nodes ∙ h.nodes },
+    )
+
+-- ---- totals together, in any order of the groups
+
+merged_turned : (g : Aggregate) (x y r : Option ℤ)
+    → merged g x (merged g y r) ≡ merged g y (merged g x r)
+merged_turned g x y r =
+    sym (merged_assoc g x y r) ∙ ap (λ t. merged g t r) (merged_comm g x y) ∙ merged_assoc g y x r
+
+totals_turned : (gs : List Aggregate) (xs ys rs : List (Option ℤ))
+    → merged_totals gs xs (merged_totals gs ys rs) ≡ merged_totals gs ys (merged_totals gs xs rs)
+totals_turned [] xs ys rs = refl
+totals_turned (g ∷ gs) [] [] rs = refl
+totals_turned (g ∷ gs) [] (y ∷ ys) rs = refl
+totals_turned (g ∷ gs) (x ∷ xs) [] rs = refl
+totals_turned (g ∷ gs) (x ∷ xs) (y ∷ ys) [] = refl
+totals_turned (g ∷ gs) (x ∷ xs) (y ∷ ys) (r ∷ rs) =
+    λ i. merged_turned g x y r i ∷ totals_turned gs xs ys rs i
+
+pub total_reordered : (gs : List Aggregate) (xs ys : List (GroupRow Value)) → IsPermutation xs ys
+    → total_over gs xs ≡ total_over gs ys
+total_reordered gs =
+    reordered (λ xs ys. total_over gs xs ≡ total_over gs ys) (λ xs. refl) (λ xs ys zs a b. a ∙ b)
+    (λ x xs ys h. ap (merged_totals gs x.totals) h)
+    (λ x y xs. totals_turned gs x.totals y.totals (total_over gs xs))
+
+-- ---- the plain plan of a sound plan is sound
+
+module _ {X : Type 0} where
+  count_columns : (column : ℕ → GroupColumn) (place : ℕ) (xs : List X)
+      → length (columns_at column place xs) ≡ length xs
+  count_columns column place [] = refl
+  count_columns column place (x ∷ xs) = ap suc (count_columns column (place + 1) xs)
+
+  keys_there : (keys aggregates place : ℕ) (xs : List X) → place + length xs ≤ keys
+      → list_all (is_group_column keys aggregates) (columns_at group.Key place xs) ≡ true
+  keys_there keys aggregates place [] h = refl
+  keys_there keys aggregates place (x ∷ xs) h =
+      and_from (nat_lt place keys) _ (lt-ltb place keys (omega (arith, h)))
+      (keys_there keys aggregates (place + 1) xs (omega (arith, h)))
+
+  aggregates_there : (keys aggregates place : ℕ) (xs : List X) → place + length xs ≤ aggregates
+      → list_all (is_group_column keys aggregates) (columns_at group.Aggregate place xs) ≡ true
+  aggregates_there keys aggregates place [] h = refl
+  aggregates_there keys aggregates place (x ∷ xs) h =
+      and_from (nat_lt place aggregates) _ (lt-ltb place aggregates (omega (arith, h)))
+      (aggregates_there keys aggregates (place + 1) xs (omega (arith, h)))
+
+some_column : (k a : ℕ) (columns : List GroupColumn) → 1 ≤ length columns
+    → list_all (is_group_column k a) columns ≡ true → 1 ≤ k + a
+some_column k a [] some all = absurd (omega (arith, some))
+some_column k a (group.Key n ∷ columns) some all =
+    let less = ltb-true n k (and_parts (nat_lt n k) (list_all (is_group_column k a) columns) all).0
+    in omega (arith, less)
+some_column k a (group.Aggregate n ∷ columns) some all =
+    let less = ltb-true n a (and_parts (nat_lt n a) (list_all (is_group_column k a) columns) all).0
+    in omega (arith, less)
+
+pub plain_sound : (p : Plan) → IsSoundPlan p → IsSoundPlan (plain_plan p)
+plain_sound p s =
+    let k = length p.keys in
+    let a = length p.measures in
+    let columns = length-append (columns_at group.Key 0 p.keys)
+    (columns_at group.Aggregate 0 p.measures) in
+    let keys = count_columns group.Key 0 p.keys in
+    let aggregates = count_columns group.Aggregate 0 p.measures in
+    let some = some_column k a p.items s.shown s.items in
+    record {
+      joins = s.joins;
+      distinct = s.distinct;
+      conjuncts = s.conjuncts;
+      keys = s.keys;
+      measures = s.measures;
+      names = s.names;
+      items = list_all-append (is_group_column k a) (columns_at group.Key 0 p.keys)
+          (columns_at group.Aggregate 0 p.measures)
+          ∙ and_from _ _ (keys_there k a 0 p.keys (omega arith))
+          (aggregates_there k a 0 p.measures (omega arith));
+      shown = omega (arith, columns, keys, aggregates, some);
+      sorts = refl;
+    }
+
+-- ---- told groups in any order
+
+module _ (s : Shape) (count : ℕ) (gs : List Aggregate) where
+  group_moved : (xs ys : List (GroupRow Value)) → IsPermutation xs ys
+      → (keys : List (Option Value)) → IsGroup s count (map as_row xs) keys
+      → IsGroup s count (map as_row ys) keys
+  group_moved xs ys h keys (is, inl row) = (
+    is,
+    inl (
+      row.0,
+      Contains-permutation (map as_row xs) (map as_row ys) row.0
+          (IsPermutation-map as_row xs ys h) row.1,
+      row.2,
+    ),
+  )
+  group_moved xs ys h keys (is, inr none) = (is, inr none)
+
+  pub merged_moved : (xs ys groups : List (GroupRow Value)) → IsPermutation xs ys
+      → AreMerged value_cmp s count gs xs groups → AreMerged value_cmp s count gs ys groups
+  merged_moved xs ys groups h are = record {
+    each = λ group c. (
+      group_moved xs ys h group.keys (are.each group c).0,
+      (are.each group c).1 ∙ total_reordered gs (parts_of value_cmp group.keys xs)
+          (parts_of value_cmp group.keys ys)
+          (filter_reordered (λ g. belongs value_cmp group.keys (as_row g).keys) xs ys h),
+    );
+    all = λ keys is. are.all keys (group_moved ys xs (IsPermutation-sym xs ys h) keys is);
+  }
+
+told_under : (x : Partial) (xs ys : List Partial)
+    → IsPermutation (groups_of_partials xs) (groups_of_partials ys)
+    → IsPermutation (groups_of_partials (x ∷ xs)) (groups_of_partials (x ∷ ys))
+told_under x xs ys h =
+    IsPermutation-append x.groups x.groups (groups_of_partials xs) (groups_of_partials ys)
+    (IsPermutation-refl x.groups) h
+
+told_turned : (x y : Partial) (xs : List Partial)
+    → IsPermutation (groups_of_partials (x ∷ y ∷ xs)) (groups_of_partials (y ∷ x ∷ xs))
+told_turned x y xs =
+    subst (IsPermutation (x.groups ++ (y.groups ++ groups_of_partials xs)))
+    (append_assoc y.groups x.groups (groups_of_partials xs))
+    (subst (λ gs. IsPermutation gs ((y.groups ++ x.groups) ++ groups_of_partials xs))
+    (append_assoc x.groups y.groups (groups_of_partials xs))
+    (IsPermutation-append (x.groups ++ y.groups) (y.groups ++ x.groups) (groups_of_partials xs)
+    (groups_of_partials xs) (IsPermutation-append_comm x.groups y.groups)
+    (IsPermutation-refl (groups_of_partials xs))))
+
+told_reordered : (xs ys : List Partial) → IsPermutation xs ys
+    → IsPermutation (groups_of_partials xs) (groups_of_partials ys)
+told_reordered =
+    reordered (λ xs ys. IsPermutation (groups_of_partials xs) (groups_of_partials ys))
+    (λ xs. IsPermutation-refl (groups_of_partials xs))
+    (λ xs ys zs a b. IsPermutation-trans (groups_of_partials xs) (groups_of_partials ys) (groups_of_partials zs) a b)
+    told_under told_turned
+
+-- what is made of partials doesn't hang on their order
+pub answer_moved : (q : Tree) (xs ys : List Partial) (names : List (List ℕ))
+    (rows : List (List Cell)) → IsPermutation xs ys → IsMergedAnswer q xs names rows
+    → IsMergedAnswer q ys names rows
+answer_moved q xs ys names rows h a = record {
+  headed = a.headed;
+  groups = a.groups;
+  merged = merged_moved q.grouping.shape (length q.grouping.columns)
+      (map aggregate_of (measures_of q.items)) (groups_of_partials xs) (groups_of_partials ys) a.groups
+      (told_reordered xs ys h) a.merged;
+  in_order = a.in_order;
+  cells = a.cells;
+}

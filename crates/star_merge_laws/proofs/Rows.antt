@@ -1,0 +1,89 @@
+-- The rows that a plan selects of lineorder's rows are those that it selects of each part.
+use Rattle.std.proofs.Common.{◌≡◌, ◌∙◌, ℕ, ◌+◌, true, List, [], ◌∷◌, ◌++◌, Option, Some, None, refl, sym, ap, true≢false}
+use Rattle.std.specs.Prelude.{filter}
+use Rattle.std.specs.List.{flat_map, list_all, sum_by}
+use Rattle.std.proofs.lemmas.Bool.{and_parts}
+use Rattle.std.proofs.lemmas.List.Concat.{flat_map-append}
+use Rattle.std.proofs.lemmas.List.Elements.{filter-append}
+use Rattle.std.proofs.lemmas.List.Sums.{sum_by-append, sum_by-cons}
+use Rattle.star_schema.specs.declared.table.TableId.{TableId}
+use Rattle.star_schema.specs.declared.table.TableId.TheVariants.{Lineorder}
+use Rattle.star_schema.specs.Database.{Database, rows_in}
+use Rattle.star_schema.specs.Schema.{key_of, references, table_of}
+use Rattle.star_schema.proofs.Same.{table_same}
+use Rattle.star_plan.specs.declared.tree.Join.{Join}
+use Rattle.star_plan.specs.Joins.{is_foreign, is_lone_key, refers}
+use Rattle.star_plan.specs.Meaning.{Joined, Plan, Row, all_hold, joined_rows, matches, only_row, partners, plan_rows, with_row}
+use Rattle.star_merge_laws.proofs.LoadableParts.{IsBeside, referred_beside, rows_beside}
+use Rattle.star_merge_laws.specs.Tables.{all_of, tables_with}
+
+-- ---- joins are with other tables than lineorder
+
+refers_to : (o : Option TableId) (t : TableId) → refers o t ≡ true → o ≡ Some t
+refers_to None t e = absurd (true≢false (sym e))
+refers_to (Some s) t e = ap Some (table_same s t e)
+
+key_beside : (j : Join) → is_foreign j.foreign j.key ≡ true → IsBeside (table_of j.key)
+key_beside j e = referred_beside j.foreign (table_of j.key)
+    (refers_to (references j.foreign) (table_of j.key)
+    (and_parts (refers (references j.foreign) (table_of j.key))
+    (is_lone_key j.key (key_of (table_of j.key))) e).0)
+
+abbrev pub AreForeign : List Join → Type 0
+AreForeign js = list_all (λ j. is_foreign j.foreign j.key) js ≡ true
+
+module _ (database : Database) where
+  -- what lineorder has doesn't matter to the partners of a row
+  partners_beside : (rows : List Row) (js : List Join) → AreForeign js → (row : Joined)
+      → partners (tables_with database rows) js row ≡ partners (rows_in database) js row
+  partners_beside rows [] foreign row = refl
+  partners_beside rows (j ∷ js) foreign row =
+      let parts = and_parts (is_foreign j.foreign j.key)
+      (list_all (λ q. is_foreign q.foreign q.key) js) foreign in
+      λ i. flat_map (λ d. partners_beside rows js parts.1 (with_row row (table_of j.key) d) i)
+      (filter (matches row j)
+      (rows_beside database rows (table_of j.key) (key_beside j parts.0) i))
+
+  module _ (js : List Join) (foreign : AreForeign js) where
+    abbrev partners_of : Row → List Joined
+    partners_of l = partners (rows_in database) js (only_row Lineorder l)
+
+    joined_with_partners : (rows : List Row)
+        → joined_rows (tables_with database rows) js ≡ flat_map partners_of rows
+    joined_with_partners rows =
+        λ i. flat_map (λ l. partners_beside rows js foreign (only_row Lineorder l) i) rows
+
+    pub joined_together : (xs ys : List Row) → joined_rows (tables_with database (xs ++ ys)) js
+        ≡ joined_rows (tables_with database xs) js ++ joined_rows (tables_with database ys) js
+    joined_together xs ys =
+        joined_with_partners (xs ++ ys) ∙ flat_map-append partners_of xs ys
+        ∙ (λ i. sym (joined_with_partners xs) i ++ sym (joined_with_partners ys) i)
+
+    pub counted_of_parts : (count : Joined → ℕ) (parts : List (List Row))
+        → sum_by count (joined_rows (tables_with database (all_of parts)) js)
+        ≡ sum_by (λ part. sum_by count (joined_rows (tables_with database part) js)) parts
+    counted_of_parts count [] = refl
+    counted_of_parts count (part ∷ parts) =
+        ap (sum_by count) (joined_together part (all_of parts))
+        ∙ sum_by-append count (joined_rows (tables_with database part) js)
+        (joined_rows (tables_with database (all_of parts)) js)
+        ∙ ap (λ n. sum_by count (joined_rows (tables_with database part) js) + n)
+        (counted_of_parts count parts)
+        ∙ sym (sum_by-cons (λ rows. sum_by count (joined_rows (tables_with database rows) js)) part
+        parts)
+
+  module _ (p : Plan) (foreign : AreForeign p.joins) where
+    pub selected_together : (xs ys : List Row) → plan_rows (tables_with database (xs ++ ys)) p
+        ≡ plan_rows (tables_with database xs) p ++ plan_rows (tables_with database ys) p
+    selected_together xs ys =
+        ap (filter (all_hold p.conjuncts)) (joined_together p.joins foreign xs ys)
+        ∙ filter-append (all_hold p.conjuncts) (joined_rows (tables_with database xs) p.joins)
+        (joined_rows (tables_with database ys) p.joins)
+
+    pub selected_of_parts : (parts : List (List Row))
+        → plan_rows (tables_with database (all_of parts)) p
+        ≡ flat_map (λ part. plan_rows (tables_with database part) p) parts
+    selected_of_parts [] = refl
+    selected_of_parts (part ∷ parts) =
+        selected_together part (all_of parts)
+        ∙ ap (λ rows. plan_rows (tables_with database part) p ++ rows) (selected_of_parts parts)

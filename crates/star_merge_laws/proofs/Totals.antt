@@ -1,0 +1,121 @@
+-- Aggregates over rows that pass one of two tests.
+use Rattle.std.proofs.Common.{◌≡◌, ◌∙◌, ℕ, ◌+◌, Bool, true, false, ◌&&◌, ◌||◌, List, [], ◌∷◌, ◌++◌, Option, Some, None, map, cond, refl, sym, ap, arith, true≢false}
+use Rattle.std.specs.Prelude.{ℤ, pos, ◌+ℤ◌, filter, slice_index_or}
+use Rattle.std.specs.Int.{int_min, int_max}
+use Rattle.std.proofs.lemmas.Int.{ints, clamps}
+use Rattle.star_schema.specs.declared.group.Aggregate.{Aggregate}
+use Rattle.star_schema.specs.declared.group.Aggregate.TheVariants.{Sum, Count, Min, Max}
+use Rattle.star_schema.specs.Groups.{Entry, aggregate, joined, joined_with, totals_from, totals_of}
+use Rattle.star_merge_laws.specs.Merging.{both, merged, merged_totals}
+
+both_comm : (g : Aggregate) (x y : ℤ) → both g x y ≡ both g y x
+both_comm Sum x y = omega (arith, ints)
+both_comm Count x y = omega (arith, ints)
+both_comm Min x y = omega (arith, ints, clamps)
+both_comm Max x y = omega (arith, ints, clamps)
+
+both_assoc : (g : Aggregate) (x y z : ℤ) → both g (both g x y) z ≡ both g x (both g y z)
+both_assoc Sum x y z = omega (arith, ints)
+both_assoc Count x y z = omega (arith, ints)
+both_assoc Min x y z = omega (arith, ints, clamps)
+both_assoc Max x y z = omega (arith, ints, clamps)
+
+pub merged_assoc : (g : Aggregate) (r s t : Option ℤ)
+    → merged g (merged g r s) t ≡ merged g r (merged g s t)
+merged_assoc g None s t = refl
+merged_assoc g (Some x) None t = refl
+merged_assoc g (Some x) (Some y) None = refl
+merged_assoc g (Some x) (Some y) (Some z) = ap Some (both_assoc g x y z)
+
+pub merged_comm : (g : Aggregate) (r s : Option ℤ) → merged g r s ≡ merged g s r
+merged_comm g None None = refl
+merged_comm g None (Some y) = refl
+merged_comm g (Some x) None = refl
+merged_comm g (Some x) (Some y) = ap Some (both_comm g x y)
+
+-- an aggregate over one row
+abbrev over_one : Aggregate → ℤ → Option ℤ
+over_one Count z = Some (pos 1)
+over_one g z = Some z
+
+one_more : (g : Aggregate) (f : ℤ → ℤ → ℤ) (z : ℤ) (o : Option ℤ)
+    → ((x y : ℤ) → both g x y ≡ f x y) → joined_with f z o ≡ merged g (Some z) o
+one_more g f z None is = refl
+one_more g f z (Some y) is = ap Some (sym (is z y))
+
+-- an aggregate over one row more
+over_more : (g : Aggregate) (z : ℤ) (zs : List ℤ)
+    → aggregate g (z ∷ zs) ≡ merged g (over_one g z) (aggregate g zs)
+over_more Count z zs = ap Some (omega (arith, ints))
+over_more Sum z zs = one_more Sum (λ x y. x +ℤ y) z (joined (λ x y. x +ℤ y) zs) (λ x y. refl)
+over_more Min z zs = one_more Min int_min z (joined int_min zs) (λ x y. refl)
+over_more Max z zs = one_more Max int_max z (joined int_max zs) (λ x y. refl)
+
+-- an aggregate over no rows adds nothing to one
+over_none : (g : Aggregate) (zs : List ℤ)
+    → aggregate g zs ≡ merged g (aggregate g []) (aggregate g zs)
+over_none Count zs = ap Some (omega (arith, ints))
+over_none Sum zs = refl
+over_none Min zs = refl
+over_none Max zs = refl
+
+module _ {X : Type 0} (g : Aggregate) (number : X → ℤ) where
+  abbrev over : List X → Option ℤ
+  over xs = aggregate g (map number xs)
+
+  left : (z : Option ℤ) (a b r : Option ℤ) → r ≡ merged g a b
+      → merged g z r ≡ merged g (merged g z a) b
+  left z a b r e = ap (merged g z) e ∙ sym (merged_assoc g z a b)
+
+  right : (z : Option ℤ) (a b r : Option ℤ) → r ≡ merged g a b
+      → merged g z r ≡ merged g a (merged g z b)
+  right z a b r e =
+      ap (merged g z) e ∙ sym (merged_assoc g z a b) ∙ ap (λ t. merged g t b) (merged_comm g z a)
+      ∙ merged_assoc g a z b
+
+  -- those that pass one of two tests, where none passes both, and then some more
+  pub over_either : (p q either : X → Bool) (more : List X)
+      → ((x : X) → either x ≡ (p x || q x)) → ((x : X) → (p x && q x) ≡ false) → (xs : List X)
+      → over (filter either xs ++ more) ≡ merged g (over (filter p xs)) (over (filter q xs ++ more))
+  over_either p q either more is not_both [] = over_none g (map number more)
+  over_either p q either more is not_both (x ∷ xs) =
+      ap (λ b. over (cond b (x ∷ filter either xs) (filter either xs) ++ more)) (is x)
+      ∙ by (p x) (q x) (not_both x) (over_either p q either more is not_both xs)
+    where
+      by : (b c : Bool) → (b && c) ≡ false
+          → over (filter either xs ++ more)
+          ≡ merged g (over (filter p xs)) (over (filter q xs ++ more))
+          → over (cond (b || c) (x ∷ filter either xs) (filter either xs) ++ more)
+          ≡ merged g (over (cond b (x ∷ filter p xs) (filter p xs)))
+          (over (cond c (x ∷ filter q xs) (filter q xs) ++ more))
+      by true true never e = absurd (true≢false never)
+      by true false never e =
+          over_more g (number x) (map number (filter either xs ++ more))
+          ∙ left (over_one g (number x)) (over (filter p xs)) (over (filter q xs ++ more))
+          (over (filter either xs ++ more)) e
+          ∙ ap (λ t. merged g t (over (filter q xs ++ more)))
+          (sym (over_more g (number x) (map number (filter p xs))))
+      by false true never e =
+          over_more g (number x) (map number (filter either xs ++ more))
+          ∙ right (over_one g (number x)) (over (filter p xs)) (over (filter q xs ++ more))
+          (over (filter either xs ++ more)) e
+          ∙ ap (merged g (over (filter p xs)))
+          (sym (over_more g (number x) (map number (filter q xs ++ more))))
+      by false false never e = e
+
+module _ {K : Type 0} (p q either : Entry K → Bool) (more xs : List (Entry K))
+    (is : (x : Entry K) → either x ≡ (p x || q x))
+    (not_both : (x : Entry K) → (p x && q x) ≡ false) where
+  totals_from_either : (gs : List Aggregate) (place : ℕ)
+      → totals_from gs place (filter either xs ++ more)
+      ≡ merged_totals gs (totals_from gs place (filter p xs)) (totals_from gs place (filter q xs ++ more))
+  totals_from_either [] place = refl
+  totals_from_either (g ∷ gs) place =
+      λ i. over_either g (λ row. slice_index_or row.values place (pos 0)) p q either more is
+      not_both xs i ∷ totals_from_either gs (place + 1) i
+
+  -- the aggregates of rows that pass one of two tests
+  pub totals_either : (gs : List Aggregate)
+      → totals_of gs (filter either xs ++ more)
+      ≡ merged_totals gs (totals_of gs (filter p xs)) (totals_of gs (filter q xs ++ more))
+  totals_either gs = totals_from_either gs 0

@@ -1,0 +1,46 @@
+-- The facts that decide the refusals of a query: the row count of lineorder and the bounds of columns.
+use Rattle.std.specs.Prelude.{◌≡◌, ◌+◌, ℕ, zero, suc, All, List, [], ◌∷◌, length}
+use Rattle.star_interval.specs.Range.{Range, hull}
+use Rattle.star_schema.specs.declared.column.ColumnId.{ColumnId}
+use Rattle.star_schema.specs.declared.table.TableId.TheVariants.{Lineorder}
+use Rattle.star_schema.specs.Columns.{bounds_in}
+use Rattle.star_schema.specs.Database.{Database, rows_in}
+use Rattle.star_schema.specs.Tables.{Value}
+use Rattle.star_merge_laws.specs.Parts.{with_lineorder}
+
+-- the row count of lineorder, and the bounds of each column
+pub record Facts : Type 0 where
+  pub rows : ℕ
+  pub bounds : ColumnId → Range
+
+pub record AreFactsOf (database : Database) (facts : Facts) : Type 0 where
+  pub rows : facts.rows ≡ length (rows_in database Lineorder)
+  pub bounds : (c : ColumnId) → facts.bounds c ≡ bounds_in (rows_in database) c
+
+-- the hull of two ranges, without that of a part that has no rows
+abbrev pub hull_of_rows : ℕ → ℕ → Range → Range → Range
+hull_of_rows zero n a b = b
+hull_of_rows (suc m) zero a b = a
+hull_of_rows (suc m) (suc n) a b = hull a b
+
+-- the facts of two parts together
+abbrev pub joined_facts : Facts → Facts → Facts
+joined_facts a b =
+    record {
+      rows = a.rows + b.rows;
+      bounds = λ c. hull_of_rows a.rows b.rows (a.bounds c) (b.bounds c);
+    }
+
+-- the facts of some parts together; there is at least one
+abbrev pub all_facts : Facts → List Facts → Facts
+all_facts first [] = first
+all_facts first (next ∷ more) = joined_facts first (all_facts next more)
+
+-- some rows of lineorder with their facts
+pub record RowsWithFacts : Type 0 where
+  pub rows : List (List Value)
+  pub facts : Facts
+
+abbrev pub HaveFacts : Database → List RowsWithFacts → Type 0
+HaveFacts database parts =
+    All (λ part. AreFactsOf (with_lineorder database part.rows) part.facts) parts

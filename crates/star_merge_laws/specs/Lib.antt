@@ -1,0 +1,9 @@
+pub mod Merging
+pub mod Parts
+pub mod Facts
+pub mod Tables
+pub mod Plain
+pub mod Partials
+pub mod Regrouping
+pub mod Spans
+pub mod Outputs

@@ -1,0 +1,20 @@
+-- The plan of a partial: the plain groups, with all keys and all aggregates.
+use Rattle.std.specs.Prelude.{ℕ, ◌+◌, List, [], ◌∷◌, ◌++◌}
+use Rattle.star_schema.specs.declared.group.GroupColumn.{GroupColumn}
+use Rattle.star_schema.specs.declared.group.GroupColumn.TheVariants.{Aggregate, Key}
+use Rattle.star_schema.specs.declared.group.Shape.TheVariants.{Plain}
+use Rattle.star_plan.specs.Meaning.{Plan}
+
+-- a column for each element of a list, with numbers from `place` on
+abbrev pub columns_at : {X : Type 0} → (ℕ → GroupColumn) → ℕ → List X → List GroupColumn
+columns_at column place [] = []
+columns_at column place (x ∷ xs) = column place ∷ columns_at column (place + 1) xs
+
+-- a plan without CUBE, ROLLUP and ORDER BY that shows all keys and aggregates
+abbrev pub plain_plan : Plan → Plan
+plain_plan p =
+    record p {
+      shape = Plain;
+      items = columns_at Key 0 p.keys ++ columns_at Aggregate 0 p.measures;
+      sorts = [];
+    }
