@@ -1,9 +1,8 @@
 -- What each command asks of the engine, what is told of a fault or a failure and with which status,
 -- and what sessions and reports of files tell: each type is the one on the right.
-use Rattle.std.proofs.Common.{◌≡◌, ◌⊎◌, ◌<◌, ◌≤◌, ◌++◌, ◌&&◌, ◌↔◌, ℕ, Bool, true, false, List, [], ◌∷◌, Option, Some, None, Result, Ok, Err, arith, inl, inr, length, lit≤, refl}
+use Rattle.std.proofs.Common.{◌≡◌, ◌⊎◌, ◌<◌, ◌≤◌, ◌&&◌, ◌↔◌, ℕ, Bool, true, false, List, [], ◌∷◌, Option, Some, None, Result, Ok, Err, arith, inl, inr, length, refl}
 use Rattle.std.specs.Prelude.{IfOk, IsTrue, codes}
 use Rattle.std.specs.Borrow.{Bor}
-use Rattle.std.specs.Io.KnownBytes.{Consumes}
 use Rattle.star_common.proofs.Tables.{Gives}
 use Rattle.star_schema.specs.declared.limits.Limits.{Limits}
 use Rattle.star_schema.specs.declared.table.TableId.TheVariants.{Lineorder}
@@ -13,15 +12,13 @@ use Rattle.star_schema.specs.Most.{most_rows, most_visits}
 use Rattle.star_query.specs.declared.fault.QueryFault.TheVariants as parsing
 use Rattle.star_plan.specs.declared.fault.PlanFault.TheVariants.{JoinMissing}
 use Rattle.star_program.specs.declared.spelling.fault.TextFault.TheVariants.{BadLine}
-use Rattle.star_catalogue.specs.FaultTexts as of_load
-use Rattle.star_catalogue.specs.Load.{texts_view}
 use Rattle.star_catalogue.specs.declared.fault.LoadFault.TheVariants.{DuplicateKey}
 use Rattle.star_verify.specs.declared.refusal.Refusal.TheVariants.{TooCostly}
 use Rattle.star_trial.specs.declared.fault.TrialFault.TheVariants.{Limit}
 use Rattle.star_statements.specs.Blanks.{without_blanks}
 use Rattle.star_statements.specs.Questions.{asked_by_text}
-use Rattle.star_statements.specs.Sources.{IsPastCounting, IsStatementRead}
-use Rattle.star_statements.specs.Statements.{ends_statement, joined_to_first, statement_lines, statements_in, statements_of}
+use Rattle.star_statements.specs.Sources.{IsPastCounting}
+use Rattle.star_statements.specs.Statements.{ends_statement, joined_to_first, statement_lines, statements_in}
 use Rattle.star_statements.specs.declared.questions.Question.TheVariants.{Explain as Explained, Nothing, Query as Asked, Quote as Quoted, TooLong}
 use Rattle.star_statements.specs.declared.sources.ReadFault.TheVariants.{Failed, OutOfMemory as NoMemory}
 use Rattle.star_engine.specs.declared.fault.EngineFault.{EngineFault}
@@ -33,25 +30,23 @@ use Rattle.star_engine.specs.Loads.{IsUnloaded, Loaded}
 use Rattle.star_engine.specs.Noted.{IsNoted}
 use Rattle.star_engine.specs.Queries.{IsExplained, IsNoQuery, IsQueryQuote, IsQueryQuoteOver, IsQueryTold, IsQueryToldOver, IsUnanswered, IsUnansweredOver}
 use Rattle.star_engine.specs.QuoteTexts.{IsQuoteTextOver, IsUnquotedOver}
-use Rattle.star_engine.specs.Tellings.{IsFileToldOver, IsJudgedOver, IsUnjudgedOver}
+use Rattle.star_engine.specs.Tellings.{IsJudgedOver}
 use Rattle.star_words.specs.Requests.{HasTaskFolder, IsOfMostRows}
 use Rattle.star_words.specs.declared.request.Request.TheVariants.{Answer as Answered}
-use Rattle.star_words.specs.declared.request.Task.{Task}
 use Rattle.star_words.specs.declared.request.Task.TheVariants as task
 use Rattle.star_service.specs.Lines.{IsFaultTold, IsTextTold, fault_line, fault_status}
-use Rattle.star_service.specs.Reports.{AreAllDelivered, AreAllJudged, AreDelivered, AreJudged, IsDelivered, IsJudged, IsJudgedLine, IsRefusedLine, IsReportKept, IsReportUnkept, named_line, refused_line, told_line}
-use Rattle.star_service.specs.Sessions.{AreAllAnswered, AreAnswered, AreRounds, IsAnswerTo, IsConversed, IsLineEnded, IsReportEnded, IsReported, IsRound, IsSession, IsSessionEnded, IsStatementUnread, IsStepEnded, IsUnwritten, may_go_on, parting_of}
-use Rattle.star_service.specs.Shelves.{Adds, HasFailedAt, HasKept, HasKeptNone, IsUnkept, Kept, KeepsAll, Shelving, shelving}
+use Rattle.star_service.specs.Reports.{AreAllDelivered, AreAllJudged, AreDelivered, AreJudged, IsDelivered, IsJudged, IsJudgedLine, IsRefusedLine, IsReportKept, IsReportUnkept, named_line}
+use Rattle.star_service.specs.Sessions.{AreAllAnswered, AreRounds, IsAnswerTo, IsConversed, IsLineEnded, IsReportEnded, IsReported, IsRound, IsSession, IsSessionEnded, IsStatementUnread, IsStepEnded, IsUnwritten, may_go_on, parting_of}
+use Rattle.star_service.specs.Shelves.{Adds, HasFailedAt, HasKeptNone, IsUnkept, Kept, KeepsAll, Shelving, shelving}
 use Rattle.star_service.specs.declared.reports.Errand.{Errand}
 use Rattle.star_service.specs.declared.reports.Halt.{Halt}
 use Rattle.star_service.specs.declared.reports.Halt.TheVariants as halts
 use Rattle.star_service.specs.declared.sessions.Stop.TheVariants.{Unread, Unwritten}
 use Rattle.star_service.specs.declared.shelf.ShelfFault.TheVariants as shelf_fault
-use Rattle.star_cli.specs.declared.answers.Bytes.{Bytes}
-use Rattle.star_cli.specs.Answers.{IsBenched, IsEnded, IsExecuted, IsExit, IsExplanation, IsGiven, IsListed, IsListedAndBenched, IsNoneRefused, IsOfFolder, IsQueried, IsQuoted, IsTried, none_refused}
+use Rattle.star_cli.specs.Answers.{IsBenched, IsEnded, IsExecuted, IsExplanation, IsGivenOf, IsListed, IsListedAndBenched, IsNoneRefused, IsOfTables, IsQueried, IsQuoted, IsTried, none_refused}
 use Rattle.star_cli.specs.Failures.{AreReportsEnded, IsFailureTold, IsTextOf, IsToldOn, failure_of_halt, status_of}
 use Rattle.star_cli.specs.FolderLoads.{AreLoadableRows, IsFolderRefused, IsWidest}
-use Rattle.star_examples.proofs.EngineAnswers.{Answer, Sink, grown, of_load, report, telling, untouched, well}
+use Rattle.star_examples.proofs.EngineAnswers.{Answer, Sink, grown, of_load, report, untouched, well}
 
 -- ---- statuses of faults
 
@@ -98,8 +93,8 @@ module _ {S E : Type 0} (out : Change S) (err : Change E) (text : List ℕ) (sta
 
 -- ---- what the engine is asked for, under the widest limits: `query` and `exec` alone write notes
 
-module _ {S N : Type 0} (bytes : Bytes) (out : Change S) (notes : Change N) (texts : TableTexts)
-    (file : List ℕ) (result : Result Bool EngineFault) (answer : Answer)
+module _ {S N : Type 0} (out : Change S) (notes : Change N) (texts : TableTexts) (file : List ℕ)
+    (result : Result Bool EngineFault) (answer : Answer)
     (Is : Answer → Type 0) where
   calls : (IsNoneRefused Is result ≡ ((a : Answer) × Is a × (result ≡ none_refused a)))
       × (IsQueried out notes texts file answer
@@ -115,23 +110,23 @@ module _ {S N : Type 0} (bytes : Bytes) (out : Change S) (notes : Change N) (tex
       × IsBenched (record out { old = listed }) texts result)))
   calls = (refl, refl, refl, refl)
 
-  given : (folder path : _) (limits : Limits) → let five = texts_view bytes.texts in
-      (IsGiven task.Sample bytes out notes result
-      ≡ (IsListedAndBenched out five result × (notes.new ≡ notes.old)))
-      × (IsGiven (task.Check folder) bytes out notes result
-      ≡ (IsNoneRefused (IsListed out five) result × (notes.new ≡ notes.old)))
-      × (IsGiven (task.Bench folder) bytes out notes result
-      ≡ (IsBenched out five result × (notes.new ≡ notes.old)))
-      × (IsGiven (task.Explain path) bytes out notes result
-      ≡ (IsNoneRefused (IsExplanation out bytes.file.now) result × (notes.new ≡ notes.old)))
-      × (IsGiven (task.Quote folder path) bytes out notes result
-      ≡ (IsNoneRefused (IsQuoted out five bytes.file.now) result × (notes.new ≡ notes.old)))
-      × (IsGiven (task.Trial folder path limits) bytes out notes result
-      ≡ (IsNoneRefused (IsTried limits out five bytes.file.now) result × (notes.new ≡ notes.old)))
-      × (IsGiven (task.Query folder path) bytes out notes result
-      ≡ IsNoneRefused (IsQueried out notes five bytes.file.now) result)
-      × (IsGiven (task.Exec folder path) bytes out notes result
-      ≡ IsNoneRefused (IsExecuted out notes five bytes.file.now) result)
+  given : (folder path : _) (limits : Limits) →
+      (IsGivenOf task.Sample texts file out notes result
+      ≡ (IsListedAndBenched out texts result × (notes.new ≡ notes.old)))
+      × (IsGivenOf (task.Check folder) texts file out notes result
+      ≡ (IsNoneRefused (IsListed out texts) result × (notes.new ≡ notes.old)))
+      × (IsGivenOf (task.Bench folder) texts file out notes result
+      ≡ (IsBenched out texts result × (notes.new ≡ notes.old)))
+      × (IsGivenOf (task.Explain path) texts file out notes result
+      ≡ (IsNoneRefused (IsExplanation out file) result × (notes.new ≡ notes.old)))
+      × (IsGivenOf (task.Quote folder path) texts file out notes result
+      ≡ (IsNoneRefused (IsQuoted out texts file) result × (notes.new ≡ notes.old)))
+      × (IsGivenOf (task.Trial folder path limits) texts file out notes result
+      ≡ (IsNoneRefused (IsTried limits out texts file) result × (notes.new ≡ notes.old)))
+      × (IsGivenOf (task.Query folder path) texts file out notes result
+      ≡ IsNoneRefused (IsQueried out notes texts file) result)
+      × (IsGivenOf (task.Exec folder path) texts file out notes result
+      ≡ IsNoneRefused (IsExecuted out notes texts file) result)
   given folder path limits = (refl, refl, refl, refl, refl, refl, refl, refl)
 
 module _ {S : Type 0} (out : Change S) (texts : TableTexts) (result : Result Bool EngineFault)
@@ -141,21 +136,12 @@ module _ {S : Type 0} (out : Change S) (texts : TableTexts) (result : Result Boo
       × IfOk result (λ fits. IsTrue fits ↔ AllFit most_visits (database_of texts))
   each_query_answered = (benched.answered, benched.fits)
 
--- the notes come before the line
-notes_and_then_the_line :
-    {S E : Type 0} (what : Task) (bytes : Bytes) (out : Change S) (err : Change E) (status : ℕ)
-    (result : Result Bool EngineFault) (noted : E)
-    → IsGiven what bytes out (record err { new = noted }) result
-    → IsEnded (record err { old = noted }) result status → IsExit what bytes out err status
-notes_and_then_the_line what bytes out err status result noted given ended =
-    record { result = result; noted = noted; given = given; ended = ended }
-
--- ---- folders: which tasks load one, none without a name; what its load gives
+-- ---- tables: which tasks load some, no folder without a name; what a load gives
 
 module _ (folder path : Bor (List ℕ)) (limits : Limits) (loaded : Loaded) (d : Database) where
-  folders : (IsOfFolder task.Sample ≡ ⊥) × (IsOfFolder (task.Explain path) ≡ ⊥)
-      × (IsOfFolder (task.Bench folder) ≡ Unit {0})
-      × (IsOfFolder (task.Trial folder path limits) ≡ (limits.rows ≡ most_rows))
+  folders : (IsOfTables task.Sample ≡ Unit {0}) × (IsOfTables (task.Explain path) ≡ ⊥)
+      × (IsOfTables (task.Bench folder) ≡ Unit {0})
+      × (IsOfTables (task.Trial folder path limits) ≡ (limits.rows ≡ most_rows))
       × (IsOfMostRows (Answered (task.Trial folder path limits)) ≡ (limits.rows ≡ most_rows))
       × (HasTaskFolder (task.Bench folder) ≡ (0 < length folder.now))
       × (AreLoadableRows d
@@ -175,17 +161,6 @@ put old new = shelving (λ shelf. Some shelf.0) (λ shelf. shelf.1) old new
 
 abbrev before : List Kept
 before = record { name = codes "revenue"; report = codes "revenue\n7045\n" } ∷ []
-
-one_report_more : HasKept
-    (put (before, None) (before ++ record { name = codes "above"; report = report } ∷ [], None))
-    (codes "above") report
-one_report_more = record { kept = refl; not_failed = refl }
-
-none_kept : HasKeptNone (put (before, None) (before, None))
-none_kept = record { same = refl; untried = refl }
-
-failed : HasFailedAt (put (before, None) (before, Some 4)) report 4
-failed = record { part = lit≤ tt; same = refl; failed = refl }
 
 no_failure_after_the_end : HasFailedAt (put (before, None) (before, Some 5)) report 5 → ⊥
 no_failure_after_the_end past = let more : 5 ≤ 4 = past.part in omega arith
@@ -211,10 +186,6 @@ module _ {K S : Type 0} (loaded : Loaded) (name file line : List ℕ) (shelf : S
       ≡ ((out.new ≡ out.old) × IsReportUnkept loaded file shelf sent × (named.now ≡ name)))
   delivered = (refl, refl, refl, refl)
 
-  a_line_that_breaks_off : IsReportKept loaded name file shelf line → HasGainedPart out line sent
-      → IsDelivered loaded name file shelf out (Err (halts.Unwritten sent))
-  a_line_that_breaks_off is gained = (true, (line, (is, gained)))
-
   judged : (IsJudgedLine loaded name file true line ≡ ((forecast : List ℕ)
       × IsJudgedOver loaded.visits loaded.database file forecast
       × (line ≡ named_line name forecast)))
@@ -224,10 +195,6 @@ module _ {K S : Type 0} (loaded : Loaded) (name file line : List ℕ) (shelf : S
       × (IsJudged loaded name file out (Err halts.OutOfMemory) ≡ (out.new ≡ out.old))
       × (IsJudged loaded name file out (Err (halts.Unkept named sent)) ≡ ⊥)
   judged = (refl, refl, refl, refl, refl)
-
-  a_forecast_that_breaks_off : IsJudgedLine loaded name file all line → HasGainedPart out line sent
-      → IsJudged loaded name file out (Err (halts.Unwritten sent))
-  a_forecast_that_breaks_off is gained = (all, (line, (is, gained)))
 
   -- one after another, and whether all were answered
   of_many : (AreDelivered loaded [] shelf out all
@@ -248,54 +215,6 @@ module _ {K S : Type 0} (loaded : Loaded) (name file line : List ℕ) (shelf : S
       × (all ≡ (accepted && rest))))))))
       × (AreAllJudged loaded errands out (Ok all) ≡ AreJudged loaded errands out all)
   of_many = (refl, refl, refl, refl, refl, refl)
-
-  answered : IsFileToldOver loaded.visits loaded.database file telling
-      → HasKept shelf name telling.report
-      → IsReportKept loaded name file shelf (told_line name telling)
-  answered told kept = record { telling = telling; told = told; kept = kept; lined = refl }
-
-  refused : (fault : EngineFault) → IsUnjudgedOver loaded.visits loaded.database file fault
-      → IsRefusedLine loaded name file (refused_line name fault)
-  refused fault due = record { fault = fault; due = due; told = refl }
-
-  not_kept : IsFileToldOver loaded.visits loaded.database file telling
-      → HasFailedAt shelf telling.report sent → IsReportUnkept loaded file shelf sent
-  not_kept told failed = record { telling = telling; told = told; failed = failed }
-
--- of three files the second ends them
-module _ {K S : Type 0} (loaded : Loaded) (first second third : Errand) (shelf : Shelving K)
-    (kept : K) (out : Change S) (told : S) (halt : Halt) where
-  the_second_ends_it : IsDelivered loaded first.name.now first.file.now
-      (record shelf { new = kept }) (record out { new = told }) (Ok true)
-      → IsDelivered loaded second.name.now second.file.now
-      (record shelf { old = kept }) (record out { old = told }) (Err halt)
-      → AreAllDelivered loaded (first ∷ second ∷ third ∷ []) shelf out (Err halt)
-  the_second_ends_it one other = record {
-    before = first ∷ [];
-    here = second;
-    behind = third ∷ [];
-    parts = refl;
-    all = true;
-    kept = kept;
-    told = told;
-    delivered = (true, (true, (kept, (told, (one, ((refl, refl, refl), refl))))));
-    halted = other;
-  }
-
-  the_second_ends_the_check : IsJudged loaded first.name.now first.file.now
-      (record out { new = told }) (Ok true)
-      → IsJudged loaded second.name.now second.file.now (record out { old = told }) (Err halt)
-      → AreAllJudged loaded (first ∷ second ∷ third ∷ []) out (Err halt)
-  the_second_ends_the_check one other = record {
-    before = first ∷ [];
-    here = second;
-    behind = third ∷ [];
-    parts = refl;
-    all = true;
-    told = told;
-    judged = (true, (true, (told, (one, ((refl, refl), refl)))));
-    halted = other;
-  }
 
 -- ---- sessions: one statement, and how it ends
 
@@ -352,49 +271,6 @@ module _ {S E : Type 0} (loaded : Loaded) (query : List ℕ) (out : Change S) (e
       × (IsSessionEnded is_terminal err (Err (Unread NoMemory)) status
       ≡ (IsTextTold err (codes "memory\n") × (status ≡ 7)))
   conversations = (refl, refl, refl, refl, refl, refl, refl, refl, refl, refl)
-
-  -- a statement is answered after others, and a write of its answer fails: no more is read
-  broken_off : (left : Option (List ℕ)) (told : S) (noted : E)
-      → AreAnswered loaded is_terminal old left others (record out { new = told })
-      (record err { new = noted })
-      → (kept : List ℕ) (is_ended : Bool) → IsStatementRead left new kept is_ended statement
-      → IsRound loaded is_terminal statement (record out { old = told })
-      (record err { old = noted }) false
-      → IsUnwritten loaded is_terminal old new out err
-  broken_off left told noted before kept is_ended read round = record {
-    left = left;
-    statements = others;
-    told = told;
-    noted = noted;
-    before = before;
-    kept = kept;
-    is_ended = is_ended;
-    statement = statement;
-    read = read;
-    round = round;
-  }
-
-  -- nothing is told after the statements that were answered but a prompt
-  nothing_but_a_prompt : (left : Option (List ℕ)) (noted : E)
-      → AreAnswered loaded is_terminal old left others out (record err { new = noted })
-      → IsTextTold (record err { old = noted }) (codes "star> ")
-      → IsStatementUnread loaded is_terminal old out err
-  nothing_but_a_prompt left noted before told = record {
-    left = left;
-    statements = others;
-    noted = noted;
-    before = before;
-    is_prompted = true;
-    prompt = told;
-  }
-
-  -- statements that were read are the first of all, whatever comes after them
-  some_answered : (text : List ℕ) → Consumes old new text
-      → ((rest : List ℕ) → statements_of (text ++ rest) ≡ others ++ statements_of rest)
-      → AreRounds loaded is_terminal others out err
-      → AreAnswered loaded is_terminal old new others out err
-  some_answered text read first rounds =
-      record { text = text; read = read; first = first; rounds = rounds }
 
 -- ---- a source of one empty line, which a person types; after the last statement a line ends
 

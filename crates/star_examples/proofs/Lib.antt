@@ -1,9 +1,6 @@
 mod QueryTests
 mod Sample
-mod Checks
-mod Texts
-mod FirstFaults
-mod NameFaults
+mod Faults
 mod Trees
 mod Rows
 mod Answers

@@ -1,45 +1,35 @@
--- What every plan keeps, and when it fits the sample; and the plans of some texts.
-use Rattle.std.proofs.Common.{◌≡◌, ◌≤◌, ◌↔◌, ◌^◌, ℕ, ℤ, true, false, List, [], ◌∷◌, Some, None, length, pos, refl, lit≤}
+-- What every plan keeps, and when it fits the sample.
+use Rattle.std.proofs.Common.{◌≡◌, ◌≤◌, ◌^◌, ℕ, ℤ, true, false, List, [], ◌∷◌, Some, None, length, pos, refl}
 use Rattle.std.specs.Prelude.{IsTrue, codes, neg_ℤ, replicate, sum_by}
-use Rattle.std.specs.Fmt.{digits}
 use Rattle.std.specs.List.{list_all}
-use Rattle.star_common.specs.First.{first_answer}
 use Rattle.star_common.proofs.Tables.{Gives, Gives2}
 use Rattle.star_schema.specs.declared.table.Key.TheVariants.{Two}
 use Rattle.star_schema.specs.declared.table.TableId.TheVariants.{Customer, Date, Part, Lineorder}
 use Rattle.star_schema.specs.declared.column.ColumnId.{ColumnId}
 use Rattle.star_schema.specs.declared.column.ColumnId.TheVariants.{CCustkey, DDatekey, DYear, LoDiscount, LoExtendedprice, LoLinenumber, LoOrderdate, LoOrderkey, LoQuantity, LoRevenue, LoShipmode, LoSupplycost, LoTax, PBrand1, PSize}
 use Rattle.star_schema.specs.declared.column.Kind.TheVariants as kind
-use Rattle.star_schema.specs.declared.group.Shape.TheVariants.{Cube, Plain}
-use Rattle.star_schema.specs.declared.group.Direction.TheVariants.{Ascending, Descending}
 use Rattle.star_schema.specs.declared.group.GroupColumn.TheVariants.{Key, Aggregate}
 use Rattle.star_schema.specs.Bounds.{greatest as greatest_number, least as least_number, numbers_at}
 use Rattle.star_schema.specs.Columns.{bounds_in}
 use Rattle.star_schema.specs.Records.{pieces}
-use Rattle.star_schema.specs.Schema.{column_of, columns_of, place_of, table_name, table_of}
+use Rattle.star_schema.specs.Schema.{column_of, columns_of, place_of, table_of}
 use Rattle.star_schema.specs.Tables.{Number, Text}
 use Rattle.star_interval.specs.Range.{Range, is_i64, only}
-use Rattle.star_query.specs.declared.token.Relation.TheVariants.{Equal, Unequal, Less, Greater}
-use Rattle.star_query.specs.Private.Cut.{cut_from, reserved, reserved_words}
+use Rattle.star_query.specs.declared.token.Relation.TheVariants.{Equal}
 use Rattle.star_query.specs.Limits.{comparisons_of, measure_operands, operands_of}
 use Rattle.star_query.specs.Spelled.{has_few_digits, is_name, is_printable_text}
-use Rattle.star_query.specs.Symbols.{spelling}
 use Rattle.star_query.specs.Tree.{Expression, Name, Tree, add, and, column, constant, count, mul, not, or, sub}
 use Rattle.star_plan.specs.declared.tree.Join.{Join}
 use Rattle.star_plan.specs.Fits.{Fits, expression_range, measure_fits, nodes_fit}
-use Rattle.star_plan.specs.Joins.{is_foreign, is_joined, is_lone_key, joins, joins_of, where_pairs}
+use Rattle.star_plan.specs.Joins.{is_foreign, is_joined, is_lone_key, joins}
 use Rattle.star_plan.specs.Limits.{IsPlanWithinLimits}
 use Rattle.star_plan.specs.Meaning.{Plan, RowCondition, value_in, value_number}
-use Rattle.star_plan.specs.Names.{column_at, column_called, has_name, is_of, table_called}
-use Rattle.star_plan.specs.Naming.{aggregate_names, function_word, has_text, resolved_key}
-use Rattle.star_plan.specs.Planned.{IsPlanned}
-use Rattle.star_plan.specs.Resolved.{IsResolved, items_from, option_all, resolved_measures, where_conjuncts}
+use Rattle.star_plan.specs.Names.{column_called, is_of}
 use Rattle.star_plan.specs.Sound.{IsSoundPlan, are_distinct, condition_is_sound, expression_is_sound, in_scope, is_group_column, measure_is_sound}
 use Rattle.star_plan.specs.Spelled.{IsSpelledPlan, condition_is_spelled, expression_is_spelled, measure_is_spelled}
 use Rattle.star_query_meaning.specs.Fitting.{FitsTables, PlanFitsTables, range_named}
 use Rattle.star_query_meaning.specs.Rows.{measures_of}
 use Rattle.star_compile_laws.proofs.PlanWords.{compare, between, summed, least, greatest}
-use Rattle.star_engine.proofs.Meanings.{IsWorked, are_named, meaning, means}
 use Rattle.star_examples.proofs.Sample.{number, text, sample, by_order, by_commit, cost, discount, of_part, revenue, tax}
 
 -- ---- sound: date is joined, and part isn't; texts are no numbers
@@ -160,8 +150,9 @@ plans_spelled : Gives condition_is_spelled (
 unfolding has_few_digits is_printable_text
 plans_spelled = (refl, refl, refl)
 
+-- what a plan keeps; that plans keep it, each plan of a query shows
 module _ (p : Plan) where
-  sound : IsSoundPlan p ↔ ((list_all (λ j. is_foreign j.foreign j.key) p.joins ≡ true)
+  sound : IsSoundPlan p → (list_all (λ j. is_foreign j.foreign j.key) p.joins ≡ true)
       × (are_distinct p.joins ≡ true) × (list_all (condition_is_sound p.joins) p.conjuncts ≡ true)
       × (list_all (λ c. in_scope p.joins (table_of c)) p.keys ≡ true)
       × (list_all (measure_is_sound p.joins) p.measures ≡ true)
@@ -169,57 +160,30 @@ module _ (p : Plan) where
       × (list_all (is_group_column (length p.keys) (length p.measures)) p.items ≡ true)
       × (1 ≤ length p.items)
       × (list_all (λ s. is_group_column (length p.keys) (length p.measures) s.column) p.sorts
-      ≡ true))
-  sound = (
-    λ s. (s.joins, s.distinct, s.conjuncts, s.keys, s.measures, s.names, s.items, s.shown, s.sorts),
-    λ h. record {
-      joins = h.0;
-      distinct = h.1;
-      conjuncts = h.2;
-      keys = h.3;
-      measures = h.4;
-      names = h.5;
-      items = h.6;
-      shown = h.7;
-      sorts = h.8;
-    },
-  )
+      ≡ true)
+  sound s =
+      (s.joins, s.distinct, s.conjuncts, s.keys, s.measures, s.names, s.items, s.shown, s.sorts)
 
-  within : IsPlanWithinLimits p ↔ ((length p.joins ≤ 4)
+  within : IsPlanWithinLimits p → (length p.joins ≤ 4)
       × (sum_by comparisons_of p.conjuncts ≤ 256) × (length p.keys ≤ 6) × (length p.measures ≤ 8)
-      × (sum_by measure_operands p.measures ≤ 512) × (length p.items ≤ 16) × (length p.sorts ≤ 16))
-  within = (
-    λ w. (w.joins, w.comparisons, w.keys, w.measures, w.operands, w.items, w.sorts),
-    λ h. record {
-      joins = h.0;
-      comparisons = h.1;
-      keys = h.2;
-      measures = h.3;
-      operands = h.4;
-      items = h.5;
-      sorts = h.6;
-    },
-  )
+      × (sum_by measure_operands p.measures ≤ 512) × (length p.items ≤ 16) × (length p.sorts ≤ 16)
+  within w = (w.joins, w.comparisons, w.keys, w.measures, w.operands, w.items, w.sorts)
 
-  spelled : IsSpelledPlan p ↔ ((list_all is_name p.names ≡ true)
+  spelled : IsSpelledPlan p → (list_all is_name p.names ≡ true)
       × (list_all condition_is_spelled p.conjuncts ≡ true)
-      × (list_all measure_is_spelled p.measures ≡ true))
-  spelled = (
-    λ s. (s.names, s.conjuncts, s.measures),
-    λ h. record { names = h.0; conjuncts = h.1; measures = h.2 },
-  )
+      × (list_all measure_is_spelled p.measures ≡ true)
+  spelled s = (s.names, s.conjuncts, s.measures)
 
   fits : (rows most : ℕ) (bounds : ColumnId → Range) → Fits rows most bounds p
-      ↔ ((rows ≤ most) × IsTrue (list_all (measure_fits bounds) p.measures))
-  fits rows most bounds =
-      (λ f. (f.visits, f.nodes), λ h. record { visits = h.0; nodes = h.1 })
+      → (rows ≤ most) × IsTrue (list_all (measure_fits bounds) p.measures)
+  fits rows most bounds f = (f.visits, f.nodes)
 
   fits_tables : (most : ℕ) → PlanFitsTables most sample p ≡ Fits 5 most (bounds_in sample) p
   fits_tables most = refl
 
 query_fits : (most : ℕ) (q : Tree) → FitsTables most sample q
-    ↔ ((5 ≤ most) × (list_all (measure_fits (range_named sample)) (measures_of q.items) ≡ true))
-query_fits most q = (λ f. (f.visits, f.nodes), λ h. record { visits = h.0; nodes = h.1 })
+    → (5 ≤ most) × (list_all (measure_fits (range_named sample)) (measures_of q.items) ≡ true)
+query_fits most q f = (f.visits, f.nodes)
 
 -- ---- ranges: the ends of a product are of unlike ends, and a column that is read twice may have a
 -- square below 0
@@ -291,88 +255,3 @@ bounds_of_the_sample : Gives (bounds_in sample) (
     ∷ (codes "discount", from_to (pos 0) (pos 0)) ∷ [])
 unfolding column_of columns_of place_of pieces greatest_number least_number numbers_at column_called
 bounds_of_the_sample = (refl, refl, refl)
-
--- ---- plans of texts: a join is one by either order, two aggregates are named by their functions and
--- numbers, a group column that is not selected has its place among the others; and with no WHERE
--- there is no join and no conjunct
-
-abbrev profits_text : List ℕ
-profits_text =
-    codes
-    "select d_year, sum(lo_revenue - lo_supplycost) as profit, min(lo_tax*2+lo_tax), max(lo_tax), count(*) from lineorder, date, part where lo_orderdate = d_datekey and (d_year = 1993 or not lo_shipmode between 'A' and 'B') and p_partkey = lo_partkey and (lo_tax < 3 or lo_tax > 4 and lo_tax <> 5) group by d_year, p_brand1 order by profit desc, p_brand1, count4"
-
-abbrev profits : Plan
-profits = record {
-  joins = by_order ∷ of_part ∷ [];
-  conjuncts =
-      or (compare DYear Equal (number 1993))
-      (not (between LoShipmode (text (codes "A")) (text (codes "B"))))
-      ∷ or (compare LoTax Less (number 3))
-      (and (compare LoTax Greater (number 4)) (compare LoTax Unequal (number 5))) ∷ [];
-  shape = Plain;
-  keys = DYear ∷ PBrand1 ∷ [];
-  measures = summed (sub revenue cost) ∷ least (add (mul tax (constant (pos 2))) tax) ∷ greatest tax
-      ∷ count ∷ [];
-  names = codes "profit" ∷ codes "min2" ∷ codes "max3" ∷ codes "count4" ∷ [];
-  items = Key 0 ∷ Aggregate 0 ∷ Aggregate 1 ∷ Aggregate 2 ∷ Aggregate 3 ∷ [];
-  sorts =
-      record { column = Aggregate 0; direction = Descending }
-      ∷ record { column = Key 1; direction = Ascending }
-      ∷ record { column = Aggregate 3; direction = Ascending } ∷ [];
-}
-
-abbrev taxes_text : List ℕ
-taxes_text = codes "select count(*) from lineorder group by cube(lo_tax) order by lo_tax desc"
-
-abbrev taxes : Plan
-taxes = record {
-  joins = [];
-  conjuncts = [];
-  shape = Cube;
-  keys = LoTax ∷ [];
-  measures = count ∷ [];
-  names = codes "count1" ∷ [];
-  items = Aggregate 0 ∷ [];
-  sorts = record { column = Key 0; direction = Descending } ∷ [];
-}
-
-module _ (t : Tree) (p : Plan) where
-  resolved : IsResolved t p ↔ ((p.joins ≡ joins_of (where_pairs t.condition))
-      × (where_conjuncts t.condition ≡ Some p.conjuncts) × (p.shape ≡ t.grouping.shape)
-      × (option_all column_at t.grouping.columns ≡ Some p.keys)
-      × (resolved_measures t.items ≡ Some p.measures) × (p.names ≡ aggregate_names t.items)
-      × (items_from t.grouping.columns 0 t.items ≡ Some p.items)
-      × (option_all (resolved_key t.grouping.columns (aggregate_names t.items)) t.keys
-      ≡ Some p.sorts))
-  resolved = (
-    λ r. (r.joins, r.conjuncts, r.shape, r.keys, r.measures, r.names, r.items, r.sorts),
-    λ h. record {
-      joins = h.0;
-      conjuncts = h.1;
-      shape = h.2;
-      keys = h.3;
-      measures = h.4;
-      names = h.5;
-      items = h.6;
-      sorts = h.7;
-    },
-  )
-
-profits_resolved : IsResolved (meaning profits_text) profits
-unfolding cut_from reserved reserved_words spelling column_of column_called function_word digits
-profits_resolved = (resolved _ _).1 (refl, refl, refl, refl, refl, refl, refl, refl)
-
--- such a plan is one that there is
-taxes_worked : IsWorked taxes_text
-unfolding cut_from reserved reserved_words spelling column_of table_name column_called table_called
-    first_answer has_name has_text function_word digits
-taxes_worked = record { short = lit≤ tt; cut = refl; whole = refl; named = refl }
-
-taxes_is_planned : IsPlanned taxes
-unfolding cut_from reserved reserved_words spelling column_of column_called function_word digits
-taxes_is_planned = record {
-  tree = meaning taxes_text;
-  meant = ∣ (taxes_text, means taxes_text taxes_worked) ∣₁;
-  named = are_named taxes_text taxes_worked (meaning taxes_text) (means taxes_text taxes_worked);
-  resolved = (resolved _ _).1 (refl, refl, refl, refl, refl, refl, refl, refl);
-}

@@ -155,7 +155,7 @@ supplied = words.pair (called (codes "lo_suppkey")) (called (codes "s_suppkey"))
 
 -- more than 20 pieces: three of the five lines
 abbrev many : Condition Test
-many = words.compare (called (codes "lo_quantity")) Greater (tree.number (pos 20))
+many = words.compare (called (codes "lo_quantity")) Greater (of_table.Number (pos 20))
 
 -- with no comparison of two columns each line is there with each supplier; such a comparison is one of
 -- WHERE's conditions like another
@@ -172,12 +172,12 @@ unfolding column_of columns_of place_of pieces column_called table_called table_
 filtered = refl
 
 abbrev discounted : ℕ → ℕ → Bool
-discounted from upto = is_true (words.between (called (codes "lo_discount")) (tree.number (pos from))
-    (tree.number (pos upto))) mail
+discounted from upto = is_true (words.between (called (codes "lo_discount")) (of_table.Number (pos from))
+    (of_table.Number (pos upto))) mail
 
 abbrev of_mode : List ℕ → List ℕ → Bool
-of_mode from upto = is_true (words.between (called (codes "lo_shipmode")) (tree.text from)
-    (tree.text upto)) mail
+of_mode from upto = is_true (words.between (called (codes "lo_shipmode")) (of_table.Text from)
+    (of_table.Text upto)) mail
 
 -- both ends, below and above them, and an end that is above the other
 betweens : Gives2 discounted (

@@ -1,6 +1,6 @@
 -- What texts mean, every form of the grammar as its tree, and what the tree of every query keeps: it
 -- is within limits, and its words are spelled.
-use Rattle.std.proofs.Common.{◌≡◌, ◌↔◌, ◌≤◌, ◌*◌, ℕ, true, false, List, [], ◌∷◌, Option, Some, None, Ok, length, refl}
+use Rattle.std.proofs.Common.{◌≡◌, ◌≤◌, ◌*◌, ℕ, true, false, List, [], ◌∷◌, Option, Some, None, Ok, length, refl}
 use Rattle.std.specs.Prelude.{codes, neg_ℤ, pos, sum_by}
 use Rattle.std.specs.List.{AllByRecursion, list_all}
 use Rattle.star_common.proofs.Tables.{Gives, each_row}
@@ -13,9 +13,10 @@ use Rattle.star_query.specs.Limits.{IsQueryWithinLimits, aggregates_in, item_ope
 use Rattle.star_query.specs.Maxima.{most_bytes}
 use Rattle.star_query.specs.Meant.{IsMeant}
 use Rattle.star_query.specs.Private.Phrases.{ascending, cube, descending, grouped, groups_tree, hiding, key_tree, one, rollup, ungrouped, unmarked}
+use Rattle.star_schema.specs.Tables.{Number, Text}
 use Rattle.star_query.specs.Spelled.{IsSpelledQuery, condition_is_spelled, expression_is_spelled, has_few_digits, is_name, is_printable_text, item_is_spelled, where_is_spelled}
 use Rattle.star_query.specs.Symbols.{Placed, Symbol, number as number_symbol, relation, spelling}
-use Rattle.star_query.specs.Tree.{Condition, Expression, Grouping, Item, Measure, Name, SortKey, Test, Tree, add, aggregate, and, column, constant, count, fold, mul, not, number, or, plain, sub, text}
+use Rattle.star_query.specs.Tree.{Condition, Expression, Grouping, Item, Measure, Name, SortKey, Test, Tree, add, aggregate, and, column, constant, count, fold, mul, not, or, plain, sub}
 use Rattle.star_query.proofs.Told.{Says, Told, holds, means, told}
 use Rattle.star_examples.proofs.QueryTests.{pair, compare, between}
 
@@ -75,21 +76,21 @@ ordered = record {
 -- NOT binds before AND, AND before OR, and BETWEEN has an AND of its own
 abbrev conditions : Condition Test
 conditions = or
-    (or (and (not (compare (called (codes "a") 33) Unequal (text (codes "x"))))
+    (or (and (not (compare (called (codes "a") 33) Unequal (Text (codes "x"))))
     (pair (called (codes "b") 46) (called (codes "c") 50)))
-    (and (between (called (codes "d") 55) (number (neg_ℤ (pos 1))) (number (pos 2)))
-    (not (or (compare (called (codes "e") 83) Less (number (pos 1)))
-    (compare (called (codes "f") 92) AtLeast (number (neg_ℤ (pos 2))))))))
-    (between (called (codes "g") 104) (text (codes "a'b")) (text (codes "c")))
+    (and (between (called (codes "d") 55) (Number (neg_ℤ (pos 1))) (Number (pos 2)))
+    (not (or (compare (called (codes "e") 83) Less (Number (pos 1)))
+    (compare (called (codes "f") 92) AtLeast (Number (neg_ℤ (pos 2))))))))
+    (between (called (codes "g") 104) (Text (codes "a'b")) (Text (codes "c")))
 
 abbrev relations : Condition Test
 relations = and (and
-    (and (compare (called (codes "a") 29) Equal (number (pos 1)))
-    (compare (called (codes "b") 37) Unequal (number (pos 2))))
-    (compare (called (codes "c") 46) Less (number (pos 3))))
-    (and (and (compare (called (codes "d") 55) AtMost (number (pos 4)))
-    (compare (called (codes "e") 64) Greater (number (pos 5))))
-    (compare (called (codes "f") 72) AtLeast (number (pos 6))))
+    (and (compare (called (codes "a") 29) Equal (Number (pos 1)))
+    (compare (called (codes "b") 37) Unequal (Number (pos 2))))
+    (compare (called (codes "c") 46) Less (Number (pos 3))))
+    (and (and (compare (called (codes "d") 55) AtMost (Number (pos 4)))
+    (compare (called (codes "e") 64) Greater (Number (pos 5))))
+    (compare (called (codes "f") 72) AtLeast (Number (pos 6))))
 
 abbrev cubed : Grouping
 cubed = record {
@@ -156,29 +157,16 @@ in_64_kibibytes = (refl, refl)
 -- ---- within limits, and spelled
 
 module _ (t : Tree) where
-  within : IsQueryWithinLimits t ↔ ((length t.items ≤ 16) × (sum_by aggregates_in t.items ≤ 8)
+  within : IsQueryWithinLimits t → (length t.items ≤ 16) × (sum_by aggregates_in t.items ≤ 8)
       × (sum_by item_operands t.items ≤ 512) × (where_comparisons t.condition ≤ 256)
-      × (length t.grouping.columns ≤ 6) × (length t.keys ≤ 16))
-  within = (
-    λ w. (w.items, w.aggregates, w.operands, w.comparisons, w.columns, w.keys),
-    λ h. record {
-      items = h.0;
-      aggregates = h.1;
-      operands = h.2;
-      comparisons = h.3;
-      columns = h.4;
-      keys = h.5;
-    },
-  )
+      × (length t.grouping.columns ≤ 6) × (length t.keys ≤ 16)
+  within w = (w.items, w.aggregates, w.operands, w.comparisons, w.columns, w.keys)
 
-  spelled : IsSpelledQuery t ↔ ((list_all item_is_spelled t.items ≡ true)
+  spelled : IsSpelledQuery t → (list_all item_is_spelled t.items ≡ true)
       × (list_all (λ n. is_name n.text) t.tables ≡ true) × (where_is_spelled t.condition ≡ true)
       × (list_all (λ n. is_name n.text) t.grouping.columns ≡ true)
-      × (list_all (λ k. is_name k.name.text) t.keys ≡ true))
-  spelled = (
-    λ s. (s.items, s.tables, s.condition, s.columns, s.keys),
-    λ h. record { items = h.0; tables = h.1; condition = h.2; columns = h.3; keys = h.4 },
-  )
+      × (list_all (λ k. is_name k.name.text) t.keys ≡ true)
+  spelled s = (s.items, s.tables, s.condition, s.columns, s.keys)
 
 abbrev a : Name
 a = called (codes "a") 0
@@ -187,10 +175,10 @@ abbrev hyphened : Name
 hyphened = called (codes "a-b") 0
 
 abbrev good : Condition Test
-good = compare a Equal (number (pos 1))
+good = compare a Equal (Number (pos 1))
 
 abbrev bad : Condition Test
-bad = compare a Equal (text (10 ∷ []))
+bad = compare a Equal (Text (10 ∷ []))
 
 abbrev long : Expression Name
 long = constant (pos 1000000000000000000)
@@ -200,11 +188,11 @@ words_spelled : Gives expression_is_spelled (
     ∷ (add long (column a), false) ∷ (sub (column a) long, false) ∷ (sub long (column a), false)
     ∷ (mul (column a) long, false) ∷ (mul long (column a), false) ∷ [])
     × Gives condition_is_spelled (
-    (good, true) ∷ (bad, false) ∷ (compare hyphened Equal (number (pos 1)), false)
+    (good, true) ∷ (bad, false) ∷ (compare hyphened Equal (Number (pos 1)), false)
     ∷ (pair a a, true) ∷ (pair hyphened a, false) ∷ (pair a hyphened, false)
-    ∷ (between a (number (pos 1)) (text (10 ∷ [])), false)
-    ∷ (between a (text (10 ∷ [])) (number (pos 1)), false)
-    ∷ (between hyphened (number (pos 1)) (number (pos 1)), false)
+    ∷ (between a (Number (pos 1)) (Text (10 ∷ [])), false)
+    ∷ (between a (Text (10 ∷ [])) (Number (pos 1)), false)
+    ∷ (between hyphened (Number (pos 1)) (Number (pos 1)), false)
     ∷ (or good good, true) ∷ (or bad good, false) ∷ (or good bad, false) ∷ (and bad good, false)
     ∷ (and good bad, false) ∷ (not bad, false) ∷ [])
     × Gives where_is_spelled ((Some good, true) ∷ (Some bad, false) ∷ (None, true) ∷ [])

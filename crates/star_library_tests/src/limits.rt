@@ -4,7 +4,7 @@
 use crate::checks::{ABOVE_AVERAGE, check_same, check_text};
 use crate::streams::Short;
 use star_common::Out;
-use star_engine::{Engine, EngineFault, LoadFault, THIRTEEN, sample};
+use star_engine::{Engine, EngineFault, LoadFault, Question, THIRTEEN, Told, sample};
 use star_schema::{Limits, TableId};
 use std::alloc::{AllocError, Global};
 use std::fmt::Write;
@@ -19,9 +19,13 @@ fn loaded(alloc: Global, rows: u32, visits: u64) -> Result<Box<Engine>, Fail> {
     }
 }
 
+fn report(alloc: Global, engine: &Engine, file: &str) -> Result<Told, EngineFault> {
+    engine.report(alloc, Question::of_file(alloc, file.as_bytes())?)
+}
+
 // A note, a report and another note, or the line of an error.
 fn run_text(alloc: Global, engine: &Engine, file: &str) -> Result<String, Fail> {
-    match engine.tell_text(alloc, file.as_bytes()) {
+    match report(alloc, engine, file) {
         Ok(told) => {
             let report = str::from_utf8(told.report.as_slice())?;
             Ok(format!(in alloc; "{}{report}{}", told.quoted, told.done)?)
@@ -72,8 +76,11 @@ fn an_engine_has_its_limits(rt: HostRuntime) -> Result<(), Fail> {
 // The bytes that are taken of a trial by a writer of so much room, and how many are sent if it fails.
 fn tried(alloc: Global, engine: &Engine, room: usize) -> Result<(Short, Option<u64>), Fail> {
     let mut report = Short::with_room(alloc, room, 1)?;
-    let file = ABOVE_AVERAGE.as_bytes();
-    match engine.trial_program(alloc, file, 10, &mut Out::new(&mut report)) {
+    let program = match Question::program(alloc, ABOVE_AVERAGE.as_bytes()) {
+        Ok(program) => program,
+        Err(fault) => return Err(Fail::from(format_args!("{fault}"))),
+    };
+    match engine.trial(alloc, &program, 10, &mut Out::new(&mut report)) {
         Ok(()) => Ok((report, None)),
         Err(EngineFault::Write { sent }) => Ok((report, Some(sent))),
         Err(EngineFault::OutOfMemory) => Err(Fail::from(AllocError)),

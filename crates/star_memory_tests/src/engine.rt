@@ -7,7 +7,7 @@ use crate::programs::{
 };
 use star_common::Out;
 use star_engine::{
-    Engine, EngineFault, Told, answer_program, answer_query, bench, check, check_text,
+    Engine, EngineFault, Question as Asked, Told, answer_program, answer_query, bench, check,
     explain_query, quote_text, sample, trial_program,
 };
 use star_schema::{Limits, MOST_VISITS};
@@ -52,6 +52,37 @@ fn ask_texts(
     }
 }
 
+// The answer of a loaded engine to what was asked of it, if that was read.
+fn answer(
+    engine: &Engine,
+    alloc: Global,
+    asked: Result<Asked, EngineFault>,
+    out: &mut Out<&mut Vec<u8>>,
+    notes: &mut Out<&mut Vec<u8>>,
+) -> Result<(), EngineFault> {
+    engine.answer(alloc, asked?, out, notes)
+}
+
+fn quote(
+    engine: &Engine,
+    alloc: Global,
+    text: &str,
+    out: &mut Out<&mut Vec<u8>>,
+) -> Result<(), EngineFault> {
+    engine.quote(alloc, &Asked::of_file(alloc, text.as_bytes())?, out)
+}
+
+fn trial(
+    engine: &Engine,
+    alloc: Global,
+    text: &str,
+    visits: u64,
+    out: &mut Out<&mut Vec<u8>>,
+) -> Result<(), EngineFault> {
+    let asked = Asked::program(alloc, text.as_bytes())?;
+    engine.trial(alloc, &asked, visits.min(MOST_VISITS), out)
+}
+
 // The fault of a call over a loaded engine, which explains no queries.
 fn ask_engine(
     engine: &Engine,
@@ -63,19 +94,28 @@ fn ask_engine(
     match question {
         Question::Check => engine.check(alloc, out).err(),
         Question::Bench => engine.bench(alloc, out).err(),
-        Question::Query(text) => engine
-            .answer_query(alloc, text.as_bytes(), out, notes)
-            .err(),
-        Question::Program(text) => engine
-            .answer_program(alloc, text.as_bytes(), out, notes)
-            .err(),
-        Question::Quote(text) => engine.quote_text(alloc, text.as_bytes(), out).err(),
-        Question::Trial(text, visits) => {
-            let visits = visits.min(MOST_VISITS);
-            engine
-                .trial_program(alloc, text.as_bytes(), visits, out)
-                .err()
+        Question::Query(text) => {
+            answer(
+                engine,
+                alloc,
+                Asked::query(alloc, text.as_bytes()),
+                out,
+                notes,
+            )
+            .err()
         }
+        Question::Program(text) => {
+            answer(
+                engine,
+                alloc,
+                Asked::program(alloc, text.as_bytes()),
+                out,
+                notes,
+            )
+            .err()
+        }
+        Question::Quote(text) => quote(engine, alloc, text, out).err(),
+        Question::Trial(text, visits) => trial(engine, alloc, text, visits, out).err(),
         Question::Explain(text) => explain_query(alloc, text.as_bytes(), out).err(),
     }
 }
@@ -264,6 +304,14 @@ fn trials_of_texts(rt: HostRuntime) -> Result<(), Fail> {
     check_cases(&rt, rt.alloc(), None, TRIALS)
 }
 
+fn report(engine: &Engine, alloc: Global, file: &str) -> Result<Told, EngineFault> {
+    engine.report(alloc, Asked::of_file(alloc, file.as_bytes())?)
+}
+
+fn forecast(engine: &Engine, alloc: Global, file: &str) -> Result<String, EngineFault> {
+    engine.forecast(alloc, Asked::of_file(alloc, file.as_bytes())?)
+}
+
 // What is printed of a run.
 fn run_text(alloc: Global, answer: Result<Told, EngineFault>) -> Result<String, AllocError> {
     match answer {
@@ -287,8 +335,8 @@ fn line_of(alloc: Global, answer: Result<String, EngineFault>) -> Result<String,
 
 // Whether a file is a query or a program.
 fn kind_of(alloc: Global, file: &str) -> Result<String, AllocError> {
-    match check_text(alloc, file.as_bytes()) {
-        Ok(()) => String::from_str(alloc, "a query or a program"),
+    match Asked::of_file(alloc, file.as_bytes()) {
+        Ok(_) => String::from_str(alloc, "a query or a program"),
         Err(EngineFault::OutOfMemory) => Err(AllocError),
         Err(fault) => format!(in alloc; "{fault}"),
     }
@@ -311,16 +359,8 @@ const FILES: &[(&str, &str, &str)] = &[
 fn check_files(rt: &impl Print, alloc: Global, engine: &Engine) -> Result<(), Fail> {
     for (file, ran, known) in FILES {
         let file = *file;
-        check_call(
-            rt,
-            ran,
-            || run_text(alloc, engine.tell_text(alloc, file.as_bytes())),
-        )?;
-        check_call(
-            rt,
-            known,
-            || line_of(alloc, engine.judge_text(alloc, file.as_bytes())),
-        )?;
+        check_call(rt, ran, || run_text(alloc, report(engine, alloc, file)))?;
+        check_call(rt, known, || line_of(alloc, forecast(engine, alloc, file)))?;
         check_call(rt, "a query or a program", || kind_of(alloc, file))?;
     }
     check_call(

@@ -177,7 +177,7 @@ fn aggregates_at(rows: &GroupRows, number: usize) -> Row {
 
 fn has_row(rows: &GroupRows, keys: &[Option<KeyValue>], row: Row) -> bool {
     for number in 0..rows.len() {
-        if rows.keys(number) == keys && aggregates_at(rows, number) == row {
+        if rows.keys(number).as_slice() == keys && aggregates_at(rows, number) == row {
             return true;
         }
     }
