@@ -1,8 +1,8 @@
-"""The antt modules of the repository's crates, and copies of those that stand on a changed one, in a crate of their own.
+"""Copies of the modules above a changed definition, checked together in a crate of their own.
 
-A wrong definition is tried in a copy of its file. What cites the file, down to some theorems, is copied too and cites
-the copy; all else is read where it stands, as sources, whose functions nobody proves, or from a clone whose crates are
-built. So one check tries many wrong definitions, and no crate has to be proved before.
+A wrong definition is tried in a copy of its file. The modules between the file and some theorems are copied too, and
+cite the copies; all else is read in place, as sources without proofs, or from a proved clone. Therefore one check tries
+many wrong definitions, and no crate has to be proved before.
 """
 
 import re
@@ -10,68 +10,50 @@ import shutil
 import subprocess
 from functools import cache
 from pathlib import Path
-from typing import Iterable, NamedTuple
+from typing import Callable, Iterable, NamedTuple
+
+from repository import libraries
 
 NAME = re.compile(r"\bRattle\.(star_\w+\.(?:specs|proofs)(?:\.[\w'+-]+)*)")
-SAID = re.compile(r"^\./proofs/(\w+?)\.antt:(\d+):\d+: error(.*)$", re.M)
-CRATE = "star_planted"
-# The crate that has nothing but rows.
-ROWS = "star_examples"
-# The function of a crate with copies whose proof names them: a check of it alone reads them, and proves nothing else.
-ANCHOR = "planted"
+ERROR = re.compile(r"^\./proofs/(\w+?)\.antt:(\d+):\d+: error(.*)$", re.M)
+# The crate of copies, the crate of worked rows, and the function whose proof cites the copies: only it is checked.
+CRATE, ROWS, ANCHOR = "star_planted", "star_examples", "planted"
 
 
 class Module(NamedTuple):
-    """A file of specs/ or proofs/: its name without `Rattle.`, its crate, its text and the files that it names."""
+    """A file of specs/ or proofs/: its crate, its text and the names of the modules that it cites."""
 
-    name: str
     crate: str
     path: Path
     text: str
-    names: frozenset
+    cites: frozenset[str]
 
 
-def longest(name: str, known: Iterable[str]) -> str | None:
-    """The file that a dotted name speaks of: its longest beginning that is one."""
+def module_in(name: str, known: Iterable[str]) -> str | None:
+    """Returns the module that a dotted name is in: its longest beginning that is one."""
     parts = name.split(".")
-    beginnings = (".".join(parts[:end]) for end in range(len(parts), 2, -1))
-    return next((it for it in beginnings if it in known), None)
+    return next((it for end in range(len(parts), 2, -1) if (it := ".".join(parts[:end])) in known), None)
 
 
 def modules_of(top: Path) -> dict[str, Module]:
-    """All files of specs/ and proofs/ that declare more than others, by name."""
-    texts = {}
-    for path in sorted(top.glob("crates/*/specs/**/*.antt")) + sorted(top.glob("crates/*/proofs/**/*.antt")):
+    """Returns all files of specs/ and proofs/ with definitions or proofs, by their names without `Rattle.`."""
+    files = {}
+    for path in [*sorted(top.glob("crates/*/specs/**/*.antt")), *sorted(top.glob("crates/*/proofs/**/*.antt"))]:
         parts = path.relative_to(top / "crates").with_suffix("").parts
         if parts[-1] != "Lib":
-            texts[".".join(parts)] = (parts[0], path, path.read_text(encoding="utf-8"))
-    found = {}
-    for name, (crate, path, text) in texts.items():
-        names = {longest(it, texts) for it in NAME.findall(text)} - {None, name}
-        found[name] = Module(name, crate, path, text, frozenset(names))
-    return found
+            files[".".join(parts)] = (parts[0], path, path.read_text(encoding="utf-8"))
+    cites = lambda name, text: frozenset({module_in(it, files) for it in NAME.findall(text)} - {None, name})
+    return {name: Module(crate, path, text, cites(name, text)) for name, (crate, path, text) in files.items()}
 
 
-def reachable(starts: Iterable[str], nexts) -> set[str]:
-    """All that some names lead to, themselves among them."""
-    found, open_ = set(), list(starts)
-    while open_:
-        name = open_.pop()
-        if name not in found:
+def reachable(starts: Iterable[str], nexts: Callable[[str], Iterable[str]]) -> set[str]:
+    """Returns some names and all names that they lead to."""
+    found, todo = set(), list(starts)
+    while todo:
+        if (name := todo.pop()) not in found:
             found.add(name)
-            open_ += nexts(name)
+            todo += nexts(name)
     return found
-
-
-def is_exported(top: Path, module: Module) -> bool:
-    """Whether crates above may name a module: each line that declares it or a folder round it is `pub mod`."""
-    folder, *parts = module.path.relative_to(top / "crates" / module.crate).with_suffix("").parts
-    node = top / "crates" / module.crate / folder / "Lib.antt"
-    for at, part in enumerate(parts):
-        if not node.is_file() or not re.search(rf"(?m)^pub mod {re.escape(part)}$", node.read_text(encoding="utf-8")):
-            return False
-        node = (top / "crates" / module.crate / folder).joinpath(*parts[: at + 1]).with_suffix(".antt")
-    return True
 
 
 class Room:
@@ -80,127 +62,131 @@ class Room:
     def __init__(self, top: Path, folder: Path, built: Path | None = None):
         self.top, self.folder, self.built, self.modules = top, folder, built, modules_of(top)
         self.kit = Path(subprocess.run(["rt", "doc"], capture_output=True, text=True).stdout.strip()).parent
-        self.exported = cache(lambda name: is_exported(top, self.modules[name]))
-        lines = re.findall(r"(?m)^(\w+):(.*)$", (top / "crates.txt").read_text(encoding="utf-8"))
-        self.libraries = {crate: libraries.split() for crate, libraries in lines}
-        # The files whose copies were seen to name what only their own crate may name, and those of programs.
-        self.inside = {it.name for it in self.modules.values() if self.root(it.crate) == "src/main.rt"}
-        self.citing = {name: set() for name in self.modules}
-        for module in self.modules.values():
-            for name in module.names:
-                self.citing[name].add(module.name)
+        self.libraries = libraries(top)
+        self.is_exported = cache(self.is_exported)
+        # The modules whose copies use names that only their own crate may use, among them those of programs.
+        self.inside = {name for name, it in self.modules.items() if self.root(it.crate) == "src/main.rt"}
+        self.citing: dict[str, set[str]] = {name: set() for name in self.modules}
+        for name, module in self.modules.items():
+            for cited in module.cites:
+                self.citing[cited].add(name)
 
     def root(self, crate: str) -> str:
-        """The file that a crate's sources begin with: a program has no lib.rt."""
-        is_program = (self.top / "crates" / crate / "src" / "main.rt").is_file()
-        return "src/main.rt" if is_program else "src/lib.rt"
+        """Returns the first file of a crate's sources."""
+        return "src/main.rt" if (self.top / "crates" / crate / "src/main.rt").is_file() else "src/lib.rt"
+
+    def is_exported(self, name: str) -> bool:
+        """Returns whether other crates may use a module: it and each folder around it are declared by `pub mod`."""
+        crate, part, *parts = name.split(".")
+        folder = self.top / "crates" / crate / part
+        files = [folder / "Lib.antt", *(folder.joinpath(*parts[:at]).with_suffix(".antt") for at in range(1, len(parts)))]
+        declares = lambda file, it: file.is_file() and re.search(rf"(?m)^pub mod {re.escape(it)}$", file.read_text(encoding="utf-8"))
+        return all(map(declares, files, parts))
 
     def above(self, name: str) -> set[str]:
-        """The modules that stand on one, itself among them."""
+        """Returns a module and all that cite it, directly or not."""
         return reachable([name], lambda it: self.citing[it])
 
     def between(self, name: str, theorems: Iterable[str]) -> set[str]:
-        """The modules that stand on one and lead to some theorems, and itself."""
-        below = reachable(theorems, lambda it: self.modules[it].names)
-        return {name} | (self.above(name) & below)
+        """Returns a module and those between it and some theorems."""
+        return {name} | (self.above(name) & reachable(theorems, lambda it: self.modules[it].cites))
 
     def hidden(self, names: Iterable[str]) -> set[str]:
-        """The modules that some name and no other crate may name, and those that these do: they are copied with them."""
-        wanted = lambda it: [name for name in self.modules[it].names if not self.exported(name)]
-        return reachable((it for name in names for it in wanted(name)), wanted)
+        """Returns the modules that some cite and that no other crate may use, which are copied with them."""
+        hidden = lambda it: [name for name in self.modules[it].cites if not self.is_exported(name)]
+        return reachable((it for name in names for it in hidden(name)), hidden)
 
     def rows_of(self, names: Iterable[str]) -> set[str]:
-        """The files of the crate of rows that some modules lead to, themselves among them."""
-        return {it for it in reachable(names, lambda it: self.modules[it].names) if self.modules[it].crate == ROWS}
+        """Returns the modules of the crate of rows that some modules cite, directly or not, or are."""
+        return {it for it in reachable(names, lambda it: self.modules[it].cites) if self.modules[it].crate == ROWS}
 
     def fits(self, names: Iterable[str], home: str) -> bool:
-        """Whether copies of some modules, and of the rows that they lead to, may stand in a crate: it uses all that they name."""
+        """Returns whether a crate uses all crates that copies of some modules need."""
         copied = {*names, *self.rows_of(names)}
-        crates = {self.modules[it].crate for it in {*copied, *(name for it in copied for name in self.modules[it].names)}}
+        crates = {self.modules[it].crate for it in {*copied, *(name for it in copied for name in self.modules[it].cites)}}
         return crates <= {ROWS, home, *self.libraries[home]}
 
     def below(self, crates: Iterable[str]) -> list[str]:
-        """The repository's crates below some, each behind those that it stands on."""
-        found = []
+        """Returns the repository's crates below some, lowest first."""
+        found: dict[str, None] = {}
         for crate in crates:
             for name in (it for it in self.libraries.get(crate, []) if it in self.libraries):
-                found += [it for it in [*self.below([name]), name] if it not in found]
-        return found
+                found |= dict.fromkeys([*self.below([name]), name])
+        return list(found)
 
-    def check(self, copies: list[tuple[str, set[str], str, str]], home: str = CRATE) -> dict[str, dict[str, str]] | None:
-        """Checks copies, each a prefix, the modules that are copied, the one that is changed and its text.
+    def check(self, copies: list[tuple[str, set[str], str, str]], home: str) -> dict[str, dict[str, str]] | None:
+        """Checks copies, each a prefix, the names of the modules that are copied, the changed one and its text.
 
-        They stand in a crate of their own, or in one whose modules they are, where no other may name what they name.
-        Answers the errors, by prefix and module; None where the check told of none and came to no end.
+        They are in a crate of their own, or in the one whose hidden modules they cite. Returns the errors by prefix and
+        module, or None if there is neither an error nor a proof.
         """
-        all_names = [name for _, names, _, _ in copies for name in names]
-        shared = self.hidden(all_names) if home == CRATE else self.rows_of(all_names)
+        names = {name for _, some, _, _ in copies for name in some}
+        shared = self.hidden(names) if home == CRATE else self.rows_of(names)
         written, crates = {}, set()
-        for prefix, names, changed, text in [("Shared", shared, "", ""), *copies]:
-            file = lambda it: f"{prefix if it in names else 'Shared'}_{it.replace('.', '_')}"
-            cited = lambda it: f"Rattle.{home}.proofs.{file(it)}" if it in names | shared else None
-            for name in names:
+        for prefix, some, changed, text in [("Shared", shared, "", ""), *copies]:
+            file = lambda it: f"{prefix if it in some else 'Shared'}_{it.replace('.', '_')}"
+            for name in some:
                 module = self.modules[name]
                 crates |= {module.crate, *re.findall(r"\bRattle\.(star_\w+)\.", module.text)} - {ROWS}
-                written[file(name)] = (prefix, name, self.cited(text if name == changed else module.text, cited))
+                cited = lambda it: f"Rattle.{home}.proofs.{file(it)}" if it in some | shared else None
+                written[file(name)] = (prefix, name, self.citing_copies(text if name == changed else module.text, cited))
         self.write({file: text for file, (_, _, text) in written.items()}, home)
-        used = [*self.below(crates), *crates] if home == CRATE else self.libraries[home]
+        self.libraries[CRATE] = [it for it in self.libraries if it in {*self.below(crates), *crates}]
         run = subprocess.run(
-            ["rattle", "check", *self.words(home, used)], cwd=self.folder / home, text=True, stdin=subprocess.DEVNULL,
+            ["rattle", "check", *self.words(home)], cwd=self.folder / home, text=True, stdin=subprocess.DEVNULL,
             stdout=subprocess.PIPE, stderr=subprocess.STDOUT,
-        )
+        )  # fmt: skip
         (self.folder / "last.log").write_text(run.stdout, encoding="utf-8")
-        errors = {}
-        for file, line, told in SAID.findall(run.stdout):
+        errors: dict[str, dict[str, str]] = {}
+        for file, line, error in ERROR.findall(run.stdout):
             if file in written:
-                prefix, name, _ = written[file]
-                errors.setdefault(prefix, {}).setdefault(name, f"{line}{told}"[:120])
+                errors.setdefault(written[file][0], {}).setdefault(written[file][1], f"{line}{error}"[:120])
         return errors if errors or "\nonly=1 proved=1" in run.stdout else None
 
-    def words(self, home: str, used: Iterable[str]) -> list[str]:
-        """What the prover is called with: the crates below are read from their sources, or as they are built."""
-        self.libraries[CRATE] = [it for it in self.libraries if it in used]
-        below = self.below([home])
+    def citing_copies(self, text: str, cited: Callable[[str], str | None]) -> str:
+        """Returns a module's text with copies in place of the modules that are copied."""
+        def name(found: re.Match) -> str:
+            module = module_in(found[1], self.modules)
+            copy = cited(module) if module else None
+            return copy + found[1][len(module) :] if copy else found[0]
+        return NAME.sub(name, text)
+
+    def words(self, home: str) -> list[str]:
+        """Returns the prover's arguments. The crates below are read from their sources, or as a clone has built them."""
+        below, kit = self.below([home]), f"{self.kit}/rlibs"
         of_kit = lambda crate: ["std", *(it for it in self.libraries[crate] if it not in self.libraries)]
-        words = ["--crate-name", home, self.root(home), "-L", f"dependency={self.kit}/rlibs"]
+        words = ["--crate-name", home, self.root(home), "-L", f"dependency={kit}"]
         for name in sorted({"core", *(it for crate in [home, *below] for it in of_kit(crate))}):
-            words += ["--extern", f"{name}={self.kit}/rlibs/{name}.rlib"]
+            words += ["--extern", f"{name}={kit}/{name}.rlib"]
         for crate in below:
-            uses = dict.fromkeys(["core", *of_kit(crate), *self.libraries[crate]])
-            rlib = f"{self.built}/crates/{crate}/out/rlib/{crate}.rlib"
+            rlib = f"{self.built}/crates/{crate}/out/rlib"
             if not self.built:
-                words += ["--lib", f"{crate}:{','.join(uses)}={self.top}/crates/{crate}/{self.root(crate)}"]
+                uses = ",".join(dict.fromkeys(["core", *of_kit(crate), *self.libraries[crate]]))
+                words += ["--lib", f"{crate}:{uses}={self.top}/crates/{crate}/{self.root(crate)}"]
             elif crate in self.libraries[home]:
-                words += ["--extern", f"{crate}={rlib}"]
-            words += ["-L", f"dependency={Path(rlib).parent}"] if self.built else []
+                words += ["--extern", f"{crate}={rlib}/{crate}.rlib"]
+            words += ["-L", f"dependency={rlib}"] if self.built else []
         words += ["--antt-project", f"{self.kit}/rattle/logic/antt-project.json", "--logic-built", f"{self.kit}/logic_built"]
         words += ["--incremental", str(self.folder / "incremental" / home), "--links", f"{home}=", "--jobs", "1"]
         return [*words, "--only", f"{home}::{ANCHOR}"]
 
     def write(self, texts: dict[str, str], home: str) -> None:
-        """Writes copies into the proofs of a crate: one of nothing else, or a copy of one of the repository."""
+        """Writes copies into the proofs of a crate: an empty one, or a copy of one of the repository."""
         folder = self.folder / home
         for part in ("src", "specs", "proofs"):
             shutil.rmtree(folder / part, ignore_errors=True)
-            if home != CRATE and (self.top / "crates" / home / part).is_dir():
+            if (self.top / "crates" / home / part).is_dir():
                 shutil.copytree(self.top / "crates" / home / part, folder / part)
-        (folder / "src").mkdir(parents=True, exist_ok=True)
-        (folder / "proofs" / ANCHOR).mkdir(parents=True)
-        with (folder / self.root(home)).open("a", encoding="utf-8") as out:
-            out.write("//! Copies of definitions.\n#![tactic(auto)]\n" if home == CRATE else "\n")
-            out.write(f"/// Reads the copies.\npub fn {ANCHOR}() {{}}\n")
-        for file, text in texts.items():
-            (folder / "proofs" / f"{file}.antt").write_text(text, encoding="utf-8")
-        with (folder / "proofs" / "Lib.antt").open("a", encoding="utf-8") as out:
-            out.write("".join(f"mod {it}\n" for it in sorted(texts)))
-        names = (f"use Rattle.{home}.proofs.{it} as copy{at}\n" for at, it in enumerate(sorted(texts)))
-        (folder / "proofs" / ANCHOR / "Answers.antt").write_text("".join(names), encoding="utf-8")
-        (self.folder / "incremental" / home).mkdir(parents=True, exist_ok=True)
-
-    def cited(self, text: str, cited) -> str:
-        """A module's text, in which copies are named in the place of what they are copies of."""
-        def name(found: re.Match) -> str:
-            module = longest(found[1], self.modules)
-            copy = cited(module) if module else None
-            return copy + found[1][len(module) :] if copy else found[0]
-        return NAME.sub(name, text)
+        for made in (folder / "src", folder / "proofs" / ANCHOR, self.folder / "incremental" / home):
+            made.mkdir(parents=True, exist_ok=True)
+        head = "//! Copies of definitions.\n#![tactic(auto)]\n" if home == CRATE else "\n"
+        uses = (f"use Rattle.{home}.proofs.{it} as copy{at}\n" for at, it in enumerate(sorted(texts)))
+        parts = {
+            self.root(home): f"{head}/// Reads the copies.\npub fn {ANCHOR}() {{}}\n",
+            "proofs/Lib.antt": "".join(f"mod {it}\n" for it in sorted(texts)),
+            f"proofs/{ANCHOR}/Answers.antt": "".join(uses),
+            **{f"proofs/{file}.antt": text for file, text in texts.items()},
+        }
+        for file, text in parts.items():
+            with (folder / file).open("a", encoding="utf-8") as out:
+                out.write(text)
