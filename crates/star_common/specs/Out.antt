@@ -1,4 +1,4 @@
--- What a sink over a writer keeps.
+-- The state of a sink over a writer.
 use Rattle.std.specs.Prelude.{Bool}
 use Rattle.star_common.specs.declared.sink.Out.{Out}
 

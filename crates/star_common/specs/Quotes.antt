@@ -1,11 +1,11 @@
--- Texts in single quotes, as programs and reports write them.
+-- Quoted texts, in programs and reports.
 use Rattle.std.specs.Prelude.{ℕ, List, [], ◌∷◌, ◌++◌, ◌==◌, if◌then◌else◌}
 use Rattle.std.specs.List.{flat_map}
 
--- a byte of a text in quotes: a quote stands twice
+-- a byte of a quoted text: a quote is doubled
 abbrev pub doubled : ℕ → List ℕ
 doubled b = if b == 39 then 39 ∷ 39 ∷ [] else b ∷ []
 
--- a text in quotes
+-- a text in single quotes
 unfoldable pub quoted : List ℕ → List ℕ
 quoted text = 39 ∷ (flat_map doubled text ++ 39 ∷ [])

@@ -1,25 +1,25 @@
-// A whole text to a sink.
+// Writing a whole text to a sink.
 
 ghost use Rattle.std.specs.Prelude.{◌≡◌, ◌<◌, ◌↔◌, [], false, true, length, take, Ok, IfErr, IsOk, OnErr, OnOk};
 ghost use Rattle.std.specs.Io.KnownBytes.{Appends};
 
 use crate::sink::Sink;
 
-/// A write did not go through, after `sent` bytes.
+/// A write failed after `sent` bytes.
 #[derive(Clone, Copy, Debug, PartialEq, Eq)]
 pub struct WriteFault {
     pub sent: u64,
 }
 
-/// Writes a whole text, by as many writes as it takes, and takes no memory of its own.
+/// Writes a whole text with as many writes as it takes. Allocates nothing.
 ///
-/// Nothing is written of an empty text. Of any other the sink has gained the whole on `Ok`, and on
-/// `Err` its first `sent` bytes, and then the sink is failed.
+/// An empty text writes nothing. On `Ok` the sink has gained the whole text. On `Err` it has gained
+/// the first `sent` bytes and is failed.
 pub fn write_whole<S: Sink>(sink: &mut S, text: &[u8]) -> Result<(), WriteFault>
     ensures empty { text.now ≡ [] → IsOk result × (sink.new ≡ sink.old) }
     ensures ok { 0 < length text.now → (IsOk result ↔ (S.is_failed sink.new ≡ false)) }
 
-    // What the sink has gained.
+    // The bytes that the sink has gained.
     ensures whole { OnOk result (Appends (S.contents sink.old) (S.contents sink.new) text.now) }
     ensures prefix { IfErr result (λ fault. (fault.sent < length text.now)
         × Appends (S.contents sink.old) (S.contents sink.new) (take fault.sent text.now)) }

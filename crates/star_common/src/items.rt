@@ -1,12 +1,12 @@
-// Lists that clauses see as lists.
+// A list type that contracts see as a list.
 
 ghost use Rattle.std.specs.Prelude.{◌≡◌, ◌<◌, ◌↔◌, ◌++◌, ◌∷◌, [], IsSome, OnErr, OnOk, length, option_to_list};
 
 use std::alloc::{AllocError, Global};
 use std::marker::Model;
 
-/// A list, in clauses just its items. It is made from a `Vec` and gives it back without taking
-/// memory.
+/// A list, seen in contracts as the list of its items. It is made from a `Vec` and turned back into
+/// one without allocation.
 #[derive(Drop)]
 pub struct Items<T> {
     items: Vec<T>,
@@ -21,14 +21,14 @@ impl<T> Model for Items<T> {
 }
 
 impl<T> Items<T> {
-    /// The list of a vector's items.
+    /// Makes a list of a vector's items.
     pub fn from_vec(items: Vec<T>) -> Items<T>
         ensures { result ≡ items.items }
     {
         Items { items }
     }
 
-    /// The vector of the items.
+    /// Returns the items as a vector.
     pub fn into_vec(self) -> Vec<T>
         ensures { result.items ≡ self }
     {
@@ -36,22 +36,23 @@ impl<T> Items<T> {
         items
     }
 
-    /// The items, in order.
+    /// Returns the items in order.
     pub fn as_slice(&self) -> &[T]
         ensures { result.now ≡ self.now }
     {
         &self.items
     }
 
-    /// What the list takes its memory from.
-    // No clause can name it, since clauses see the items alone. No body has another `Global` to give.
+    /// Returns the allocator of the list.
+    // No clause can name it, since contracts see only the items. There is only one `Global` to
+    // return.
     pub fn allocator(&self) -> Global {
         *self.items.allocator()
     }
 }
 
 impl<T: Drop> Items<T> {
-    /// Adds an item after the others. Where memory is refused the list is as it was.
+    /// Appends an item. If memory is refused, the list is unchanged.
     pub fn push(&mut self, item: T) -> Result<(), AllocError>
         ensures ok { OnOk result (self.new ≡ self.old ++ item ∷ []) }
         ensures err { OnErr result (self.new ≡ self.old) }
@@ -60,7 +61,7 @@ impl<T: Drop> Items<T> {
         Ok(())
     }
 
-    /// Takes the last item, if there is one.
+    /// Removes and returns the last item, if there is one.
     pub fn pop(&mut self) -> Option<T>
         ensures last { self.old ≡ self.new ++ option_to_list result }
         ensures some { IsSome result ↔ (0 < length self.old) }

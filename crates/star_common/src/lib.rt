@@ -1,5 +1,5 @@
-//! What every crate stands on: numbers in digits, texts in quotes, printable bytes, lists that
-//! contracts see as lists, and where output goes.
+//! What every crate uses: decimal numbers, quoted texts, printable bytes, lists that contracts see
+//! as lists, and sinks for output.
 #![tactic(auto)]
 
 mod delivery;

@@ -1,4 +1,4 @@
-// Numbers written in decimal digits.
+// Decimal numbers.
 
 ghost use Rattle.std.specs.Prelude.{◌≡◌, ◌<◌, ◌≤◌, ◌^◌, Some, None, IfSome, if◌then◌else◌, length};
 ghost use Rattle.std.specs.Char.{is_ascii_digit};
@@ -6,7 +6,7 @@ ghost use Rattle.std.specs.List.{list_all};
 ghost use Rattle.std.specs.Str.Parse.{digits_value};
 ghost use Rattle.star_common.specs.Numerals.{numeral_of};
 
-// The number that some digits write, if each byte is one.
+// Returns the number that the digits write, or None if a byte is no digit.
 fn magnitude(digits: &[u8]) -> Option<u64>
     requires { length digits.now ≤ 19 }
     ensures value { result
@@ -23,7 +23,7 @@ fn magnitude(digits: &[u8]) -> Option<u64>
     Some(magnitude)
 }
 
-/// The number that 1 to 19 digits write, which always fits; none for any other text.
+/// Returns the number that 1 to 19 digits write, which always fits, or None for any other text.
 pub fn numeral_value(text: &[u8]) -> Option<u64>
     ensures value { result ≡ numeral_of 19 text.now }
     ensures bound { IfSome result (λ number. number < 10 ^ length text.now) }

@@ -1,4 +1,4 @@
-// Texts in quotes.
+// Quoted texts.
 
 ghost use Rattle.std.specs.Prelude.{◌≡◌, ◌++◌, OnOk};
 ghost use Rattle.std.specs.List.{flat_map};
@@ -6,7 +6,7 @@ ghost use Rattle.star_common.specs.Quotes.{doubled, quoted};
 
 use std::alloc::AllocError;
 
-// Adds a byte of a text in quotes.
+// Appends a byte of a quoted text, a quote twice.
 fn push_doubled(out: &mut Vec<u8>, byte: u8) -> Result<(), AllocError>
     ensures { OnOk result (out.new.items ≡ out.old.items ++ doubled byte) }
 {
@@ -27,8 +27,8 @@ fn push_all_doubled(out: &mut Vec<u8>, text: &[u8]) -> Result<(), AllocError>
     Ok(())
 }
 
-/// Adds a text in single quotes, in which each quote stands twice. Where memory is refused a part
-/// of it may have been added.
+/// Appends a text in single quotes, with each quote inside doubled. If memory is refused, a part of
+/// it may have been appended.
 #[tactic(auto, unfolding(crate::specs::Quotes::quoted))]
 pub fn push_quoted(out: &mut Vec<u8>, text: &[u8]) -> Result<(), AllocError>
     ensures { OnOk result (out.new.items ≡ out.old.items ++ quoted text.now) }

@@ -1,4 +1,4 @@
-// Where output goes.
+// Destinations of output.
 
 ghost use Rattle.std.specs.Prelude.{◌≡◌, ◌<◌, ◌≤◌, ◌⊎◌, ℕ, List, [], Option, Bool, true, false, length, take, IfOk, OnErr, IsErr};
 ghost use Rattle.std.specs.Io.KnownBytes.{Appends};
@@ -6,22 +6,23 @@ ghost use Rattle.star_common.specs.Out.{has_failed, writer_of};
 
 use std::io::Write;
 
-/// A write did not go through.
+/// A write failed.
 #[derive(Clone, Copy, PartialEq, Eq)]
 pub struct SinkFault;
 
-/// A place for bytes, which stays failed once a write has failed.
+/// A destination of bytes. After a failed write it stays failed.
 pub trait Sink {
-    // The bytes that it holds, where they are known.
+    // The bytes that it holds, if they are known.
     ghost contents: { Self → Option (List ℕ) };
 
     // Whether a write has failed.
     ghost is_failed: { Self → Bool };
 
-    /// Takes some bytes from the front of a text, and says how many.
+    /// Takes some bytes from the front of a text and returns how many.
     ///
-    /// A write that errs takes none and leaves the sink failed, and so does one that takes none of
-    /// a text that isn't empty. A failed sink's writes of such texts all err.
+    /// A write that returns an error takes no byte and leaves the sink failed. A write that takes
+    /// no byte of a nonempty text also leaves it failed. Every write of a nonempty text to a failed
+    /// sink returns an error.
     fn write(&mut self, text: &[u8]) -> Result<usize, SinkFault>
         ensures within { IfOk result (λ count. count ≤ length text.now) }
         ensures takes { IfOk result
@@ -34,13 +35,13 @@ pub trait Sink {
             (Appends (contents self.old) (contents self.new) [] × (is_failed self.new ≡ true)) }
         ensures stays_failed { is_failed self.old ≡ true → 0 < length text.now → IsErr result };
 
-    /// Whether a write has failed.
+    /// Returns whether a write has failed.
     fn failed(&self) -> bool
         ensures { result ≡ is_failed self.now };
 }
 
-/// A writer as a sink. A write that takes no byte of a text counts as failed, and nothing is
-/// written after a failure.
+/// A writer as a sink. A write that takes no byte of a nonempty text counts as a failure, and
+/// nothing is written after a failure.
 #[derive(Drop)]
 pub struct Out<W> {
     writer: W,
@@ -48,7 +49,7 @@ pub struct Out<W> {
 }
 
 impl<W: Write> Out<W> {
-    /// A sink over a writer, which has not failed.
+    /// Makes a sink over a writer. It has not failed.
     pub fn new(writer: W) -> Out<W>
         ensures writer { writer_of result ≡ writer }
         ensures not_failed { has_failed result ≡ false }

@@ -1,2 +1,2 @@
--- What no public clause speaks of.
+-- Definitions that no public clause cites.
 pub mod Emitted

@@ -1,4 +1,4 @@
-// Loads columns, each where it is used first.
+// Loads columns, each at its first use.
 
 ghost use Rattle.std.specs.Prelude.{◌≡◌, IfOk};
 ghost use Rattle.star_schema.specs.Schema as schema;
@@ -13,7 +13,7 @@ use star_program::Operation;
 use star_schema::{ColumnId, TableId, is_table, table_of};
 use std::alloc::AllocError;
 
-// The register of a key, by its first entry.
+// Returns the register of a key, by its first entry.
 fn entry<K: Copy + PartialEq>(entries: &[(K, u16)], key: K) -> Option<u16>
     ensures { result ≡ register_in K.eq entries.now key }
 {
@@ -25,22 +25,22 @@ fn entry<K: Copy + PartialEq>(entries: &[(K, u16)], key: K) -> Option<u16>
     None
 }
 
-// The register of a column, if it is loaded.
+// Returns the register of a column, if it is loaded.
 fn register_of(loaded: &[(ColumnId, u16)], column: ColumnId) -> Option<u16>
     ensures { result ≡ loaded_in loaded.now column }
 {
     entry(loaded, column)
 }
 
-// The register of a table's row, if it is found.
+// Returns the register of a table's row, if it is found.
 fn row_of(found: &[(TableId, u16)], table: TableId) -> Option<u16>
     ensures { result ≡ found_in found.now table }
 {
     entry(found, table)
 }
 
-// The foreign key by which a table is joined. A plan joins the table of each of its columns, so that
-// one is found; the last line is what the definition says of a table that is not joined.
+// Returns the foreign key by which a table is joined. A plan joins the table of each of its
+// columns; the last line is the definition's default for a table that is not joined.
 fn foreign_key(joins: &[Join], table: TableId) -> ColumnId
     ensures { result ≡ foreign_of joins.now table }
 {
@@ -62,7 +62,7 @@ impl Emitter {
         Ok(register)
     }
 
-    // The row of a table with a key.
+    // Finds the row of a table by a key.
     fn find(&mut self, table: TableId, key: u16) -> Result<u16, AllocError>
         requires room { HasRegisterRoom self.old (spec.find_code table key) }
         ensures written { IfOk result (Writes self.old self.new (spec.find_code table key)) }
@@ -72,7 +72,7 @@ impl Emitter {
         Ok(register)
     }
 
-    // A column of the fact.
+    // Loads a column of lineorder.
     fn fact_column(&mut self, column: ColumnId) -> Result<u16, AllocError>
         requires room { HasRegisterRoom self.old (λ env k.
             spec.fact_code column env k (loaded_in env.loaded column)) }
@@ -85,7 +85,7 @@ impl Emitter {
         }
     }
 
-    // The row of a dimension.
+    // Returns the register of a dimension's row, which is found at its first use.
     fn row(&mut self, joins: &[Join], table: TableId) -> Result<u16, AllocError>
         requires room { HasRegisterRoom self.old (λ env k.
             spec.row_code joins.now table env k (found_in env.found table)) }
@@ -101,7 +101,7 @@ impl Emitter {
         }
     }
 
-    // A column of the fact, or of a dimension's row.
+    // Loads a column of lineorder or of a dimension's row.
     fn place(&mut self, joins: &[Join], column: ColumnId) -> Result<u16, AllocError>
         requires room { HasRegisterRoom self.old (λ env k.
             spec.place_code joins.now column env k
@@ -119,7 +119,7 @@ impl Emitter {
         }
     }
 
-    /// The register of a column, which is loaded at its first use.
+    /// Returns the register of a column, which is loaded at its first use.
     pub(crate) fn column(&mut self, joins: &[Join], column: ColumnId) -> Result<u16, AllocError>
         requires room { HasRegisterRoom self.old (spec.column_code joins.now column) }
         ensures written { IfOk result (

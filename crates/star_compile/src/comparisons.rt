@@ -1,4 +1,4 @@
-// Writes comparisons of a column with literals.
+// Compiles comparisons of a column with literals.
 
 ghost use Rattle.std.specs.Prelude.{◌≡◌, true, IfOk};
 ghost use Rattle.star_plan.specs.Views.{literal_value_view};
@@ -16,7 +16,7 @@ use star_schema::ColumnId;
 use std::alloc::AllocError;
 
 impl Emitter {
-    // An operand, and an operator on a value and it.
+    // Emits an operand, then an operator with the value on the left.
     fn value_first(
         &mut self,
         operator: Operator,
@@ -35,7 +35,7 @@ impl Emitter {
         })
     }
 
-    // An operand, and an operator on it and a value.
+    // Emits an operand, then an operator with the value on the right.
     fn operand_first(
         &mut self,
         operator: Operator,
@@ -54,7 +54,8 @@ impl Emitter {
         })
     }
 
-    /// Whether a column's value, which stands in a register, lies from one literal to another.
+    /// Compiles a test whether a column's value, in a register, lies between two literals, both
+    /// included.
     pub(crate) fn between(
         &mut self,
         column: ColumnId,
@@ -73,7 +74,7 @@ impl Emitter {
         self.write(Operation::Within { value, from, below })
     }
 
-    // Whether the value equals the literal.
+    // Compiles a test whether the value equals the literal.
     fn equal(&mut self, column: ColumnId, value: u16, literal: &Literal) -> Result<u16, AllocError>
         requires room { HasRegisterRoom self.old
             (spec.equal_code column value (literal_value_view literal.now)) }
@@ -89,7 +90,7 @@ impl Emitter {
         }
     }
 
-    // Whether the value is at most the literal.
+    // Compiles a test whether the value is at most the literal.
     fn at_most(
         &mut self,
         column: ColumnId,
@@ -113,7 +114,7 @@ impl Emitter {
         }
     }
 
-    // Whether the value is greater than the literal.
+    // Compiles a test whether the value is greater than the literal.
     fn greater(
         &mut self,
         column: ColumnId,
@@ -137,7 +138,7 @@ impl Emitter {
         }
     }
 
-    /// Whether a column's value, which stands in a register, has a relation to a literal.
+    /// Compiles a comparison of a column's value, in a register, with a literal.
     pub(crate) fn compare(
         &mut self,
         relation: Relation,

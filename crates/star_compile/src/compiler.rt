@@ -19,7 +19,7 @@ use star_program::{Body, Items, Parts, Program, Step};
 use star_schema::TableId;
 use std::alloc::{AllocError, Global};
 
-// A turn of the scan: the conjuncts, the keys, the numbers of the aggregates, and one put.
+// Compiles the body of the scan: the filters, the keys, the aggregates' numbers, and one put.
 fn turn(alloc: Global, tree: &PlanTree) -> Result<Emitter, AllocError>
     requires room { 1 + register_count (turn_code (plan_view tree.now)) ≤ 4096 }
     requires spelled { list_all condition_is_spelled (plan_view tree.now).conjuncts ≡ true }
@@ -36,7 +36,7 @@ fn turn(alloc: Global, tree: &PlanTree) -> Result<Emitter, AllocError>
     Ok(emitter)
 }
 
-// One scan of the fact.
+// Returns one scan of lineorder.
 fn scan(alloc: Global, turn: Vec<Step>) -> Result<Body, AllocError>
     ensures { IfOk result (λ body. body ≡ Each Lineorder 0 (code_of_steps turn.items) Stop) }
 {
@@ -49,7 +49,7 @@ fn scan(alloc: Global, turn: Vec<Step>) -> Result<Body, AllocError>
     Ok(Body::from_vec(steps))
 }
 
-// What the program is made of.
+// Returns the parts of the program.
 fn parts(alloc: Global, tree: &PlanTree) -> Result<Parts, AllocError>
     requires sound { IsSoundPlan (plan_view tree.now) }
     requires limits { IsPlanWithinLimits (plan_view tree.now) }
@@ -69,9 +69,9 @@ fn parts(alloc: Global, tree: &PlanTree) -> Result<Parts, AllocError>
     })
 }
 
-/// The program of a plan: one group, one scan of lineorder that puts each selected row, and the
-/// items and sort keys as they come. A column is loaded, and a dimension's row is found, once,
-/// where it is used first. No catalogue is looked at. It fails for want of memory alone.
+/// Compiles a plan: one group, one scan of lineorder that puts each selected row, and the items and
+/// sort keys of the query. A column is loaded, and a dimension's row is found, once, at its first
+/// use. The program does not depend on any catalogue. The only error is out of memory.
 pub fn compile(alloc: Global, plan: &Plan) -> Result<Program, AllocError>
     ensures { IfOk result (λ program. program ≡ compiled (plan_view plan.now)) }
 {

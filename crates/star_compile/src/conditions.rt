@@ -1,4 +1,4 @@
-// Writes conditions, and keeps the rows for which they hold.
+// Compiles conditions and filters.
 
 ghost use Rattle.std.specs.Prelude.{◌≡◌, true, map, IfOk};
 ghost use Rattle.std.specs.List.{list_all};
@@ -17,7 +17,7 @@ use star_schema::ColumnId;
 use std::alloc::AllocError;
 
 impl Emitter {
-    // The register of whether a comparison holds.
+    // Compiles a comparison and returns the register of its result.
     fn comparison(
         &mut self,
         joins: &[Join],
@@ -41,7 +41,7 @@ impl Emitter {
         }
     }
 
-    // The left part, the right one, and the operator after both.
+    // Compiles both sides, then the operator.
     #[cycle(condition)]
     fn connective(
         &mut self,
@@ -68,7 +68,7 @@ impl Emitter {
         })
     }
 
-    /// The register of whether a condition holds.
+    /// Compiles a condition and returns the register of its result.
     #[cycle(condition)]
     pub(crate) fn condition(
         &mut self,
@@ -92,7 +92,7 @@ impl Emitter {
         }
     }
 
-    // Keeps the rows for which a condition holds.
+    // Compiles a filter that keeps the rows for which a condition holds.
     fn conjunct(&mut self, joins: &[Join], condition: &RowCondition) -> Result<(), AllocError>
         requires room { HasRegisterRoom self.old
             (spec.conjunct_code joins.now (row_condition_view condition.now)) }
@@ -104,7 +104,7 @@ impl Emitter {
         self.keep(flag)
     }
 
-    /// Keeps the rows for which all of these hold.
+    /// Compiles a filter for each of these conditions.
     pub(crate) fn conjuncts(
         &mut self,
         joins: &[Join],

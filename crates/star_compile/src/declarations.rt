@@ -1,4 +1,4 @@
-// What a program says beside its instructions: its group, and what is shown of it in which order.
+// The declarations of a program: its group, and the shown columns and their order.
 
 ghost use Rattle.std.specs.Prelude.{◌≡◌, true, length, map, IfOk};
 ghost use Rattle.std.specs.List.{list_all};
@@ -55,7 +55,7 @@ fn aggregates(
     Ok(declared)
 }
 
-/// The group of a plan: its keys as texts or as numbers, and its aggregates.
+/// Returns the group of a plan: its keys as texts or numbers, and its aggregates.
 pub(crate) fn group(alloc: Global, tree: &PlanTree) -> Result<GroupDecl, AllocError>
     ensures { IfOk result (λ group. group ≡ spec.plan_group (plan_view tree.now)) }
 {
@@ -66,7 +66,7 @@ pub(crate) fn group(alloc: Global, tree: &PlanTree) -> Result<GroupDecl, AllocEr
     })
 }
 
-// The name under which a column of the group is shown.
+// Returns the name of a shown column of the group.
 fn name(alloc: Global, tree: &PlanTree, column: GroupColumn) -> Result<Vec<u8>, AllocError>
     requires there { is_group_column
         (length tree.now.keys.items) (length tree.now.aggregates.items) column ≡ true }
@@ -80,7 +80,7 @@ fn name(alloc: Global, tree: &PlanTree, column: GroupColumn) -> Result<Vec<u8>, 
     }
 }
 
-/// What is shown of the group, each column under its name.
+/// Returns the shown columns of the group, each with its name.
 pub(crate) fn shows(alloc: Global, tree: &PlanTree) -> Result<Vec<Show>, AllocError>
     requires there { list_all
         (is_group_column (length tree.now.keys.items) (length tree.now.aggregates.items))

@@ -1,4 +1,4 @@
-// Writes the instructions of a turn, one after another.
+// Emits the instructions of a scan's body, in order.
 
 ghost use Rattle.std.specs.Prelude.{◌≡◌, ◌+◌, ◌<◌, ◌++◌, ◌∷◌, [], IfOk};
 ghost use Rattle.star_program.specs.declared.body.Step.TheVariants.{Act};
@@ -10,8 +10,8 @@ use star_program::{Items, Op, Operation, Step};
 use star_schema::{ColumnId, TableId};
 use std::alloc::{AllocError, Global};
 
-/// The instructions so far, and what is known where the next one stands: the register that it
-/// writes, and the registers of the columns that are loaded and of the tables whose row is found.
+/// The instructions so far, and the state at the next one: the register that it writes, and the
+/// registers of the loaded columns and of the found rows.
 #[derive(Drop)]
 pub(crate) struct Emitter {
     pub(crate) steps: Vec<Step>,
@@ -21,7 +21,7 @@ pub(crate) struct Emitter {
 }
 
 impl Emitter {
-    /// At the begin of a turn: register 0 has the row of the fact.
+    /// Starts a scan's body: register 0 has the row of lineorder.
     pub(crate) fn new(alloc: Global) -> Emitter
         ensures steps { result.steps.items ≡ [] }
         ensures next { result.next ≡ 1 }
@@ -36,7 +36,7 @@ impl Emitter {
         }
     }
 
-    // Writes what an operation makes into the next register.
+    // Emits an operation whose result is written to the next register.
     pub(crate) fn assign(&mut self, operation: Operation) -> Result<u16, AllocError>
         requires room { self.old.next < 4096 }
         ensures register { IfOk result (λ r. r ≡ self.old.next) }
@@ -53,7 +53,7 @@ impl Emitter {
         Ok(target)
     }
 
-    /// Writes an operation, and gives the register of what it makes.
+    /// Emits an operation and returns the register of its result.
     pub(crate) fn write(&mut self, operation: Operation) -> Result<u16, AllocError>
         requires room { HasRegisterRoom self.old (spec.write operation) }
         ensures written { IfOk result (Writes self.old self.new (spec.write operation)) }
@@ -61,7 +61,7 @@ impl Emitter {
         self.assign(operation)
     }
 
-    /// Ends the turn where the flag doesn't hold.
+    /// Emits a filter: the rest of the body is skipped unless the flag holds.
     pub(crate) fn keep(&mut self, flag: u16) -> Result<(), AllocError>
         ensures pushed { IfOk result (λ _.
             self.new.steps.items ≡ self.old.steps.items ++ Act (Keep flag) ∷ []) }
@@ -73,7 +73,7 @@ impl Emitter {
         Ok(())
     }
 
-    /// One update of the group.
+    /// Emits one update of the group.
     pub(crate) fn put(&mut self, keys: Vec<u16>, values: Vec<u16>) -> Result<(), AllocError>
         ensures pushed { IfOk result (λ _. self.new.steps.items
             ≡ self.old.steps.items ++ Act (Put 0 keys.items values.items) ∷ []) }

@@ -1,4 +1,4 @@
-// Writes expressions.
+// Compiles expressions.
 
 ghost use Rattle.std.specs.Prelude.{IfOk};
 ghost use Rattle.star_plan.specs.Views.{column_expression_view};
@@ -14,7 +14,7 @@ use star_schema::ColumnId;
 use std::alloc::AllocError;
 
 impl Emitter {
-    // The left part, the right one, and the operator after both.
+    // Compiles both sides, then the operator.
     #[cycle(expression)]
     fn arithmetic(
         &mut self,
@@ -39,7 +39,7 @@ impl Emitter {
         })
     }
 
-    /// The register of an expression's number.
+    /// Compiles an expression and returns the register of its number.
     #[cycle(expression)]
     pub(crate) fn expression(
         &mut self,

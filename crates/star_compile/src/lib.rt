@@ -1,9 +1,9 @@
-//! The program of a plan, made.
+//! The compiler from plans to programs.
 //!
-//! What it is stands in star_compile_laws's `specs/Compiled.antt`. Its instructions are written in
-//! their order by an emitter, which knows which columns are loaded and which rows are found. That
-//! there is always room for the next register is the law of star_compile_laws that compiled plans are
-//! within the limits of programs.
+//! The program of a plan is defined in `Compiled.antt` of star_compile_laws. An emitter writes its
+//! instructions in order and knows which columns are loaded and which rows are found. A law of
+//! star_compile_laws says that compiled plans are within the limits of programs; the next register
+//! therefore always exists.
 #![tactic(auto)]
 
 mod columns;

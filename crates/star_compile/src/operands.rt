@@ -1,4 +1,4 @@
-// What a column is compared with.
+// The operands of comparisons.
 
 ghost use Rattle.std.specs.Prelude.{◌≡◌, true, IfOk};
 ghost use Rattle.star_plan.specs.Views.{literal_value_view};
@@ -11,7 +11,7 @@ use star_query::Literal;
 use star_schema::ColumnId;
 use std::alloc::AllocError;
 
-/// An edge of a text among the texts of a column.
+/// Returns the operation for an edge of a text among the texts of a column.
 pub(crate) fn edge_of(edge: Edge, column: ColumnId, text: &Vec<u8>) -> Result<Operation, AllocError>
     ensures { IfOk result (λ made. made ≡ operation.Edge edge column text.now.items) }
 {
@@ -19,7 +19,7 @@ pub(crate) fn edge_of(edge: Edge, column: ColumnId, text: &Vec<u8>) -> Result<Op
     Ok(Operation::Edge { edge, column, text })
 }
 
-/// Where the values of a column begin that equal the literal.
+/// Returns the operation for the start of a column's values that equal the literal.
 pub(crate) fn start_of(column: ColumnId, literal: &Literal) -> Result<Operation, AllocError>
     ensures { IfOk result (λ made. made ≡ spec.start_of column (literal_value_view literal.now)) }
 {
@@ -29,7 +29,7 @@ pub(crate) fn start_of(column: ColumnId, literal: &Literal) -> Result<Operation,
     }
 }
 
-/// Where the values of a column begin that are greater than the literal.
+/// Returns the operation for the start of a column's values that are greater than the literal.
 pub(crate) fn end_of(column: ColumnId, literal: &Literal) -> Result<Operation, AllocError>
     requires spelled { value_is_spelled (literal_value_view literal.now) ≡ true }
     ensures { IfOk result (λ made. made ≡ spec.end_behind column (literal_value_view literal.now)) }

@@ -1,4 +1,4 @@
-// Writes what is put of a row: its keys, and a number for each aggregate that isn't a count.
+// Compiles the keys and numbers of a put.
 
 ghost use Rattle.std.specs.Prelude.{IfOk};
 ghost use Rattle.star_plan.specs.Views.{column_measure_view, measures_view};
@@ -12,7 +12,7 @@ use star_schema::ColumnId;
 use std::alloc::{AllocError, Global};
 
 impl Emitter {
-    /// The registers of columns, in their order.
+    /// Compiles columns and returns their registers in order.
     pub(crate) fn keys(
         &mut self,
         alloc: Global,
@@ -31,7 +31,7 @@ impl Emitter {
         Ok(registers)
     }
 
-    // The register of an aggregate's number, after those so far; of a count none.
+    // Compiles an aggregate's number and appends its register; a count has none.
     fn value(
         &mut self,
         joins: &[Join],
@@ -51,7 +51,7 @@ impl Emitter {
         Ok(())
     }
 
-    /// The registers of the aggregates' numbers, in their order; a count has none.
+    /// Compiles the aggregates' numbers and returns their registers in order; a count has none.
     pub(crate) fn values(
         &mut self,
         alloc: Global,

@@ -1,4 +1,4 @@
--- Intervals, wide bounds and answers as ranges.
+-- Intervals, wide bounds and results of calls as ranges.
 use Rattle.std.specs.Prelude.{Result, Ok, Err}
 use Rattle.star_interval.specs.declared.Interval.{Interval}
 use Rattle.star_interval.specs.declared.Wide.{Wide}
@@ -12,7 +12,7 @@ range_of i = record { low = i.low; high = i.high }
 abbrev pub wide_range_of : Wide → Range
 wide_range_of w = record { low = w.low; high = w.high }
 
--- the bounds that an answer carries, as an interval or as wide ones
+-- the bounds in the result of a call, whether they fit 64 bits or not
 abbrev pub bounds_of : Result Interval Wide → Range
 bounds_of (Ok i) = range_of i
 bounds_of (Err w) = wide_range_of w

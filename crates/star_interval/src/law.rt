@@ -1,11 +1,12 @@
-//! Laws of ranges: functions with no body, whose clauses are the laws.
+//! Laws of ranges: functions with empty bodies, whose clauses are the laws.
 
 ghost use Rattle.std.specs.Prelude.{◌≡◌, ℕ, ◌⊎◌, ◌↔◌, IsTrue, ℤ, pos, ◌+ℤ◌, ◌-ℤ◌, ◌*ℤ◌, FitsSigned};
 ghost use Rattle.std.specs.Int.{w64, w128};
 ghost use Rattle.star_interval.specs.Range.{Range, Holds, IsWithin, FitsI64, fits_i64, FitsI128, is_i128, IsLeast, IsResult, IsMultiple, only, hull, corner_range, multiple_range};
 ghost use Rattle.star_interval.specs.Laws.{KeepsValues, KeepsOrder};
 
-/// What an operation makes of held numbers is held by the range that it makes of their ranges.
+/// States that the range of an operation holds the result for each pair of numbers that its
+/// operands hold.
 pub fn results_of_held_numbers_are_held()
     ensures sums { KeepsValues ◌+ℤ◌ (corner_range ◌+ℤ◌) }
     ensures differences { KeepsValues ◌-ℤ◌ (corner_range ◌-ℤ◌) }
@@ -17,7 +18,7 @@ pub fn results_of_held_numbers_are_held()
         → Holds r z ⊎ (z ≡ pos 0) → Holds (hull r (only (pos 0))) z }
 {}
 
-/// An operation makes a smaller range of smaller ranges.
+/// States that the result of an operation on smaller ranges is a smaller range.
 pub fn smaller_ranges_make_smaller_ranges()
     ensures sums { KeepsOrder (corner_range ◌+ℤ◌) }
     ensures differences { KeepsOrder (corner_range ◌-ℤ◌) }
@@ -30,8 +31,8 @@ pub fn smaller_ranges_make_smaller_ranges()
         → IsWithin a b → IsWithin (hull a (only (pos 0))) (hull b (only (pos 0))) }
 {}
 
-/// A range with ends of 64 bits holds numbers of 64 bits alone, and one with ends of 128 bits those
-/// of 128 bits; a test tells such ranges of 64 bits, and another such numbers of 128.
+/// States that a range whose ends have 64 bits holds only numbers of 64 bits, and likewise for 128
+/// bits, and that tests decide both.
 pub fn numbers_of_fitting_ranges_fit()
     ensures held { (r : Range) (z : ℤ) → FitsI64 r → Holds r z → FitsSigned w64 z }
     ensures test { (r : Range) → IsTrue (fits_i64 r) ↔ FitsI64 r }
@@ -39,7 +40,7 @@ pub fn numbers_of_fitting_ranges_fit()
     ensures test_128 { (z : ℤ) → IsTrue (is_i128 z) ↔ FitsSigned w128 z }
 {}
 
-/// A least range lies in each range that holds the same numbers.
+/// States that a least range lies within each range that holds the same numbers.
 pub fn least_ranges_are_least()
     ensures results { (operation : ℤ → ℤ → ℤ) (a b r s : Range)
         → IsLeast (IsResult operation a b) r

@@ -1,5 +1,4 @@
-//! Intervals of 64-bit numbers, and the least ones that hold what arithmetic makes of their
-//! numbers.
+//! Intervals of 64-bit numbers, and interval arithmetic with least results.
 #![tactic(auto)]
 
 ghost use Rattle.std.specs.Prelude.{◌≡◌, ◌⊎◌, ◌↔◌, IsTrue, IsOk, IsSome, IfSome, pos, ◌+ℤ◌, ◌-ℤ◌, ◌*ℤ◌, ◌≤ℤ◌};
@@ -8,7 +7,7 @@ use std::fmt;
 
 pub mod law;
 
-/// The numbers from `low` to `high`, both among them: one number or more.
+/// The numbers from `low` to `high`, both included. An interval is never empty.
 #[derive(Clone, Copy, Debug, PartialEq, Eq)]
 pub struct Interval {
     pub low: i64,
@@ -16,7 +15,7 @@ pub struct Interval {
     pub ghost ordered: { low ≤ℤ high },
 }
 
-/// The bounds of numbers that may leave 64 bits.
+/// Bounds that may leave 64 bits.
 #[derive(Clone, Copy, Debug, PartialEq, Eq)]
 pub struct Wide {
     pub low: i128,
@@ -28,7 +27,7 @@ impl Interval {
     ghost use Rattle.star_interval.specs.Range.{Holds, FitsI64, IsLeast, IsResult, IsMultiple, only, hull, corner_range, multiple_range};
     ghost use Rattle.star_interval.specs.Interval.{range_of, wide_range_of, bounds_of};
 
-    /// The interval that holds one number.
+    /// Returns the interval that holds one number.
     pub fn point(value: i64) -> Interval
         ensures { range_of result ≡ only value }
     {
@@ -38,14 +37,14 @@ impl Interval {
         }
     }
 
-    /// Whether the number lies in the interval.
+    /// Tests whether a number lies in the interval.
     pub fn holds(&self, value: i64) -> bool
         ensures { IsTrue result ↔ Holds (range_of self.now) value }
     {
         self.low <= value && value <= self.high
     }
 
-    /// The least interval that holds each number of this one and of the other.
+    /// Returns the least interval that holds both intervals.
     pub fn hull(&self, other: &Interval) -> Interval
         ensures least { IsLeast
             (λ z. Holds (range_of self.now) z ⊎ Holds (range_of other.now) z)
@@ -58,7 +57,7 @@ impl Interval {
         }
     }
 
-    /// The least interval that holds 0 and each number of this one.
+    /// Returns the least interval that holds this one and 0.
     pub fn with_zero(&self) -> Interval
         ensures least { IsLeast
             (λ z. Holds (range_of self.now) z ⊎ (z ≡ pos 0))
@@ -68,9 +67,10 @@ impl Interval {
         self.hull(&Interval::point(0))
     }
 
-    /// The least interval that holds each sum of a number of this one and a number of the other.
+    /// Returns the least interval that holds every sum of a number of `self` and a number of
+    /// `other`.
     ///
-    /// Where its bounds leave 64 bits, the error has them.
+    /// If its bounds leave 64 bits, they are returned as the error.
     pub fn add(&self, other: &Interval) -> Result<Interval, Wide>
         ensures least { IsLeast
             (IsResult ◌+ℤ◌ (range_of self.now) (range_of other.now))
@@ -84,10 +84,10 @@ impl Interval {
         self.add_wide(other).narrow()
     }
 
-    /// The least interval that holds each difference of a number of this one and a number of the
-    /// other.
+    /// Returns the least interval that holds every difference of a number of `self` and a number of
+    /// `other`.
     ///
-    /// Where its bounds leave 64 bits, the error has them.
+    /// If its bounds leave 64 bits, they are returned as the error.
     pub fn sub(&self, other: &Interval) -> Result<Interval, Wide>
         ensures least { IsLeast
             (IsResult ◌-ℤ◌ (range_of self.now) (range_of other.now))
@@ -101,10 +101,10 @@ impl Interval {
         self.sub_wide(other).narrow()
     }
 
-    /// The least interval that holds each product of a number of this one and a number of the
-    /// other, also where the two intervals are the same: the square of `-3..3` is `-9..9`.
+    /// Returns the least interval that holds every product of a number of `self` and a number of
+    /// `other`. The two may be equal: the product of `-3..3` with itself is `-9..9`.
     ///
-    /// Where its bounds leave 64 bits, the error has them.
+    /// If its bounds leave 64 bits, they are returned as the error.
     pub fn mul(&self, other: &Interval) -> Result<Interval, Wide>
         ensures least { IsLeast
             (IsResult ◌*ℤ◌ (range_of self.now) (range_of other.now))
@@ -118,9 +118,9 @@ impl Interval {
         self.mul_wide(other).narrow()
     }
 
-    /// The least interval that holds each number of this one taken `n` times.
+    /// Returns the least interval that holds `n` times each number of this one.
     ///
-    /// Where its bounds leave 64 bits, the error has them.
+    /// If its bounds leave 64 bits, they are returned as the error.
     pub fn times(&self, n: u64) -> Result<Interval, Wide>
         ensures least { IsLeast (IsMultiple n (range_of self.now)) (bounds_of result) }
         ensures fits { IsOk result ↔ FitsI64 (bounds_of result) }
@@ -131,7 +131,7 @@ impl Interval {
         self.times_wide(n).narrow()
     }
 
-    /// The bounds of the sums.
+    /// Returns the bounds of the sums.
     fn add_wide(&self, other: &Interval) -> Wide
         ensures { wide_range_of result
             ≡ corner_range ◌+ℤ◌ (range_of self.now) (range_of other.now) }
@@ -142,7 +142,7 @@ impl Interval {
         }
     }
 
-    /// The bounds of the differences.
+    /// Returns the bounds of the differences.
     fn sub_wide(&self, other: &Interval) -> Wide
         ensures { wide_range_of result
             ≡ corner_range ◌-ℤ◌ (range_of self.now) (range_of other.now) }
@@ -153,7 +153,8 @@ impl Interval {
         }
     }
 
-    /// The bounds of the products: either factor's ends can make the least and the greatest.
+    /// Returns the bounds of the products. The least and the greatest are among the products of
+    /// ends.
     fn mul_wide(&self, other: &Interval) -> Wide
         ensures { wide_range_of result
             ≡ corner_range ◌*ℤ◌ (range_of self.now) (range_of other.now) }
@@ -163,7 +164,7 @@ impl Interval {
         at_low.hull(&at_high)
     }
 
-    /// The bounds of the factor's products, which a negative factor turns round.
+    /// Returns the bounds of the multiples by a factor. A negative factor exchanges the ends.
     fn scale_wide(&self, factor: i64) -> Wide
         ensures { wide_range_of result
             ≡ hull (only (factor *ℤ self.now.low)) (only (factor *ℤ self.now.high)) }
@@ -173,8 +174,8 @@ impl Interval {
         Wide::between(at_low, at_high)
     }
 
-    /// The least bounds of the numbers of this interval taken `n` times, which have 128 bits
-    /// whatever `n` is.
+    /// Returns the least bounds of `n` times each number of this interval. They have at most 128
+    /// bits for every `n`.
     pub fn times_wide(&self, n: u64) -> Wide
         ensures least { IsLeast (IsMultiple n (range_of self.now)) (wide_range_of result) }
 
@@ -192,8 +193,8 @@ impl Wide {
     ghost use Rattle.star_interval.specs.Range.{FitsI64, FitsI128, IsLeast, IsResult, only, hull, corner_range};
     ghost use Rattle.star_interval.specs.Interval.{wide_range_of, bounds_of};
 
-    /// The least bounds of the sums of a number between these bounds and a number between the
-    /// others, or None where they leave 128 bits.
+    /// Returns the least bounds of the sums of a number within these bounds and a number within the
+    /// others, or None if they leave 128 bits.
     pub fn add(&self, others: &Wide) -> Option<Wide>
         ensures least { IfSome result
             (λ sums. IsLeast
@@ -212,9 +213,9 @@ impl Wide {
         Some(Wide { low, high })
     }
 
-    /// The interval with these bounds.
+    /// Returns the interval with these bounds.
     ///
-    /// Where they leave 64 bits, the error has them.
+    /// If they leave 64 bits, they are returned as the error.
     pub fn narrow(self) -> Result<Interval, Wide>
         ensures bounds { bounds_of result ≡ wide_range_of self }
         ensures fits { IsOk result ↔ FitsI64 (wide_range_of self) }
@@ -225,7 +226,7 @@ impl Wide {
         }
     }
 
-    /// The least bounds of two numbers.
+    /// Returns the least bounds of two numbers.
     fn between(x: i128, y: i128) -> Wide
         ensures { wide_range_of result ≡ hull (only x) (only y) }
     {
@@ -235,7 +236,7 @@ impl Wide {
         }
     }
 
-    /// The least bounds of what these and the others bound.
+    /// Returns the least bounds that hold both.
     fn hull(&self, others: &Wide) -> Wide
         ensures { wide_range_of result ≡ hull (wide_range_of self.now) (wide_range_of others.now) }
     {
@@ -258,7 +259,7 @@ fn multiple(n: u64, x: i64) -> i128
     i128::from(n) * i128::from(x)
 }
 
-/// The same bounds.
+/// Returns the same bounds.
 impl From<Interval> for Wide {
     ghost use Rattle.std.specs.Prelude.{◌≡◌};
     ghost use Rattle.star_interval.specs.Interval.{range_of, wide_range_of};

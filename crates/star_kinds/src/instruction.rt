@@ -1,4 +1,4 @@
-// What is wrong with an instruction, in its order.
+// The first fault of an instruction.
 
 ghost use Rattle.std.specs.Prelude.{◌≡◌, ◌<◌, Bool, None, length};
 ghost use Rattle.std.specs.Option.{option_or};
@@ -30,7 +30,7 @@ fn check_put<R: Kinded>(
     check_numbers(registers, values)
 }
 
-// The operands of an instruction whose group is as it should be.
+// Checks the operands of an instruction whose group is declared.
 fn check_operands<R: Kinded>(parts: &Parts, registers: &[R], op: &Op) -> Result<(), Fault>
     requires wide { length registers.now ≡ parts.now.registers }
     requires placed { (inside : Bool) × (faults.place_fault parts.now inside op.now ≡ None) }
@@ -57,10 +57,9 @@ fn refuse(fault: Option<Fault>) -> Result<(), Fault>
     }
 }
 
-/// Answers `Ok` where nothing is wrong with an instruction, inside scans or not, or the first that
-/// is: of its group or its place; of its target, that it isn't declared, and then what else the
-/// caller knows to be wrong with it; of its operands from the left, and then of its columns. Takes
-/// no memory.
+/// Returns `Ok` if an instruction has no fault, else its first fault, in this order: its group and
+/// its position inside or outside a scan; its target, undeclared or with a fault that the caller
+/// knows; its operands from the left; its columns. Allocates nothing.
 pub fn check<R: Kinded>(
     parts: &Parts,
     inside: bool,

@@ -1,5 +1,5 @@
-//! What is wrong with an instruction by its place, its registers and their kinds. A run asks it of
-//! what registers hold, and whoever judges a program before a run of what is known of them.
+//! The faults of an instruction that depend on its position, its registers and their kinds. A trial
+//! asks about the values in registers, the verifier about the register facts it knows.
 #![tactic(auto)]
 
 mod instruction;

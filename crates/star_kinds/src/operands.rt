@@ -1,4 +1,4 @@
-// Whether each operand is a declared register in which what stands is of a kind that is taken.
+// Checks that each operand is a declared register with a value of an allowed kind.
 
 ghost use Rattle.std.specs.Prelude.{◌≡◌, ◌<◌, length, slice_get, Some};
 ghost use Rattle.std.specs.Option.{option_or};
@@ -13,14 +13,14 @@ use crate::register::{Kinded, kind_at};
 use star_program::{Fault, GroupKey, Kind, Operation, Operator, is_column};
 use star_schema::{ColumnId, is_table, is_text, table_of};
 
-// What an operand may be.
+// The kinds that an operand may have.
 #[derive(Clone, Copy)]
 pub(crate) enum Wanted {
     Number,
     Flag,
     Row,
     Ordered,
-    // What compares with this.
+    // A kind that can be compared with this one.
     Like(Option<Kind>),
     Key(GroupKey),
 }
@@ -59,7 +59,7 @@ fn takes(wanted: Wanted, kind: Kind) -> bool
     }
 }
 
-// Checks an operand: a declared register that holds what `wanted` asks for.
+// Checks an operand: a declared register with a value of an allowed kind.
 pub(crate) fn check_operand<R: Kinded>(
     registers: &[R],
     wanted: Wanted,
@@ -116,7 +116,7 @@ fn entry_at<T: Copy>(entries: &[T], place: usize) -> T
     entries[place]
 }
 
-// The keys of a put.
+// Checks the keys of a put.
 pub(crate) fn check_keys<R: Kinded>(
     registers: &[R],
     declared: &[GroupKey],
@@ -134,7 +134,7 @@ pub(crate) fn check_keys<R: Kinded>(
     Ok(())
 }
 
-// The values of a put.
+// Checks the values of a put.
 pub(crate) fn check_numbers<R: Kinded>(registers: &[R], values: &[u16]) -> Result<(), Fault>
     ensures { Answers result (faults.numbers_fault (length registers.now)
         (register_kinds R.kind registers.now) values.now) }
@@ -189,7 +189,7 @@ fn check_binary<R: Kinded>(
     }
 }
 
-// The operands of an operation from the left, and then its columns.
+// Checks the operands of an operation from the left, then its columns.
 pub(crate) fn check_operation<R: Kinded>(
     registers: &[R],
     operation: &Operation,

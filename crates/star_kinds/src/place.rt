@@ -1,4 +1,4 @@
-// Whether an instruction stands where it may, its group is as it says, and its target is declared.
+// Checks the position of an instruction, its group, and that its target is declared.
 
 ghost use Rattle.std.specs.Prelude.{◌≡◌, ◌&&◌, length, nat_eq, nat_lt};
 ghost use Rattle.star_program.specs.declared.fault.Fault.TheVariants.{BadGroup};
@@ -8,7 +8,7 @@ ghost use Rattle.star_kinds.specs.Kinds.{Answers};
 use star_program::{Fault, Op, Operation, Parts};
 use star_schema::Aggregate;
 
-// How many numbers a put has: one for each aggregate that is no count.
+// Returns the number of values of a put: one for each aggregate except COUNT.
 fn value_count(aggregates: &[Aggregate]) -> usize
     ensures { result ≡ faults.value_count aggregates.now }
 {
@@ -45,7 +45,8 @@ fn check_read_group(parts: &Parts, group: u16, aggregate: u16) -> Result<(), Fau
     }
 }
 
-// Whether an instruction stands where it may, and its group is as it says.
+// Checks that an instruction is allowed inside or outside a scan, and that its group is declared as
+// it requires.
 pub(crate) fn check_place(parts: &Parts, inside: bool, op: &Op) -> Result<(), Fault>
     ensures { Answers result (faults.place_fault parts.now inside op.now) }
 {
@@ -68,7 +69,7 @@ pub(crate) fn check_place(parts: &Parts, inside: bool, op: &Op) -> Result<(), Fa
     }
 }
 
-// Whether the register that an instruction writes is declared.
+// Checks that the register that an instruction writes is declared.
 pub(crate) fn check_target(parts: &Parts, op: &Op) -> Result<(), Fault>
     ensures { Answers result (faults.target_fault parts.now.registers (faults.target_of op.now)) }
 {

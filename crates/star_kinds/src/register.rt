@@ -1,4 +1,4 @@
-// The kinds of what stands in registers.
+// The kinds of register values.
 
 ghost use Rattle.std.specs.Prelude.{◌≡◌, Option};
 ghost use Rattle.std.specs.Option.{option_map};
@@ -8,12 +8,12 @@ ghost use Rattle.star_kinds.specs.Kinds.{register_kinds};
 
 use star_program::{Kind, Value};
 
-/// A register, by what stands in it or by what is known of that.
+/// A register, by its value or by what is known about its value.
 pub trait Kinded {
-    // The kind of what stands in it; None where nothing does.
+    // The kind of its value, or None if it has none.
     ghost kind: { Self → Option Kind };
 
-    /// The kind of what stands in it, or `None` where nothing does. Takes no memory.
+    /// Returns the kind of its value, or `None` if it has none. Allocates nothing.
     fn kind(&self) -> Option<Kind>
         ensures { result ≡ kind self.now };
 }
@@ -30,7 +30,7 @@ fn kind_of(value: Value) -> Kind
     }
 }
 
-// What a run's register holds: a value, or nothing.
+// A register of a run holds a value or nothing.
 impl Kinded for Option<Value> {
     ghost kind = { option_map register_kind };
 
@@ -42,7 +42,7 @@ impl Kinded for Option<Value> {
     }
 }
 
-// The kind of what stands in a register of this number.
+// Returns the kind of the value in the register with a number.
 pub(crate) fn kind_at<R: Kinded>(registers: &[R], number: u16) -> Option<Kind>
     ensures { result ≡ register_kinds R.kind registers.now number }
 {

@@ -1,4 +1,4 @@
--- What the cells of a printed column are.
+-- The cells of a printed column.
 use Rattle.std.specs.Prelude.{◌||◌, ◌<◌, ◌^◌, Bool, not, IsTrue, ℕ, ℤ, unsigned_abs, List, All as Each}
 use Rattle.std.specs.List.{AllZip, list_all}
 use Rattle.star_schema.specs.Records.{ends_line, is_bar}
@@ -15,7 +15,8 @@ pub data ColumnKind : Type 0 where
 abbrev pub is_field : List ℕ → Bool
 is_field text = list_all (λ b. not (is_bar b || ends_line b)) text
 
--- as many digits as the toolchain's decimals have at most; numbers of 128 bits have at most 39
+-- a number of at most as many digits as the toolchain's decimals can have; numbers of 128 bits have
+-- at most 39
 abbrev pub HasDigits : ℤ → Type 0
 HasDigits n = unsigned_abs n < 10 ^ 64
 
@@ -33,7 +34,7 @@ IsCellOfKind _ _ = ⊥
 abbrev pub AreRowsOf : List ColumnKind → List (List Cell) → Type 0
 AreRowsOf kinds rows = Each (AllZip IsCellOfKind kinds) rows
 
--- a value whose text stands in one field
+-- a value whose text fits in one field
 abbrev pub IsFieldValue : table.Value → Type 0
 IsFieldValue (table.Number n) = Unit {0}
 IsFieldValue (table.Text text) = IsTrue (is_field text)

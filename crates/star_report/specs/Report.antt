@@ -1,15 +1,15 @@
--- The printed rows: a line of names and a line for each row, fields parted by bars (this project's
--- profile; ALL: Gray et al. 1997, section 3.3).
+-- The printed report: a line of names and a line for each row, fields separated by bars (this
+-- project's profile; ALL: Gray et al. 1997, section 3.3).
 use Rattle.std.specs.Prelude.{◌||◌, ◌++◌, if◌then◌else◌, Bool, ℕ, List, codes, map, nat_eq}
 use Rattle.std.specs.{Cmp.Lexicographic.pointwise, Fmt.signed_decimal, List.flat_map, List.join_with_byte, List.starts_with}
 use Rattle.star_common.specs.Quotes.{quoted}
 use Rattle.star_program.specs.declared.outcome.Cell.{Cell, TheVariants.Number, TheVariants.Text, TheVariants.All, TheVariants.Null}
 
--- a text that could be read as ALL, or as a text in quotes
+-- a text that could be read as ALL or as a quoted text
 abbrev pub is_ambiguous : List ℕ → Bool
 is_ambiguous text = pointwise nat_eq text (codes "ALL") || starts_with nat_eq text (codes "'")
 
--- a text in quotes where it could be read as something else, and else as it is
+-- a text, in quotes if it could be read as something else
 abbrev pub field_of_text : List ℕ → List ℕ
 field_of_text text = if is_ambiguous text then quoted text else text
 

@@ -1,4 +1,4 @@
-//! The printed rows of a run.
+//! The printed report of a run.
 #![tactic(auto)]
 
 mod law;

@@ -10,17 +10,17 @@ use star_common::push_quoted;
 use star_program::{CellView, Items, KeptCell, Outcome};
 use std::alloc::{AllocError, Global};
 
-/// What stands in a field of a line.
+/// The content of a field of a line.
 trait Field {
-    // What is printed of it.
+    // Its printed form.
     ghost printed: { Self → List ℕ };
 
-    /// Adds what is printed of it to a text.
+    /// Appends its printed form to a text.
     fn push_to(&self, text: &mut Vec<u8>) -> Result<(), AllocError>
         ensures { OnOk result (text.new.items ≡ text.old.items ++ printed self.now) };
 }
 
-// A name stands as it is.
+// A name is printed without change.
 impl Field for Items<u8> {
     ghost printed = { λ name. name };
 
@@ -49,7 +49,7 @@ fn push_number(text: &mut Vec<u8>, number: i128) -> Result<(), AllocError>
     text.extend_from_slice(Buffer::new().format(number).as_bytes())
 }
 
-/// Whether a text could be read as ALL, or as a text in quotes.
+/// Tests whether a text could be read as ALL or as a quoted text.
 fn is_ambiguous(bytes: &[u8]) -> bool
     ensures { result ≡ is_ambiguous bytes.now }
 {
@@ -66,7 +66,7 @@ fn push_text(text: &mut Vec<u8>, bytes: &[u8]) -> Result<(), AllocError>
     }
 }
 
-/// Adds each field after a bar.
+/// Appends each field after a bar.
 fn push_after_bars<F: Field>(text: &mut Vec<u8>, fields: &[F]) -> Result<(), AllocError>
     ensures { OnOk result
         (text.new.items ≡ text.old.items ++ flat_map (λ field. 124 ∷ F.printed field) fields.now) }
@@ -78,7 +78,7 @@ fn push_after_bars<F: Field>(text: &mut Vec<u8>, fields: &[F]) -> Result<(), All
     Ok(())
 }
 
-/// Adds fields with a bar between each two.
+/// Appends fields with a bar between each two.
 fn push_fields<F: Field>(text: &mut Vec<u8>, fields: &[F]) -> Result<(), AllocError>
     ensures { OnOk result
         (text.new.items ≡ text.old.items ++ join_with_byte 124 (map F.printed fields.now)) }
@@ -102,10 +102,10 @@ fn push_line<F: Field>(text: &mut Vec<u8>, fields: &[F]) -> Result<(), AllocErro
     Ok(())
 }
 
-/// What is printed of an outcome: a line of its names and a line for each row, in their order. Bars
-/// part the fields, and a line feed ends each line. Keys print ALL as `ALL` and aggregates NULL as
-/// `NULL`; a text that is `ALL` or begins with a quote stands in single quotes, with each quote
-/// inside doubled. Want of memory is its only error.
+/// Returns the printed report of an outcome: a line of names and a line for each row, in order.
+/// Bars separate the fields, and a line feed ends each line. Among keys ALL is printed as `ALL`,
+/// among aggregates NULL as `NULL`. A text that is `ALL` or begins with a quote is printed in
+/// single quotes, with each quote inside doubled. The only error is out of memory.
 pub fn report_text(alloc: Global, outcome: &Outcome) -> Result<Vec<u8>, AllocError>
     ensures { IfOk result (λ text. text.items ≡ report_text outcome.now.names outcome.now.rows) }
 {

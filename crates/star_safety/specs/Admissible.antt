@@ -1,4 +1,4 @@
--- Which programs are admissible, and what refuses the others.
+-- Admissible programs, and the first refusal of any other.
 use Rattle.std.specs.Prelude.{◌≡◌, ℕ, nat_le, Bool, true, false, All, Option, Some, None}
 use Rattle.std.specs.Option.{option_map, option_or}
 use Rattle.star_common.specs.First.{first_answer}
@@ -7,25 +7,26 @@ use Rattle.star_program.specs.{World.World, ShowLines.shown_fault}
 use Rattle.star_safety.specs.{Quote.quote, Standing.instructions_of, Standing.reason_of}
 use Rattle.star_safety.specs.declared.reason.Reason.{Reason}
 
--- no instruction in its context has a reason to refuse it, and the report names what is there
+-- no instruction has a reason to be refused in its context, and the report names only declared
+-- columns
 pub record IsAdmissible (w : World) (parts : Parts) : Type 0 where
   pub instructions : All (λ i. reason_of w parts i ≡ None) (instructions_of w parts)
   pub report : shown_fault parts ≡ None
 
 pub data Refusal : Type 0 where
-  -- more visits are quoted than are allowed
+  -- the quote exceeds the limit
   TooCostly : ℕ → Refusal
   -- an instruction, by its number
   Refused : ℕ × Reason → Refusal
-  -- a line of the report: 0 for its group or where it shows nothing, else its number among the show
-  -- and then the sort lines
+  -- a line of the report: 0 if its group is not declared or nothing is shown, otherwise its number
+  -- among the show lines followed by the sort lines
   BadShow : ℕ → Refusal
 
 abbrev pub cost_refusal : ℕ → Bool → Option Refusal
 cost_refusal visits true = None
 cost_refusal visits false = Some (TooCostly visits)
 
--- the first refusal of a program where `most` visits are allowed
+-- the first refusal of a program if `most` visits are allowed
 abbrev pub first_refusal : World → ℕ → Parts → Option Refusal
 first_refusal w most parts =
     option_or (cost_refusal (quote w.size parts) (nat_le (quote w.size parts) most))

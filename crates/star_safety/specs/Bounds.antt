@@ -6,7 +6,7 @@ use Rattle.star_interval.specs.Range.{FitsI64}
 use Rattle.star_program.specs.declared.{op.Op.Op, op.Op.TheVariants.Assign, op.Operation.TheVariants.Const, op.Operation.TheVariants.Read, program.Parts.Parts}
 use Rattle.star_program.specs.{Code.Code, Code.Stop, Code.Then, Code.Each, World.World, World.is_text}
 
--- a constant and the default of a read are numbers of 64 bits
+-- a constant, or the default of a read, has 64 bits
 abbrev pub NamesI64 : Op → Type 0
 NamesI64 (Assign t (Const n)) = FitsSigned w64 n
 NamesI64 (Assign t (Read g a n)) = FitsSigned w64 n
@@ -17,7 +17,7 @@ AllNameI64 Stop = Unit {0}
 AllNameI64 (Then op rest) = NamesI64 op × AllNameI64 rest
 AllNameI64 (Each table r body rest) = AllNameI64 body × AllNameI64 rest
 
--- the numbers of a program, and the bounds of the columns of numbers, are of 64 bits
+-- the constants of a program and the bounds of numeric columns have 64 bits
 pub record AreI64 (w : World) (parts : Parts) : Type 0 where
   pub named : AllNameI64 parts.body
   pub bounds : (c : ColumnId) → is_text c ≡ false → FitsI64 (w.bounds c)

@@ -1,4 +1,5 @@
--- What stands round an instruction and before it, and so what is known there before a run.
+-- The context of an instruction: the enclosing scans, what was written and put before, and the
+-- register facts.
 use Rattle.std.specs.Prelude.{ℕ, ◌*◌, pos, Bool, true, false, ◌||◌, nat_eq, List, [], ◌∷◌, ◌++◌, map, slice_index_or, Option, Some, None, if◌then◌else◌}
 use Rattle.star_schema.specs.declared.{table.TableId.TableId, group.Aggregate.Aggregate}
 use Rattle.star_interval.specs.Range.{only}
@@ -9,17 +10,17 @@ use Rattle.star_safety.specs.Ranges.{Known, KnownPlace, KnownRow, KnownFlag, All
 use Rattle.star_safety.specs.Tallies.{Share, Shares, no_shares, read_range}
 
 pub record Context : Type 0 where
-  -- whether a scan stands round it
+  -- whether it is inside a scan
   pub inside : Bool
-  -- how often it is met at most: the product of the row counts of the scans round it
+  -- how often it is executed at most: the product of the row counts of the enclosing scans
   pub met : ℕ
-  -- what is known of the registers in scope
+  -- the facts of the registers in scope
   pub known : AllKnown
   -- the targets of earlier instructions, in scope or not
   pub written : ℕ → Bool
-  -- what earlier puts give the aggregates of groups
+  -- the contributions of earlier puts to the aggregates of groups
   pub so_far : Shares
-  -- and what they give the keys, by their places
+  -- and to the keys, by index
   pub keys_so_far : Shares
 
 -- at the first instruction
@@ -35,39 +36,39 @@ at_first = record {
 
 -- ---- puts
 
--- what is known of the numbers of a put, one for each aggregate of its group: COUNT is given 1
+-- the facts of a put's numbers, one for each aggregate of its group; for COUNT the number is 1
 abbrev pub put_known : GroupDecl → AllKnown → List ℕ → List (Option Known)
 put_known d known values = aligned (Some (known_number (only (pos 1)))) d.aggregates (map known values)
 
 abbrev pub known_share : ℕ → Option Known → Share
 known_share met k = record { met = met; range = range_at k; reach = reach_at k }
 
--- what one put gives an aggregate
+-- the contribution of one put to an aggregate
 abbrev pub put_share : Parts → Context → ℕ → List ℕ → ℕ → Share
 put_share parts x g vs a =
     known_share x.met (slice_index_or (put_known (group_at parts g) x.known vs) a None)
 
--- what an instruction gives each aggregate: a put one share, and others none
+-- the contribution of an instruction to each aggregate: of a put one share, of any other none
 abbrev pub op_shares : Parts → Context → Op → Shares
 op_shares parts x (Put g ks vs) h a = if nat_eq h g then put_share parts x g vs a ∷ [] else []
 op_shares parts x _ h a = []
 
--- what one put gives a key
+-- the contribution of one put to a key
 abbrev pub key_share : Context → List ℕ → ℕ → Share
 key_share x ks place = known_share x.met (x.known (slice_index_or ks place 0))
 
--- what an instruction gives each key: a put one share, and others none
+-- the contribution of an instruction to each key: of a put one share, of any other none
 abbrev pub op_key_shares : Context → Op → Shares
 op_key_shares x (Put g ks vs) h place = if nat_eq h g then key_share x ks place ∷ [] else []
 op_key_shares x _ h place = []
 
 -- ---- after an instruction
 
--- an aggregate of a group, by their numbers
+-- an aggregate of a group, both by number
 abbrev pub aggregate_in_group : Parts → ℕ → ℕ → Aggregate
 aggregate_in_group parts g a = aggregate_at (group_at parts g).aggregates a
 
--- what is known of what an operation makes
+-- the facts of an operation's result
 abbrev pub operation_known : World → Parts → Context → Operation → Known
 operation_known w parts x (Const n) = known_number (only n)
 operation_known w parts x (Edge e c text) = KnownPlace c
@@ -78,7 +79,7 @@ operation_known w parts x (Read g a n) =
     known_number (read_range (aggregate_in_group parts g a) (x.so_far g a) (only n))
 operation_known w parts x _ = KnownFlag
 
--- what is known of its target
+-- the facts of an instruction's target
 abbrev pub result_known : World → Parts → Context → Op → Known
 result_known w parts x (Assign t o) = operation_known w parts x o
 result_known w parts x _ = KnownFlag
@@ -111,7 +112,7 @@ in_scan w x table r = record {
   keys_so_far = x.keys_so_far;
 }
 
--- after a scan, by the context at the end of its body: what was written there is out of scope
+-- after a scan, from the context at the end of its body: registers written there are out of scope
 abbrev pub after_scan : Context → Context → Context
 after_scan x body_end = record x {
   written = body_end.written;

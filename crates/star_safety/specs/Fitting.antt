@@ -1,4 +1,4 @@
--- Registers that hold what is known of them before a run.
+-- Registers that agree with their facts.
 use Rattle.std.specs.Prelude.{◌≡◌, ℕ, ◌≤◌, ◌<◌, ℤ, Option, Some, None}
 use Rattle.star_schema.specs.declared.column.ColumnId.{ColumnId}
 use Rattle.star_schema.specs.Schema.{table_of}
@@ -8,13 +8,13 @@ use Rattle.star_program.specs.declared.value.Value.{Value}
 use Rattle.star_program.specs.declared.value.Value.TheVariants.{Number, Text, Place, Row, Flag}
 use Rattle.star_safety.specs.Ranges.{Known, KnownNumber, KnownText, KnownPlace, KnownRow, KnownFlag, AllKnown}
 
--- the column's number in some row, where the number was loaded from a column
+-- the column has the number in some row, if the number was loaded from a column
 abbrev pub FromColumn : World → Option ColumnId → ℤ → Type 0
 FromColumn w None z = Unit {0}
 FromColumn w (Some c) z = (row : ℕ) × (row < w.size (table_of c)) × (z ≡ w.number c row)
 
--- the value is of the known kind: a number in its range, the code of a text of its column, a place
--- among them, a row of its table
+-- the value is of the known kind: a number in its range, the code of a text of its column, a
+-- position among them, a row of its table
 abbrev pub FitsValue : World → Known → Value → Type 0
 FitsValue w (KnownNumber r reach origin) (Number z) = Holds r z × FromColumn w origin z
 FitsValue w (KnownText c) (Text d n) = (c ≡ d) × (n < w.entries c)
@@ -23,7 +23,7 @@ FitsValue w (KnownRow t) (Row s n) = (t ≡ s) × (n < w.size t)
 FitsValue w KnownFlag (Flag b) = Unit {0}
 FitsValue w _ _ = ⊥
 
--- where nothing is known of a register, nothing stands in it
+-- a register without facts has no value
 abbrev pub FitsAt : World → Option Known → Option Value → Type 0
 FitsAt w None None = Unit {0}
 FitsAt w (Some k) (Some v) = FitsValue w k v

@@ -1,4 +1,4 @@
--- What a verifier's yes is worth.
+-- What acceptance by the verifier implies.
 use Rattle.std.specs.Prelude.{◌≡◌, ℕ, ◌^◌, ◌≤◌, ◌<◌, ℤ, List, length, Option, Some, None, slice_index_or}
 use Rattle.star_schema.specs.declared.group.Aggregate.TheVariants.{Sum, Count}
 use Rattle.star_schema.specs.Groups.{members, aggregate, numbers_for}
@@ -7,15 +7,15 @@ use Rattle.star_program.specs.declared.{key.KeyValue.KeyValue, program.Parts.Par
 use Rattle.star_program.specs.{Limits.IsWithinLimits, World.World, World.IsLoaded, Keys.key_value_cmp, Faults.group_at, Effects.State, Run.End, Run.EndsWith}
 use Rattle.star_safety.specs.{Tallies.sum_range, Tallies.most_of, Tallies.aggregate_range, Quote.quote, Admissible.IsAdmissible, Moments.all_shares}
 
--- a program is admissible over a loaded catalogue, and no more visits are quoted than any run may
--- make
+-- a program is admissible over a loaded catalogue, and its quote does not exceed the maximum of any
+-- run
 pub record IsAccepted (w : World) (parts : Parts) : Type 0 where
   pub loaded : IsLoaded w
   pub limits : IsWithinLimits parts
   pub admissible : IsAdmissible w parts
   pub cheap : quote w.size parts ≤ 10 ^ 15
 
--- with no trap, and with no more visits than these
+-- it ends without a trap, after at most this many visits
 abbrev pub EndsWithin : ℕ → End → Type 0
 EndsWithin visits end = EndsWith end (λ s. s.visits ≤ visits)
 
@@ -33,7 +33,7 @@ TotalsLie w parts s = (g place : ℕ) (keys : List (Option KeyValue))
     (aggregate (slice_index_or (group_at parts g).aggregates place Count)
     (numbers_for place (members key_value_cmp keys (s.updates_of g))))
 
--- what can add up to the SUMs of all groups fits 128 bits, and to the COUNTs 64
+-- the possible SUMs of all groups fit 128 bits, and the possible COUNTs 64
 pub record SumsFit (w : World) (parts : Parts) : Type 0 where
   pub sums : (g place : ℕ) → place < length (group_at parts g).aggregates
       → slice_index_or (group_at parts g).aggregates place Count ≡ Sum

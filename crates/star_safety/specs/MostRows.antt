@@ -1,5 +1,5 @@
--- How many rows the report of a program can have at most, by what is known before a run (Gray et al.
--- 1997, section 3: the groupings of CUBE and ROLLUP).
+-- The maximum number of rows of a program's report, known before a run (Gray et al. 1997, section
+-- 3: the groupings of CUBE and ROLLUP).
 use Rattle.std.specs.Prelude.{ℕ, suc, ◌*◌, ℤ, pos, negsuc, ◌-ℤ◌, nat_le, List, [], ◌∷◌, filter, Option, Some, None, if◌then◌else◌}
 use Rattle.std.specs.{List.list_all, List.sum_by, Option.is_none}
 use Rattle.star_schema.specs.declared.group.Shape.{Shape}
@@ -11,12 +11,12 @@ use Rattle.star_safety.specs.{Tallies.Share, Tallies.Shares, Tallies.most_of, Ta
 
 -- ---- the values of a key
 
--- how many whole numbers there are from 0 to this one
+-- the number of whole numbers from 0 to this one
 abbrev pub numbers_to : ℤ → ℕ
 numbers_to (pos n) = suc n
 numbers_to (negsuc n) = 0
 
--- how many whole numbers a range holds
+-- the number of whole numbers in a range
 unfoldable pub width : Range → ℕ
 width r = numbers_to (r.high -ℤ r.low)
 
@@ -24,17 +24,17 @@ abbrev pub range_width : Option Range → ℕ
 range_width None = 0
 range_width (Some r) = width r
 
--- what all puts give the keys of groups, by their places
+-- the contributions of all puts to the keys of groups, by index
 abbrev pub all_key_shares : World → Parts → Shares
 all_key_shares w parts = (at_end w parts at_first parts.body).keys_so_far
 
--- a text is one of its column's, and no column of numbers has any; a number lies in the least range
--- that holds all that are put
+-- a text is one of its column's, and a numeric column has none; a number lies in the least range
+-- that holds all numbers that are put
 abbrev pub possible_values : World → List Share → GroupKey → ℕ
 possible_values w shares (Text c) = if is_text c then w.entries c else 0
 possible_values w shares Number = range_width (hull_of shares)
 
--- of each key, from the one at a place on
+-- the number of values of each key, from an index on
 abbrev pub each_values : World → (ℕ → List Share) → ℕ → List GroupKey → List ℕ
 each_values w shares place [] = []
 each_values w shares place (key ∷ keys) =
@@ -42,27 +42,27 @@ each_values w shares place (key ∷ keys) =
 
 -- ---- the rows of a grouping
 
--- how many lists there are of a value of each key that is shown, by how many values each has
+-- the number of value lists of the shown keys, from the number of values of each
 abbrev pub lists_of : List (Option ℕ) → ℕ
 lists_of [] = 1
 lists_of (None ∷ counts) = lists_of counts
 lists_of (Some count ∷ counts) = count * lists_of counts
 
--- the grouping that shows no key has one row; another no more than there are updates, as each is in
--- one row of it, and no more than there are lists of values, as none is in two rows
+-- the grouping that shows no key has one row; another has no more rows than there are updates,
+-- since each update is in one row, and than there are value lists, since none is in two rows
 unfoldable pub rows_of_grouping : ℕ → List (Option ℕ) → ℕ
 rows_of_grouping updates counts =
     if list_all is_none counts then 1
     else (if nat_le updates (lists_of counts) then updates else lists_of counts)
 
--- over all groupings of a shape, where each key has as many values as `counts` has at its place
+-- the sum over all groupings of a shape; `counts` has the number of values of each key
 abbrev pub rows_of_groupings : Shape → ℕ → List ℕ → ℕ
 rows_of_groupings s updates counts =
     sum_by (rows_of_grouping updates) (filter (is_grouping s) (masks counts))
 
 -- ---- of a program
 
--- the rows of the group that it reports
+-- the maximum number of rows of the reported group
 abbrev pub most_report_rows : World → Parts → ℕ
 most_report_rows w parts =
     rows_of_groupings (group_at parts parts.report).shape

@@ -1,3 +1,3 @@
--- What no public clause speaks of.
+-- Definitions that no public clause cites.
 pub mod Forward
 pub mod Throughout

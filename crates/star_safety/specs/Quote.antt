@@ -1,11 +1,11 @@
--- How many rows a program can visit at most.
+-- The quote: how many rows a program visits at most.
 use Rattle.std.specs.Prelude.{ℕ, ◌+◌, ◌*◌}
 use Rattle.star_schema.specs.declared.table.TableId.{TableId}
 use Rattle.star_program.specs.declared.program.Parts.{Parts}
 use Rattle.star_program.specs.Code.{Code, Stop, Then, Each}
 
--- the turns of code that is met `times` times: for each scan the product of its rows and of those
--- of the scans round it
+-- the visits of code that is executed `times` times: for each scan the product of its row count and
+-- of those of the enclosing scans
 abbrev pub turns_met : (TableId → ℕ) → ℕ → Code → ℕ
 turns_met size times Stop = 0
 turns_met size times (Then op rest) = turns_met size times rest

@@ -1,4 +1,4 @@
--- What is known of a register before a run: its kind, and of a number its range.
+-- Register facts: the kind of a register, and the range of a number.
 use Rattle.std.specs.Prelude.{ℕ, ℤ, pos, ◌+ℤ◌, ◌-ℤ◌, ◌*ℤ◌, Bool, true, false, ◌||◌, Option, Some, None}
 use Rattle.std.specs.Option.{option_map}
 use Rattle.star_schema.specs.declared.{table.TableId.TableId, column.ColumnId.ColumnId}
@@ -18,8 +18,8 @@ no_reach c = false
 abbrev pub joined_reach : Reach → Reach → Reach
 joined_reach a b c = a c || b c
 
--- of a number its range, the columns that it is computed from, and the column that it was loaded
--- from, if it was
+-- a number's range, the columns that it is computed from, and the column that it was loaded from,
+-- if any
 pub data Known : Type 0 where
   KnownNumber : Range → Reach → Option ColumnId → Known
   KnownText : ColumnId → Known
@@ -34,7 +34,7 @@ known_kind (KnownPlace c) = kind.Place c
 known_kind (KnownRow t) = kind.Row t
 known_kind KnownFlag = kind.Flag
 
--- what is known of the registers in scope, by their numbers
+-- the facts of the registers in scope, by number
 abbrev pub AllKnown : Type 0
 AllKnown = ℕ → Option Known
 
@@ -53,9 +53,9 @@ abbrev pub origin_at : Option Known → Option ColumnId
 origin_at (Some (KnownNumber r reach origin)) = origin
 origin_at _ = None
 
--- ---- what an instruction makes
+-- ---- the result of an instruction
 
--- a constant, or what is read: computed from no column
+-- a constant, or the result of a read: computed from no column
 abbrev pub known_number : Range → Known
 known_number r = KnownNumber r no_reach None
 
@@ -68,7 +68,7 @@ loaded_known w c false = KnownNumber (w.bounds c) (is_column c) (Some c)
 abbrev pub known_arithmetic : (ℤ → ℤ → ℤ) → Option Known → Option Known → Known
 known_arithmetic operation l r = KnownNumber (corner_range operation (range_at l) (range_at r)) (joined_reach (reach_at l) (reach_at r)) None
 
--- an operator's answer
+-- the result of an operator
 abbrev pub answer_known : Operator → Option Known → Option Known → Known
 answer_known Add l r = known_arithmetic ◌+ℤ◌ l r
 answer_known Sub l r = known_arithmetic ◌-ℤ◌ l r

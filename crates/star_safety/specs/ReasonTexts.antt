@@ -1,4 +1,4 @@
--- The words of what refuses an instruction.
+-- The printed form of a reason.
 use Rattle.std.specs.Prelude.{◌++◌, ℕ, List, [], ◌∷◌, codes, decimal, flat_map}
 use Rattle.star_interval.specs.Range.{text_of}
 use Rattle.star_schema.specs.Schema.{column_name}

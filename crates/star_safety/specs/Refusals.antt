@@ -1,4 +1,5 @@
--- What refuses an instruction in its context (interval analysis: Moore, Interval Analysis, 1966).
+-- The reason to refuse an instruction in its context (interval analysis: Moore, Interval Analysis,
+-- 1966).
 use Rattle.std.specs.Prelude.{ℕ, Bool, true, false, not, nat_lt, List, filter, map, Option, Some, None}
 use Rattle.std.specs.Option.{option_map, option_or}
 use Rattle.star_schema.specs.declared.{table.TableId.TableId, column.ColumnId.ColumnId, column.TheConstants.COLUMNS}
@@ -20,7 +21,7 @@ abbrev pub is_some_table : TableId → Option TableId → Bool
 is_some_table t None = false
 is_some_table t (Some s) = is_table t s
 
--- a column whose numbers are keys of the table
+-- a foreign key to the table
 abbrev pub refers_to : TableId → Option ColumnId → Bool
 refers_to t None = false
 refers_to t (Some c) = is_some_table t (references c)
@@ -31,7 +32,7 @@ refers_to t (Some c) = is_some_table t (references c)
 abbrev pub with_bounds : World → ColumnId → Reached
 with_bounds w c = record { column = c; low = (w.bounds c).low; high = (w.bounds c).high }
 
--- the columns that are reached, in their order
+-- the columns of a set, in order
 unfoldable pub reached : World → Reach → List Reached
 reached w reach = map (with_bounds w) (filter reach COLUMNS)
 
@@ -56,14 +57,14 @@ kind_reason parts x op =
     option_map Faulty
     (fault_of parts x.inside (target_again x.written (target_of op)) (kinds_known x.known) op)
 
--- by what a find looks for, and by what a read reads: `pending` are the groups still put to
+-- by the source of a find or a read; `pending` are the groups that are still put to
 abbrev pub source_reason : (ℕ → Bool) → Context → Op → Option Reason
 source_reason pending x (Assign t (Find table k)) =
     refuses (not (refers_to table (origin_at (x.known k)))) NotAForeignKey
 source_reason pending x (Assign t (Read g a n)) = refuses (pending g) OpenGroup
 source_reason pending x _ = None
 
--- by the range of its result; a read tells what the numbers are computed from that are put for its
+-- by the range of its result; for a read with the columns of the numbers that are put for its
 -- aggregate
 abbrev pub range_reason : World → Parts → Context → Op → Option Reason
 range_reason w parts x (Assign t (Read g a n)) =
@@ -77,7 +78,7 @@ op_reason w parts pending x op =
     option_or (kind_reason parts x op)
     (option_or (source_reason pending x op) (range_reason w parts x op))
 
--- of a scan its target alone
+-- for a scan only by its target
 abbrev pub scan_reason : Parts → Context → ℕ → Option Reason
 scan_reason parts x r =
     option_map Faulty

@@ -1,5 +1,5 @@
--- The instructions of a program in the order of their numbers, each in its context, and what
--- refuses it there; beside them the end of each body.
+-- The instructions of a program by number, each in its context, with the reason to refuse it there;
+-- also the end of each body.
 use Rattle.std.specs.Prelude.{ℕ, ◌+◌, Bool, false, ◌&&◌, ◌||◌, nat_eq, nat_lt, List, [], ◌∷◌, ◌++◌, Option, Some, None}
 use Rattle.std.specs.List.{list_any}
 use Rattle.star_schema.specs.declared.table.TableId.{TableId}
@@ -15,18 +15,18 @@ pub data CodeItem : Type 0 where
   Scan : TableId → ℕ → CodeItem
   -- an instruction of another kind
   Act : Op → CodeItem
-  -- the end of a scan's body or of the program: no instruction, and without a number of its own
+  -- the end of a scan's body or of the program: not an instruction, and without a number of its own
   BodyEnd : CodeItem
 
--- a scan round an instruction
+-- an enclosing scan
 pub record Enclosing : Type 0 where
   pub number : ℕ
   pub table : TableId
 
 pub record Standing : Type 0 where
-  -- its number, at an end that of the next instruction
+  -- its number; at an end the number of the next instruction
   pub number : ℕ
-  -- the scans round it, the innermost first
+  -- the enclosing scans, innermost first
   pub round : List Enclosing
   pub context : Context
   pub item : CodeItem
@@ -50,15 +50,15 @@ instructions_of w parts = standing w parts [] at_first 1 parts.body
 
 -- ---- scans
 
--- a scan of this number is among them
+-- a scan with this number is among them
 abbrev pub has_scan : List Enclosing → ℕ → Bool
 has_scan scans n = list_any (λ s. nat_eq s.number n) scans
 
--- one of these scans stands round it
+-- it is inside one of these scans
 abbrev pub in_one_of : List Enclosing → Standing → Bool
 in_one_of scans i = list_any (λ s. has_scan scans s.number) i.round
 
--- ---- what refuses it
+-- ---- refusals
 
 abbrev pub op_puts_to : ℕ → Op → Bool
 op_puts_to h (Put g ks vs) = nat_eq h g
@@ -71,7 +71,7 @@ item_puts_to g _ = false
 abbrev pub puts_to : ℕ → Standing → Bool
 puts_to g i = item_puts_to g i.item
 
--- one of all instructions puts to the group, and comes later or stands in a scan round this one
+-- some instruction puts to the group, and comes later or is in a scan that encloses this one
 abbrev pub is_open : List Standing → Standing → ℕ → Bool
 is_open all i g =
     list_any (λ j. puts_to g j && (nat_lt i.number j.number || in_one_of i.round j)) all
@@ -85,7 +85,7 @@ abbrev pub at_place : {A : Type 0} → ℕ → Option A → Option (ℕ × A)
 at_place at None = None
 at_place at (Some reason) = Some (at, reason)
 
--- why it is refused among all instructions, if it is, with its number
+-- the reason to refuse it among all instructions, if there is one, with its number
 abbrev pub reason_among : World → Parts → List Standing → Standing → Option (ℕ × Reason)
 reason_among w parts all i =
     at_place i.number (item_reason w parts (is_open all i) i.context i.item)

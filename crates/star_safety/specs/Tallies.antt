@@ -1,19 +1,19 @@
--- What the updates of a group can add up to, by the puts that make them.
+-- The possible sums over the updates of a group, from the puts that make them.
 use Rattle.std.specs.Prelude.{ℕ, ◌+◌, pos, ◌+ℤ◌, List, [], ◌∷◌, Option, Some, None}
 use Rattle.star_schema.specs.declared.group.Aggregate.{Aggregate, TheVariants.Sum, TheVariants.Count, TheVariants.Min, TheVariants.Max}
 use Rattle.star_interval.specs.Range.{Range, only, hull, corner_range, multiple_range}
 use Rattle.star_safety.specs.Ranges.{Reach, no_reach, joined_reach}
 
--- what a put gives an aggregate
+-- the contribution of a put to an aggregate
 pub record Share : Type 0 where
-  -- how often it is met at most
+  -- how often the put is executed at most
   pub met : ℕ
   -- the range of the number
   pub range : Range
   -- the columns that it is computed from
   pub reach : Reach
 
--- what some puts give each aggregate of each group, by their numbers, the last put first
+-- the contributions of some puts to each aggregate of each group, by number, the last put first
 abbrev pub Shares : Type 0
 Shares = ℕ → ℕ → List Share
 
@@ -30,13 +30,13 @@ reach_of (s ∷ ss) = joined_reach (reach_of ss) s.reach
 abbrev pub widened : Range → Range
 widened r = hull r (only (pos 0))
 
--- of a SUM: the total over the puts of as often as each is met times its range widened to hold 0,
--- since it may be met less often
+-- of a SUM: the sum, over the puts, of the number of executions times the range, widened to hold 0
+-- since a put may be executed less often
 abbrev pub sum_range : List Share → Range
 sum_range [] = only (pos 0)
 sum_range (s ∷ ss) = corner_range ◌+ℤ◌ (sum_range ss) (multiple_range s.met (widened s.range))
 
--- how many numbers there can be
+-- the maximum count of numbers
 abbrev pub most_of : List Share → ℕ
 most_of [] = 0
 most_of (s ∷ ss) = most_of ss + s.met
@@ -45,7 +45,7 @@ abbrev pub hull_with : Option Range → Range → Range
 hull_with None r = r
 hull_with (Some s) r = hull s r
 
--- the least range that holds each number's, where there is one
+-- the least range that holds the range of each number, if there is one
 abbrev pub hull_of : List Share → Option Range
 hull_of [] = None
 hull_of (s ∷ ss) = Some (hull_with (hull_of ss) s.range)
@@ -57,6 +57,6 @@ aggregate_range Count ss = Some (record { low = pos 0; high = pos (most_of ss) }
 aggregate_range Min ss = hull_of ss
 aggregate_range Max ss = hull_of ss
 
--- what a read of it gives, with its default
+-- the range of a read, with its default
 abbrev pub read_range : Aggregate → List Share → Range → Range
 read_range g ss default = hull_with (aggregate_range g ss) default

@@ -1,4 +1,4 @@
--- What tells the context of an instruction: the scans round it, and the instructions before it.
+-- The context of an instruction from its enclosing scans and the instructions before it.
 use Rattle.std.specs.Prelude.{◌≡◌, ℕ, ◌+◌, ◌*◌, Bool, true, false, ◌&&◌, nat_lt, List, [], ◌∷◌, ◌++◌, length, filter, fold, Option, Some, None}
 use Rattle.std.specs.{List.last_or, List.list_all, List.list_any, Option.option_map}
 use Rattle.star_program.specs.declared.program.Parts.{Parts}
@@ -21,7 +21,7 @@ item_target (Act op) = target_of op
 item_target (Scan table r) = Some r
 item_target BodyEnd = None
 
--- it writes a register
+-- the instruction writes a register
 abbrev pub writes_to : ℕ → Standing → Bool
 writes_to r i = is_target (item_target i.item) r
 
@@ -30,7 +30,7 @@ item_result w parts x (Act op) = result_known w parts x op
 item_result w parts x (Scan table r) = KnownRow table
 item_result w parts x BodyEnd = KnownFlag
 
--- what is then known of that register
+-- the facts of that register afterwards
 abbrev pub standing_result : World → Parts → Standing → Known
 standing_result w parts i = item_result w parts i.context i.item
 
@@ -38,7 +38,7 @@ abbrev item_shares : Parts → Context → CodeItem → Shares
 item_shares parts x (Act op) = op_shares parts x op
 item_shares parts x _ = no_shares
 
--- what it gives the groups
+-- its contributions to the groups
 abbrev pub shares_of : Parts → Standing → Shares
 shares_of parts i = item_shares parts i.context i.item
 
@@ -46,12 +46,12 @@ abbrev pub item_key_shares : Context → CodeItem → Shares
 item_key_shares x (Act op) = op_key_shares x op
 item_key_shares x _ = no_shares
 
--- what some instructions give a key of a group together
+-- the contributions of some instructions to a key of a group
 abbrev pub key_shares_together : List Standing → Shares
 key_shares_together is g place =
     fold (λ so_far i. item_key_shares i.context i.item g place ++ so_far) [] is
 
--- what some instructions give an aggregate of a group together
+-- the contributions of some instructions to an aggregate of a group
 abbrev pub shares_together : Parts → List Standing → Shares
 shares_together parts is g a = fold (λ so_far i. shares_of parts i g a ++ so_far) [] is
 
@@ -66,7 +66,7 @@ abbrev item_turns : World → List Enclosing → CodeItem → ℕ
 item_turns w round (Scan table r) = rows_together w round * w.size table
 item_turns w round _ = 0
 
--- how many turns a scan may begin: one for each row of its table, each time that it is met
+-- how many visits a scan makes at most: one for each row of its table and each execution
 abbrev pub turns_of : World → Standing → ℕ
 turns_of w i = item_turns w i.round i.item
 
@@ -74,17 +74,17 @@ abbrev pub item_scope : ℕ → List Enclosing → CodeItem → List Enclosing
 item_scope at round (Scan table r) = record { number = at; table = table } ∷ round
 item_scope at round _ = round
 
--- the scans in which the register that it writes is in scope: those round it, and a scan itself
+-- the scans in which the register that it writes is in scope: the enclosing ones, and a scan itself
 abbrev pub scope_of : Standing → List Enclosing
 scope_of i = item_scope i.number i.round i.item
 
--- what it writes is in scope where these scans stand round
+-- the register that it writes is in scope inside these scans
 abbrev pub is_in_scope : List Enclosing → Standing → Bool
 is_in_scope scans i = list_all (λ s. has_scan scans s.number) (scope_of i)
 
--- ---- the context, as the scans round an instruction and the instructions before it tell it
+-- ---- the context, from the enclosing scans and the instructions before
 
--- the last of some instructions that writes the register, where that is in scope
+-- the last of some instructions that writes the register, if that is in scope
 abbrev pub last_writer : List Enclosing → ℕ → List Standing → Option Standing
 last_writer scans r is = last_or None (filter (λ j. writes_to r j && is_in_scope scans j) is)
 
@@ -101,7 +101,7 @@ pub record IsTold (w : World) (parts : Parts) (earlier : List Standing) (i : Sta
     pub keys_so_far : (g place : ℕ)
         → i.context.keys_so_far g place ≡ key_shares_together earlier g place
 
--- each instruction is told so, and each end
+-- this holds of each instruction, and of each end
 abbrev pub AreTold : World → Parts → Type 0
 AreTold w parts =
     (earlier later : List Standing) (i : Standing) → instructions_of w parts ≡ earlier ++ i ∷ later

@@ -1,4 +1,4 @@
-//! Laws of admission: functions with no body, whose clauses are the laws.
+//! Laws of accepted programs: functions with empty bodies, whose clauses are the laws.
 
 ghost use Rattle.std.specs.List.{last_or, sum_by};
 ghost use Rattle.std.specs.Option.{option_map};
@@ -37,14 +37,14 @@ ghost use Rattle.star_safety.specs.Standing.{instructions_of, reason_of};
 ghost use Rattle.star_safety.specs.Tallies.{Shares};
 ghost use Rattle.star_safety.specs.Told.{AreTold, turns_of};
 
-/// An admissible program runs to its end with no trap, over any loaded catalogue.
+/// States that an admissible program runs to its end without a trap over any loaded catalogue.
 ///
-/// It visits at most what is quoted, and a bound of at least that never stops it. At every moment,
-/// before each instruction and at each end, its registers hold what is known of them, and nothing
-/// where nothing is known: numbers in their ranges, and where they were loaded from a column its
-/// numbers; codes and places of their columns' texts; rows of their tables. The sums over any of
-/// its updates lie in their ranges, which fit 128 bits, and the counts fit 64: what the condition of
-/// a put asks for holds of each. All totals at the end lie in their ranges.
+/// It visits at most its quote, and a bound of at least the quote never stops it. Before each
+/// instruction and at each end its registers agree with the register facts. A number is in its
+/// range, and in its column if it was loaded from one. A code or a position belongs to its column's
+/// texts, a row to its table. A register without facts has no value. The sums over any of its
+/// updates lie in their ranges, which fit 128 bits, and the counts fit 64 bits; the precondition of
+/// a put therefore holds at each put. All totals at the end lie in their ranges.
 pub fn admissible_programs_never_trap()
     ensures ends { (w : World) (parts : Parts)
         → IsAccepted w parts → EndsWithin (quote w.size parts) (run_of w parts) }
@@ -57,9 +57,8 @@ pub fn admissible_programs_never_trap()
         → IsAccepted w parts → EndsWith (run_of w parts) (TotalsLie w parts) }
 {}
 
-/// Where a run goes on after a put, and that holds of every moment that it meets, the updates of
-/// its group with this one are such as a store asks for: the sums of each key list add up within
-/// 128 bits, and the counts within 64.
+/// States that at every moment the updates of a group, with the next put, satisfy the precondition
+/// of a store: the sums of each key list fit 128 bits, and the counts fit 64 bits.
 pub fn each_put_has_room()
     ensures { (w : World) (parts : Parts) (all : Shares) (first : Moment) (x : Context)
         (group : ℕ) (keys values : List ℕ) (rest : Code) (at : ℕ) (before after : Registers)
@@ -71,30 +70,31 @@ pub fn each_put_has_room()
         (update_of (group_at parts group) before keys values ∷ s.updates_of group) }
 {}
 
-/// No program makes more turns than it is quoted: its run with a bound of at least the quote is its
-/// run without a bound, whether it comes to its end or traps.
+/// States that no program makes more visits than its quote: its run with a bound of at least the
+/// quote is its run without a bound, whether it ends or traps.
 pub fn a_bound_of_the_quote_never_stops_a_run()
     ensures { (w : World) (parts : Parts) (most : ℕ) → quote w.size parts ≤ most
         → bounded_run_of w most parts ≡ run_of w parts }
 {}
 
-/// A quote is the sum, over the scans of a program, of the rows of each times those of the scans
-/// around it.
+/// States that a quote is the sum, over the scans of a program, of the product of the row counts of
+/// that scan and of the enclosing scans.
 pub fn a_quote_is_the_sum_over_the_scans()
     ensures { (w : World) (parts : Parts)
         → quote w.size parts ≡ sum_by (turns_of w) (instructions_of w parts) }
 {}
 
-/// An instruction in a scan is met no more often than turns are quoted, and another once.
+/// States that an instruction in a scan is executed at most as often as the quote says, and any
+/// other instruction at most once.
 pub fn instructions_are_met_within_the_quote()
     ensures { (w : World) (parts : Parts)
         → All (IsMetWithinQuote w parts) (instructions_of w parts) }
 {}
 
-/// Each bound that a refusal tells fits 128 bits, of a program within its limits: of a range, where
-/// no more visits are allowed than any run may make; and the visits that are quoted, where no table
-/// has 2^32 rows. Those of the columns that a range is computed from fit 64 bits. The program's
-/// numbers are of 64 bits, and so are the bounds of the columns of numbers.
+/// States that each number in a refusal of a program within its limits fits 128 bits. For a range
+/// this holds if no more visits are allowed than the maximum of any run; for a quote, if no table
+/// has 2^32 rows. The bounds of the columns that a range is computed from fit 64 bits, since the
+/// program's constants and the bounds of numeric columns do.
 pub fn told_bounds_fit_128_bits()
     ensures range { (w : World) (most : ℕ) (parts : Parts) (at : ℕ) (low high : ℤ)
         (columns : List Reached)
@@ -111,36 +111,36 @@ pub fn told_bounds_fit_128_bits()
         → first_refusal w most parts ≡ Some (TooCostly visits) → visits < 2 ^ 128 }
 {}
 
-/// No report of an accepted program has more rows than the values of its keys and the updates of its
-/// group allow, as far as they are known before the run.
+/// States that no report of an accepted program has more rows than the values of its keys and the
+/// updates of its group allow, as far as they are known before the run.
 ///
-/// They are counted grouping by grouping (Gray et al. 1997, section 3): of each that shows a key at
-/// most as many as updates can be made of the group, and as there are lists of values of the keys
-/// that it shows, by the dictionaries of the columns of texts and the ranges of the numbers that are
-/// put; the grouping that shows none has one.
+/// They are counted by grouping (Gray et al. 1997, section 3). A grouping that shows no key has one
+/// row. Any other has no more rows than there are updates of the group, and than there are lists of
+/// values of the keys that it shows. Text columns have the values of their dictionaries, numbers
+/// the values of their ranges.
 pub fn reports_have_no_more_rows_than_keys_allow()
     ensures { (w : World) (parts : Parts) → IsAccepted w parts
         → EndsWith (run_of w parts) (λ s. (outcome : Outcome) → IsOutcome w parts s outcome
         → length outcome.rows ≤ most_report_rows w parts) }
 {}
 
-/// Nothing refuses a program exactly where it is admissible and its quote is within the limit on
-/// visits.
+/// States that a program is accepted exactly if it is admissible and its quote is within the limit
+/// on visits.
 pub fn admissible_programs_within_the_limit_are_not_refused()
     ensures { (w : World) (most : ℕ) (parts : Parts)
         → (first_refusal w most parts ≡ None)
         ↔ (IsAdmissible w parts × (quote w.size parts ≤ most)) }
 {}
 
-/// The context of each instruction is told by the scans around it and the instructions before it,
-/// and so is what stands at the end of each body.
+/// States that the context of each instruction, and of the end of each body, is determined by the
+/// enclosing scans and the instructions before it.
 ///
-/// Instructions are numbered in the order of the text. What is known of a register is what the last
-/// instruction before that writes it in scope makes, and where there is none nothing is known; what
-/// is written is in scope where all scans stand around that stand around its instruction, and a
-/// scan's row in the scan. What was put is told by the puts before, with how often each is met: the
-/// product of the row counts of the scans around it. The last of the contexts is that at the end of
-/// the program.
+/// Instructions are numbered in the order of the text. The facts of a register are those of the
+/// result of the last earlier instruction that writes it in scope; without one there are no facts.
+/// A register that an instruction writes is in scope inside all scans that enclose the instruction,
+/// a scan's row inside the scan. The contributions to groups are those of the earlier puts, each
+/// with the number of its executions: the product of the row counts of its enclosing scans. The
+/// last context is that at the end of the program.
 pub fn instructions_are_judged_in_their_contexts()
     ensures told { (w : World) (parts : Parts) → AreTold w parts }
     ensures last { (w : World) (parts : Parts)
@@ -148,30 +148,30 @@ pub fn instructions_are_judged_in_their_contexts()
         ≡ Some (at_end w parts at_first parts.body) }
 {}
 
-/// Each moment that a run meets stands among the instructions of its program, and the ends of its
-/// bodies, with its number and in its context.
+/// States that each moment of a run belongs to an instruction of its program or to the end of a
+/// body, with its number and in its context.
 pub fn moments_stand_in_their_contexts()
     ensures { (w : World) (parts : Parts) (m : Moment)
         → IsMet w parts m → StandsIn w parts m }
 {}
 
-/// What is known of a register of a number's kind is a range. So what `range_at` answers of anything
-/// else is read of no instruction with which nothing is wrong: where it takes ranges it reads numbers.
+/// States that the facts of a register of kind Number have a range. The default of `range_at` is
+/// therefore never used for an instruction without a fault.
 pub fn numbers_have_ranges()
     ensures { (known : Option Known) → IsTaken is_number_kind (option_map known_kind known)
         → (range : Range) × (reach : Reach) × (origin : Option ColumnId)
         × (known ≡ Some (KnownNumber range reach origin)) }
 {}
 
-/// One pass over the code of a program finds the first instruction that is refused.
+/// States that one pass over the code of a program finds the first refused instruction.
 fn one_pass_finds_the_first()
     ensures { (w : World) (parts : Parts)
         → first_reason w parts none_open at_first 1 parts.body
         ≡ first_answer (reason_of w parts) (instructions_of w parts) }
 {}
 
-/// What holds throughout a run, said along its code, holds at each moment that the run meets; and
-/// the other way round, where the run comes to its end.
+/// States that what holds throughout a run, stated along its code, holds at each moment of the run,
+/// and conversely if the run ends.
 fn what_holds_throughout_holds_at_every_moment()
     ensures moments { (w : World) (parts : Parts)
         → HoldsThroughout w parts → AtEveryMoment w parts }

@@ -1,8 +1,6 @@
-//! What refuses a program before a run, and what holds of the run of a program that nothing
-//! refuses.
+//! Which programs are refused before a run, and what holds of the run of an accepted program.
 //!
-//! The conditions and the laws that tie them to the meaning of programs speak of programs as trees:
-//! nothing here knows of their texts.
+//! Conditions and laws are about programs as trees; nothing here depends on their texts.
 #![tactic(auto)]
 
 pub mod law;

@@ -1,4 +1,4 @@
-// Why an instruction is refused, and how that prints.
+// Why an instruction is refused, and the printed form of the reason.
 
 ghost use Rattle.std.specs.Prelude.{◌≡◌, Some};
 ghost use Rattle.std.specs.Fmt.{DisplaysOnOk};
@@ -9,7 +9,7 @@ use star_program::Fault;
 use star_schema::ColumnId;
 use std::fmt;
 
-/// A column that a number is computed from, with the least and the greatest number that it has.
+/// A column that a number is computed from, with its least and its greatest number.
 #[derive(Clone, Copy, Debug, PartialEq, Eq)]
 pub struct Reached {
     pub column: ColumnId,
@@ -17,27 +17,27 @@ pub struct Reached {
     pub high: i64,
 }
 
-/// Columns that a number is computed from, in the order of all columns, each once.
+/// The columns that a number is computed from, each once, in the order of all columns.
 pub type ReachedColumns = Items<Reached>;
 
-// The bounds of an overflow are two plain numbers: an interval carries that its low end is at most
-// its high one, which a range that is only known doesn't.
+// The bounds of an overflow are two plain numbers: an `Interval` would need a proof that its low
+// end is at most its high end.
 /// Why an instruction is refused.
 #[derive(Drop)]
 pub enum Reason {
-    /// By its place, its registers or their kinds.
+    /// A fault by its position, its registers or their kinds.
     Faulty(Fault),
-    /// A find by a number that is not loaded from a foreign key to its table.
+    /// A find by a number that was not loaded from a foreign key to its table.
     NotAForeignKey,
-    /// A read of a group that a later instruction puts to, or one in a scan around the read.
+    /// A read of a group that is put to by a later instruction, or by one in an enclosing scan.
     OpenGroup,
-    /// Numbers that may leave 64 bits: a result of arithmetic, or what a read may give.
+    /// A result of arithmetic or of a read that may leave 64 bits.
     Overflow {
-        /// The least that they may be.
+        /// The least possible result.
         low: i128,
-        /// The greatest.
+        /// The greatest possible result.
         high: i128,
-        /// What they are computed from.
+        /// The columns that it is computed from.
         columns: ReachedColumns,
     },
 }
@@ -51,7 +51,7 @@ impl fmt::Display for Reached {
     }
 }
 
-// Columns after others.
+// Writes columns after a first one.
 fn write_others<W: fmt::Write>(others: &[Reached], f: &mut fmt::Formatter<W>) -> fmt::Result
     ensures { DisplaysOnOk W.write_str_gives f.old result (Some (others_text others.now)) f.new }
 {
@@ -61,7 +61,7 @@ fn write_others<W: fmt::Write>(others: &[Reached], f: &mut fmt::Formatter<W>) ->
     Ok(())
 }
 
-// What numbers are computed from, where there is a column.
+// Writes the columns that numbers are computed from, if there are any.
 fn write_columns<W: fmt::Write>(columns: &[Reached], f: &mut fmt::Formatter<W>) -> fmt::Result
     ensures { DisplaysOnOk W.write_str_gives f.old result (Some (columns_text columns.now)) f.new }
 {
@@ -88,7 +88,7 @@ fn number_of(fault: Fault) -> u8
     }
 }
 
-/// Prints its number and its name.
+/// Writes its number and its name.
 impl fmt::Display for Reason {
     ghost output = { λ reason. Some (reason_text reason) };
 
@@ -107,8 +107,8 @@ impl fmt::Display for Reason {
 }
 
 impl Reason {
-    /// Writes what stands after the number of the instruction: the least and the greatest that its
-    /// numbers may be, and the columns that they are computed from, where the reason tells them.
+    /// Writes the text after the instruction's number: the least and the greatest possible result
+    /// and the columns that it is computed from, if the reason has them.
     pub fn write_bounds<W: fmt::Write>(&self, f: &mut fmt::Formatter<W>) -> fmt::Result
         ensures { DisplaysOnOk W.write_str_gives f.old result (Some (bounds_text self.now)) f.new }
     {

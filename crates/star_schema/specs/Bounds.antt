@@ -4,12 +4,12 @@ use Rattle.std.specs.Int.{int_max, int_min}
 use Rattle.star_schema.specs.declared.column.ColumnId.{ColumnId}
 use Rattle.star_schema.specs.{Schema.place_of, Tables.Value, Tables.Number}
 
--- the least of some numbers, 0 where there is none
+-- the least of some numbers, 0 if there are none
 unfoldable pub least : List ℤ → ℤ
 least [] = pos 0
 least (x ∷ xs) = fold int_min x xs
 
--- the greatest of some numbers, 0 where there is none
+-- the greatest of some numbers, 0 if there are none
 unfoldable pub greatest : List ℤ → ℤ
 greatest [] = pos 0
 greatest (x ∷ xs) = fold int_max x xs
@@ -18,10 +18,10 @@ abbrev pub number_in : Option Value → ℤ
 number_in (Some (Number n)) = n
 number_in _ = pos 0
 
--- the numbers at a place of some rows, in their order
+-- the numbers at a position of some rows, in order
 unfoldable pub numbers_at : ℕ → List (List Value) → List ℤ
 numbers_at place rows = map (λ row. number_in (slice_get row place)) rows
 
--- the numbers of a column of numbers, in the order of the rows of its table
+-- the numbers of a numeric column, in the order of its table's rows
 abbrev pub numbers_of : ColumnId → List (List Value) → List ℤ
 numbers_of c rows = numbers_at (place_of c) rows

@@ -4,15 +4,16 @@ use Rattle.std.specs.{Int.int_min, Int.int_max, List.list_all, Option.is_none, O
 use Rattle.std.specs.declared.cmp.Ordering.{Ordering}
 use Rattle.star_schema.specs.declared.group.{Shape.Shape, Shape.TheVariants.Plain, Shape.TheVariants.Cube, Shape.TheVariants.Rollup, Aggregate.Aggregate, Aggregate.TheVariants.Sum, Aggregate.TheVariants.Count, Aggregate.TheVariants.Min, Aggregate.TheVariants.Max}
 
--- what a row adds to its groups: its keys, and a number for each aggregate, which for COUNT is 1
+-- what a row contributes to its groups: its keys, and a number for each aggregate, which for COUNT
+-- is 1
 pub record Entry (K : Type 0) : Type 0 where
   pub keys : List K
   pub values : List ℤ
 
 -- ---- groups
 
--- which keys a grouping of a shape shows, where the others are hidden by ALL, which is None: all of
--- them; in a cube any; in a rollup those before the first that is hidden
+-- which keys a grouping of a shape shows; the others have the value ALL, which is None. Plain shows
+-- all keys, a cube any subset, a rollup any prefix
 abbrev pub is_grouping : {K : Type 0} → Shape → List (Option K) → Bool
 is_grouping Plain ms = list_all is_some ms
 is_grouping Cube ms = true
@@ -20,15 +21,15 @@ is_grouping Rollup [] = true
 is_grouping Rollup (Some m ∷ ms) = is_grouping Rollup ms
 is_grouping Rollup (None ∷ ms) = list_all is_none ms
 
--- the keys of a row, some of them hidden
+-- the keys of a row, some of them replaced by ALL
 abbrev pub IsMasked : {K : Type 0} → List (Option K) → List K → Type 0
 IsMasked [] [] = Unit {0}
 IsMasked (Some m ∷ ms) (k ∷ ks) = (m ≡ k) × IsMasked ms ks
 IsMasked (None ∷ ms) (k ∷ ks) = IsMasked ms ks
 IsMasked _ _ = ⊥
 
--- the keys of a group of rows that have `count` keys each: a grouping of the keys of a row; the
--- grouping by no key has its one group over no rows too
+-- the keys of a group of rows with `count` keys each: a grouping of the keys of a row. The grouping
+-- by no key has its one group over no rows too
 abbrev pub IsGroup : {K : Type 0} → Shape → ℕ → List (Entry K) → List (Option K) → Type 0
 IsGroup {K} s count rows keys =
     IsTrue (is_grouping s keys)
@@ -52,7 +53,7 @@ abbrev pub joined_with : (ℤ → ℤ → ℤ) → ℤ → Option ℤ → Option
 joined_with f x None = Some x
 joined_with f x (Some y) = Some (f x y)
 
--- the numbers joined by an operation; none of none
+-- the numbers combined by an operation; None if there are none
 abbrev pub joined : (ℤ → ℤ → ℤ) → List ℤ → Option ℤ
 joined f [] = None
 joined f (x ∷ xs) = joined_with f x (joined f xs)
@@ -63,11 +64,11 @@ aggregate Sum numbers = joined (λ x y. x +ℤ y) numbers
 aggregate Min numbers = joined int_min numbers
 aggregate Max numbers = joined int_max numbers
 
--- the numbers of one aggregate, a row each
+-- the numbers of one aggregate, one for each row
 abbrev pub numbers_for : {K : Type 0} → ℕ → List (Entry K) → List ℤ
 numbers_for place rows = map (λ row. slice_index_or row.values place (pos 0)) rows
 
--- each aggregate over some rows, from the aggregate at a place on
+-- each aggregate over some rows, beginning with the aggregate at an index
 abbrev pub totals_from : {K : Type 0} → List Aggregate → ℕ → List (Entry K) → List (Option ℤ)
 totals_from [] place rows = []
 totals_from (a ∷ as') place rows =
@@ -76,14 +77,14 @@ totals_from (a ∷ as') place rows =
 abbrev pub totals_of : {K : Type 0} → List Aggregate → List (Entry K) → List (Option ℤ)
 totals_of aggregates rows = totals_from aggregates 0 rows
 
--- ---- the rows that a report prints: a group's keys, in which None is ALL, and its aggregates, in
--- which None is NULL
+-- ---- the rows of a report: a group's keys, in which None is ALL, and its aggregates, in which
+-- None is NULL
 
 pub record GroupRow (K : Type 0) : Type 0 where
   pub keys : List (Option K)
   pub totals : List (Option ℤ)
 
--- each is a group with its aggregates, and each group is there
+-- each row is a group with its aggregates, and each group has a row
 pub record AreGroups {K : Type 0} (cmp : K → K → Ordering) (s : Shape) (count : ℕ)
     (aggregates : List Aggregate) (rows : List (Entry K))
     (groups : List (GroupRow K)) : Type 0 where

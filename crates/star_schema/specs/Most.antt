@@ -1,4 +1,4 @@
--- How many rows a table may have, and how many turns of scans a run may take, at most.
+-- The maximum number of rows of a table, and the maximum number of visits of a run.
 use Rattle.std.specs.Prelude.{◌^◌, ℕ}
 
 abbrev pub most_rows : ℕ

@@ -1,4 +1,4 @@
--- The order of a group's rows (Gray et al. 1997, section 3.3, on the value ALL; that it comes last
+-- The order of a group's rows (Gray et al. 1997, section 3.3, on the value ALL; that ALL comes last
 -- is this project's profile).
 use Rattle.std.specs.Prelude.{ℤ, List, [], ◌∷◌, slice_index_or, Option, Some, None}
 use Rattle.std.specs.{Cmp.Lexicographic.slice_cmp, List.Sorted.IsStrictlySortedBy, Ordering.int_cmp, Ordering.nat_cmp, Ordering.ordering_then}
@@ -21,7 +21,7 @@ key_cmp cmp (Some a) None = Less
 key_cmp cmp None (Some b) = Greater
 key_cmp cmp None None = Equal
 
--- NULL meets no other row
+-- NULL is never compared with another row: only the one group by no key over no rows has it
 abbrev pub total_cmp : Option ℤ → Option ℤ → Ordering
 total_cmp (Some x) (Some y) = int_cmp x y
 total_cmp _ _ = Equal
@@ -43,13 +43,13 @@ abbrev pub sort_cmp : {K : Type 0} → (K → K → Ordering) → SortKey → Gr
     → Ordering
 sort_cmp cmp sort a b = directed_cmp cmp sort.column sort.direction a b
 
--- by the sort keys, and then by all keys of the group
+-- by the sort keys, then by all keys of the group
 abbrev pub row_cmp : {K : Type 0} → (K → K → Ordering) → List SortKey → GroupRow K → GroupRow K
     → Ordering
 row_cmp cmp [] a b = slice_cmp (key_cmp cmp) a.keys b.keys
 row_cmp cmp (sort ∷ sorts) a b = ordering_then (sort_cmp cmp sort a b) (row_cmp cmp sorts a b)
 
--- each row stands before every later one; so no row stands twice
+-- each row is less than every later one; no row occurs twice
 abbrev pub AreInOrder : {K : Type 0} → (K → K → Ordering) → List SortKey → List (GroupRow K)
     → Type 0
 AreInOrder cmp sorts rows = IsStrictlySortedBy (row_cmp cmp sorts) rows

@@ -15,7 +15,7 @@ table_name table.Supplier = codes "supplier"
 table_name table.Part = codes "part"
 table_name table.Lineorder = codes "lineorder"
 
--- what the schema says of a column: its name, its table, what it holds, and the table whose key it
+-- a column of the schema: its name, its table, the type of its values, and the table whose key it
 -- refers to
 pub record Column : Type 0 where
   pub name : List ℕ
@@ -105,7 +105,7 @@ kind_of c = (column_of c).kind
 abbrev pub references : ColumnId → Option TableId
 references c = (column_of c).references
 
--- whether two tables are one
+-- whether two tables are equal
 abbrev pub is_table : TableId → TableId → Bool
 is_table table.Date table.Date = true
 is_table table.Customer table.Customer = true
@@ -121,19 +121,19 @@ columns_of t = filter (λ c. is_table t (table_of c)) COLUMNS
 abbrev pub width_of : TableId → ℕ
 width_of t = length (columns_of t)
 
--- what each column of a table holds, in order
+-- the types of a table's columns, in order
 abbrev pub kinds_of : TableId → List Kind
 kinds_of t = map kind_of (columns_of t)
 
--- how many columns stand before this one, of all
+-- the number of columns before this one, over all tables
 abbrev pub index_of : ColumnId → ℕ
 index_of c = tag_of the_type c
 
--- how many columns of its table stand before this one
+-- the number of columns before this one in its table
 unfoldable pub place_of : ColumnId → ℕ
 place_of c = length (filter (λ d. is_table (table_of c) (table_of d)) (take (index_of c) COLUMNS))
 
--- the columns that tell the rows of a table apart
+-- the columns whose values identify a row of a table
 abbrev pub key_of : TableId → Key
 key_of table.Date = One DDatekey
 key_of table.Customer = One CCustkey

@@ -1,4 +1,4 @@
--- How many rows the tables have.
+-- The row counts of the tables.
 use Rattle.std.specs.Prelude.{ℕ}
 use Rattle.star_schema.specs.declared.{table.TableId.TableId, sizes.Sizes.Sizes}
 use Rattle.star_schema.specs.declared.table.TableId.TheVariants.{Date, Customer, Supplier, Part, Lineorder}

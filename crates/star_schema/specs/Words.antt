@@ -1,4 +1,4 @@
--- What is found by a name, and the names of shapes, aggregates and directions.
+-- Items found by name, and the names of shapes, aggregates and directions.
 use Rattle.std.specs.Prelude.{ℕ, List, Option, codes, find, nat_eq}
 use Rattle.std.specs.Cmp.Lexicographic.{pointwise}
 use Rattle.star_schema.specs.declared.group.{Shape.Shape, Aggregate.Aggregate, Direction.Direction}

@@ -1,6 +1,5 @@
-// The columns. The schema is written here: the columns' names in code, their list, and what it says
-// of each; which of them a table has follows from the first column of each table. The definition
-// `column_of` says the same for contracts.
+// The columns and what the schema says about each. Which columns a table has follows from the first
+// column of each table. The definition `column_of` says the same for contracts.
 
 ghost use Rattle.std.specs.Prelude.{◌≡◌, ◌↔◌, ◌-◌, ◌<◌, Some, IsTrue, slice_get};
 ghost use Rattle.star_schema.specs.declared.column.ColumnId.{ColumnId};
@@ -13,7 +12,7 @@ use crate::name::{Named, first_named};
 use crate::table::{TableId, column_at};
 use std::fmt;
 
-/// The columns, in the order of the tables and, within a table, of a record's fields.
+/// The columns, by table, and within a table in the order of a record's fields.
 #[derive(Clone, Copy, Debug, PartialEq, Eq)]
 pub enum ColumnId {
     DDatekey,
@@ -76,7 +75,7 @@ pub enum ColumnId {
     LoShipmode,
 }
 
-/// All columns, in their order.
+/// All columns in order.
 pub static COLUMNS: [ColumnId; 58] = [
     ColumnId::DDatekey,
     ColumnId::DDate,
@@ -138,14 +137,14 @@ pub static COLUMNS: [ColumnId; 58] = [
     ColumnId::LoShipmode,
 ];
 
-/// What a column holds.
+/// The type of a column's values.
 #[derive(Clone, Copy, PartialEq, Eq)]
 pub enum Kind {
     Number,
     Text,
 }
 
-/// What the schema says of a column.
+/// A column of the schema.
 #[derive(Clone, Copy)]
 pub(crate) struct Column {
     pub(crate) name: &'static str,
@@ -177,7 +176,7 @@ impl Column {
         }
     }
 
-    // A number that is the key of a row of another table.
+    // A number that refers to the key of another table.
     fn referring(name: &'static str, table: TableId, referred: TableId) -> Column
         ensures { Describes result (spec.referring name.now table referred) }
     {
@@ -191,7 +190,7 @@ impl Column {
 }
 
 impl ColumnId {
-    /// What the schema says of the column.
+    /// Returns the column's entry in the schema.
     #[tactic(auto, unfolding(crate::specs::Schema::column_of))]
     pub(crate) fn describe(self) -> Column
         ensures { Describes result (spec.column_of self) }
@@ -295,7 +294,7 @@ impl fmt::Display for ColumnId {
     }
 }
 
-/// The column with a name, if there is one. Names are lower case.
+/// Returns the column with a name, in lower case, if there is one.
 pub fn column_named(name: &[u8]) -> Option<ColumnId>
     ensures first { result ≡ named spec.column_name COLUMNS name.now }
     ensures exactly { (column : ColumnId) → (result ≡ Some column) ↔ (spec.column_name column ≡ name.now) }
@@ -303,35 +302,35 @@ pub fn column_named(name: &[u8]) -> Option<ColumnId>
     first_named(&COLUMNS, name)
 }
 
-/// The column's table.
+/// Returns the column's table.
 pub fn table_of(column: ColumnId) -> TableId
     ensures { result ≡ spec.table_of column }
 {
     column.describe().table
 }
 
-/// What the column holds.
+/// Returns the type of the column's values.
 pub fn kind_of(column: ColumnId) -> Kind
     ensures { result ≡ spec.kind_of column }
 {
     column.describe().kind
 }
 
-/// Whether the column holds texts.
+/// Tests whether the column holds texts.
 pub fn is_text(column: ColumnId) -> bool
     ensures { IsTrue result ↔ (spec.kind_of column ≡ Kind.Text) }
 {
     matches!(kind_of(column), Kind::Text)
 }
 
-/// The table whose key the column holds, if it is a foreign key.
+/// Returns the table whose key the column refers to, if it is a foreign key.
 pub fn references(column: ColumnId) -> Option<TableId>
     ensures { result ≡ spec.references column }
 {
     column.describe().references
 }
 
-/// The column's place in its table, from 0.
+/// Returns the position of the column in its table, from 0.
 pub fn place_of(column: ColumnId) -> usize
     ensures place { result ≡ spec.place_of column }
     ensures there { slice_get (spec.columns_of (spec.table_of column)) result ≡ Some column }

@@ -1,12 +1,12 @@
-// Groups of rows: how rows are grouped, which aggregates a group has, and by what its rows are
-// sorted.
+// Groups of rows: the groupings of the keys, the aggregates of a group, and the sort keys of its
+// rows.
 
 ghost use Rattle.star_schema.specs.Words as spec;
 
 use crate::name::Named;
 
 /// The groupings of some keys (Gray et al. 1997, sections 3 and 4): by all keys, by every subset of
-/// them, or by every prefix of their list; a key outside has the value ALL.
+/// them, or by every prefix of their list. A key outside the subset has the value ALL.
 #[derive(Clone, Copy, PartialEq, Eq)]
 pub enum Shape {
     Plain,
@@ -30,8 +30,7 @@ impl Named for Shape {
     }
 }
 
-/// What is computed over the rows of a group. `Count` counts them; the others are NULL where there
-/// is none.
+/// An aggregate over the rows of a group. `Count` counts them; the others are NULL over no rows.
 #[derive(Clone, Copy, PartialEq, Eq)]
 pub enum Aggregate {
     Sum,
@@ -62,14 +61,14 @@ impl Named for Aggregate {
     }
 }
 
-/// A column of a group's rows, by its number from 0 among the keys or among the aggregates.
+/// A column of a group's rows: an index, from 0, among its keys or among its aggregates.
 #[derive(Clone, Copy, PartialEq, Eq)]
 pub enum GroupColumn {
     Key(u16),
     Aggregate(u16),
 }
 
-/// Which way a sort goes. `Descending` reverses the whole order, so that ALL comes first.
+/// The direction of a sort. `Descending` reverses the whole order, ALL included.
 #[derive(Clone, Copy, PartialEq, Eq)]
 pub enum Direction {
     Ascending,

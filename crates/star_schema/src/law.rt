@@ -1,17 +1,16 @@
-//! Laws of dictionaries and codes: functions with no body, whose clauses are the laws.
+//! Laws of dictionaries and codes: functions with empty bodies, whose clauses are the laws.
 
 ghost use Rattle.std.specs.Prelude.{◌≡◌, ◌↔◌, ◌+◌, ℕ, List, Contains, nat_lt};
 ghost use Rattle.std.specs.Ordering.{is_lt, is_le, nat_cmp};
 ghost use Rattle.star_schema.specs.Dictionary.{text_cmp, dictionary_of, low_in, high_in, IsDictionary, HasCode};
 
-/// Any texts have exactly one dictionary.
+/// States that any texts have exactly one dictionary.
 pub fn texts_have_one_dictionary()
     ensures { (dictionary texts : List (List ℕ))
         → IsDictionary dictionary texts ↔ (dictionary ≡ dictionary_of texts) }
 {}
 
-/// Each text of a column has one code, which is how many texts of the dictionary are less. With the
-/// text itself they are one more.
+/// States that each text of a column has one code: the number of smaller texts in the dictionary.
 pub fn texts_have_one_code()
     ensures some { (texts : List (List ℕ)) (text : List ℕ)
         → Contains texts text → HasCode texts text (low_in (dictionary_of texts) text) }
@@ -21,8 +20,8 @@ pub fn texts_have_one_code()
         → HasCode texts text code → high_in (dictionary_of texts) text ≡ code + 1 }
 {}
 
-/// Codes compare as their texts do, with one another and with what `low` and `high` count for any
-/// text.
+/// States that codes compare as their texts do, with one another and with the counts of `low` and
+/// `high` for any text.
 pub fn codes_compare_as_texts()
     ensures codes { (texts : List (List ℕ)) (a b : List ℕ) (m n : ℕ)
         → HasCode texts a m → HasCode texts b n → nat_cmp m n ≡ text_cmp a b }

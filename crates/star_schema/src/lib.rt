@@ -1,7 +1,6 @@
 //! The star schema: five tables, their columns and keys, and the limits of a load and of a run.
 //!
-//! What a table file is, which rows it holds and what their bounds are stands in `specs/`: every
-//! crate above cites it.
+//! `specs/` defines table files, their rows and bounds; every crate above cites it.
 #![tactic(auto)]
 
 mod column;

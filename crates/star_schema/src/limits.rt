@@ -1,15 +1,15 @@
-// How much a load and a run may take.
+// Limits of a load and of a run.
 
 ghost use Rattle.std.specs.Prelude.{◌≡◌, ◌≤◌, ◌↔◌, IsSome, IfSome};
 ghost use Rattle.star_schema.specs.Most.{most_rows, most_visits};
 
-/// The most rows of a table that any load allows.
+/// The maximum number of rows of a table in any load.
 pub const MOST_ROWS: u32 = 1_000_000_000;
 
-/// The most turns of scans that any run allows.
+/// The maximum number of visits in any run.
 pub const MOST_VISITS: u64 = 1_000_000_000_000_000;
 
-/// The most rows that a table may have, and the most turns of scans that a program may take.
+/// The maximum number of rows of a table, and the maximum number of visits of a program.
 #[derive(Clone, Copy, PartialEq, Eq)]
 pub struct Limits {
     pub rows: u32,
@@ -19,7 +19,7 @@ pub struct Limits {
 }
 
 impl Limits {
-    /// These limits, if neither is over what any load or run allows.
+    /// Returns these limits, or None if one exceeds the maximum of any load or run.
     pub fn new(rows: u32, visits: u64) -> Option<Limits>
         ensures allowed { IsSome result ↔ ((rows ≤ most_rows) × (visits ≤ most_visits)) }
         ensures given { IfSome result (λ limits. (limits.rows ≡ rows) × (limits.visits ≡ visits)) }
@@ -31,7 +31,7 @@ impl Limits {
         }
     }
 
-    /// The widest limits.
+    /// Returns the maximum limits.
     pub fn widest() -> Limits
         ensures rows { result.rows ≡ most_rows }
         ensures visits { result.visits ≡ most_visits }

@@ -1,11 +1,11 @@
-// How many rows the tables have.
+// The row counts of the tables.
 
 ghost use Rattle.std.specs.Prelude.{◌≡◌};
 ghost use Rattle.star_schema.specs.Sizes.{size_of};
 
 use crate::table::TableId;
 
-/// How many rows each table has.
+/// The number of rows of each table.
 #[derive(Clone, Copy, Debug, PartialEq, Eq)]
 pub struct Sizes {
     pub date: u32,
@@ -16,7 +16,7 @@ pub struct Sizes {
 }
 
 impl Sizes {
-    /// How many rows a table has.
+    /// Returns the number of rows of a table.
     pub fn of(&self, table: TableId) -> u32
         ensures { result ≡ size_of self.now table }
     {

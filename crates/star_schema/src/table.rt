@@ -21,7 +21,7 @@ pub enum TableId {
     Lineorder,
 }
 
-/// All tables, in their order.
+/// All tables in order.
 pub static TABLES: [TableId; 5] = [
     TableId::Date,
     TableId::Customer,
@@ -30,7 +30,7 @@ pub static TABLES: [TableId; 5] = [
     TableId::Lineorder,
 ];
 
-/// The columns that tell the rows of a table apart.
+/// The key of a table: one column or two.
 #[derive(Clone, Copy, PartialEq, Eq)]
 pub enum Key {
     One(ColumnId),
@@ -60,7 +60,7 @@ impl fmt::Display for TableId {
     }
 }
 
-/// The table with a name, if there is one. Names are lower case.
+/// Returns the table with a name, in lower case, if there is one.
 pub fn table_named(name: &[u8]) -> Option<TableId>
     ensures first { result ≡ named spec.table_name TABLES name.now }
     ensures exactly { (table : TableId) → (result ≡ Some table) ↔ (spec.table_name table ≡ name.now) }
@@ -68,7 +68,7 @@ pub fn table_named(name: &[u8]) -> Option<TableId>
     first_named(&TABLES, name)
 }
 
-/// The table's columns, in the order of a record's fields.
+/// Returns the table's columns in the order of a record's fields.
 #[tactic(auto, unfolding(crate::specs::Schema::column_of, crate::specs::Schema::columns_of))]
 pub fn columns(table: TableId) -> &'static [ColumnId]
     ensures columns { result.now ≡ spec.columns_of table }
@@ -84,21 +84,21 @@ pub fn columns(table: TableId) -> &'static [ColumnId]
     }
 }
 
-/// Whether two tables are one.
+/// Tests whether two tables are equal.
 pub fn is_table(table: TableId, other: TableId) -> bool
     ensures { result ≡ spec.is_table table other }
 {
     table == other
 }
 
-/// How many columns the table has.
+/// Returns the number of the table's columns.
 pub fn width(table: TableId) -> usize
     ensures { result ≡ spec.width_of table }
 {
     columns(table).len()
 }
 
-/// The table's column at a place, from 0.
+/// Returns the table's column at a position, from 0.
 pub fn column_at(table: TableId, place: usize) -> ColumnId
     requires { place < spec.width_of table }
     ensures at { slice_get (spec.columns_of table) place ≡ Some result }
@@ -107,7 +107,7 @@ pub fn column_at(table: TableId, place: usize) -> ColumnId
     columns(table)[place]
 }
 
-/// The table's key. No two rows of a loaded table have equal keys.
+/// Returns the table's key. No two rows of a loaded table have equal keys.
 pub fn key_of(table: TableId) -> Key
     ensures { result ≡ spec.key_of table }
 {

@@ -1,2 +1,2 @@
--- What the contracts of functions that are not public cite.
+-- Definitions that only private contracts cite.
 pub mod Drafts

@@ -1,23 +1,23 @@
--- What a statement asks for.
+-- The request in a statement.
 use Rattle.std.specs.Prelude.{◌&&◌, ℕ, List, [], ◌∷◌, Bool, if◌then◌else◌, codes, drop, length, nat_lt, take}
 use Rattle.std.specs.Str.{str_eq_ignore_ascii_case}
 use Rattle.star_statements.specs.Blanks.{is_blank_at_front, without_blanks}
 use Rattle.star_statements.specs.declared.questions.Question.{Question}
 use Rattle.star_statements.specs.declared.questions.Question.TheVariants.{Nothing, TooLong, Query, Explain, Quote}
 
--- whether a text begins with a word, in letters of either case, and a blank behind it
+-- whether a text begins with a keyword, in letters of either case, and a blank after it
 unfoldable pub begins_with_word : (word text : List ℕ) → Bool
 begins_with_word word text =
     str_eq_ignore_ascii_case (take (length word) text) word
     && is_blank_at_front (drop (length word) text)
 
--- what stands behind a word and blanks
+-- the text after a keyword and the blanks that follow it
 abbrev pub behind_word : (word text : List ℕ) → List ℕ
 behind_word word text = without_blanks (drop (length word) text)
 
--- what a text asks for that begins with no blank: for nothing where it is empty; for what `explain` or
--- `quote` tell of the query behind that word; and else for the answer to a query. A text of more than
--- 65,536 bytes is too long
+-- the request in a text without leading blanks: none if it is empty; after the keyword `explain` or
+-- `quote`, the program or the quote of the query that follows; otherwise the report of a query. A
+-- text of more than 65,536 bytes is too long
 unfoldable pub asked_by_text : List ℕ → Question (List ℕ)
 asked_by_text [] = Nothing
 asked_by_text (c ∷ rest) =
@@ -27,6 +27,6 @@ asked_by_text (c ∷ rest) =
     else (if begins_with_word (codes "quote") text then Quote (behind_word (codes "quote") text)
     else Query text))
 
--- what a statement asks for: blanks before it don't count
+-- the request in a statement; leading blanks are ignored
 abbrev pub asked_by : List ℕ → Question (List ℕ)
 asked_by statement = asked_by_text (without_blanks statement)

@@ -1,4 +1,4 @@
--- What was read of a source.
+-- What was read from a source.
 use Rattle.std.specs.Prelude.{◌≡◌, ◌≤◌, ◌<◌, ◌++◌, ◌-◌, ◌^◌, ℕ, List, [], ◌∷◌, Bool, true, false, Option, length}
 use Rattle.std.specs.Io.KnownBytes.{Consumes, IsAtEnd}
 use Rattle.star_statements.specs.Questions.{asked_by, asked_by_text}
@@ -12,9 +12,9 @@ reader_of source = source.reader
 abbrev pub has_failed : {R : Type 0} → Source R → Bool
 has_failed source = source.failed
 
--- a statement that was read, where a reader has these bytes left before and behind it, with the text that
--- was kept of it, and whether a line ended it: if so, it is the first statement whatever stands behind
--- it; if not, the reader is at its end, and it is the last
+-- a statement that was read, given the remaining bytes of the reader before and after, the text
+-- that was retained, and whether a line ended it. If so, it is the first statement, whatever
+-- follows; if not, the reader is at its end, and it is the last
 pub record IsStatementRead (old new : Option (List ℕ)) (text : List ℕ) (is_ended : Bool)
     (statement : List ℕ) : Type 0 where
   pub read : Consumes old new statement
@@ -25,7 +25,7 @@ pub record IsStatementRead (old new : Option (List ℕ)) (text : List ℕ) (is_e
   pub last : is_ended ≡ false → statements_of statement ≡ statement ∷ []
   pub at_end : is_ended ≡ false → IsAtEnd new
 
--- all bytes that can be counted were read
+-- as many bytes as can be counted were read
 pub record IsPastCounting (old new : Option (List ℕ)) (read : List ℕ) : Type 0 where
   pub consumed : Consumes old new read
   pub many : 2 ^ 64 - 1 ≤ length read

@@ -1,4 +1,4 @@
--- Questions as contracts see them: with the bytes of their queries.
+-- Requests as contracts see them: with the bytes of their queries.
 use Rattle.std.specs.Prelude.{ℕ, List}
 use Rattle.std.specs.Borrow.{Bor}
 use Rattle.star_statements.specs.declared.questions.Question.{Question}

@@ -4,14 +4,14 @@ ghost use Rattle.std.specs.Prelude.{◌≡◌};
 ghost use Rattle.star_common.specs.WhiteSpace as white;
 ghost use Rattle.star_statements.specs.Blanks as spec;
 
-/// Whether a byte is a space, a tab, a carriage return or a line end.
+/// Tests whether a byte is a space, a tab, a carriage return or a line feed.
 pub(crate) fn is_blank(byte: u8) -> bool
     ensures { result ≡ white.is_blank byte }
 {
     byte == b' ' || byte == b'\t' || byte == b'\r' || byte == b'\n'
 }
 
-/// Whether a text begins with a blank.
+/// Tests whether a text begins with a blank.
 pub(crate) fn is_blank_at_front(text: &[u8]) -> bool
     ensures { result ≡ spec.is_blank_at_front text.now }
 {
@@ -21,7 +21,7 @@ pub(crate) fn is_blank_at_front(text: &[u8]) -> bool
     }
 }
 
-/// A text from its first byte on that is no blank.
+/// Returns a text from its first byte that is not a blank.
 pub(crate) fn without_blanks(text: &[u8]) -> &[u8]
     ensures { result.now ≡ spec.without_blanks text.now }
 {

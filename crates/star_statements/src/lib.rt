@@ -1,4 +1,4 @@
-//! Statements that are read one after another: which they are of a text, and what each asks for.
+//! Statements of a session, read one after another: their texts, and the request in each.
 #![tactic(auto)]
 
 mod blanks;

@@ -1,4 +1,4 @@
-// What a statement asks for.
+// The request in a statement.
 
 ghost use Rattle.std.specs.Prelude.{◌≡◌, ◌&&◌, true, false, IfNone, IfSome};
 ghost use Rattle.std.specs.Str.{str_eq_ignore_ascii_case};
@@ -8,25 +8,26 @@ ghost use Rattle.star_statements.specs.Views.{question_view};
 
 use crate::blanks::{is_blank_at_front, without_blanks};
 
-/// The most bytes that a statement may have, from its first byte on that is no blank.
+/// The maximum length of a statement in bytes, without its leading blanks.
 pub(crate) const MOST_BYTES: usize = 65_536;
 
-/// What a statement asks for, with the text of its query.
+/// The request in a statement, with the text of its query.
 #[derive(Clone, Copy, Debug, PartialEq, Eq)]
 pub enum Question<T> {
-    /// Nothing: it has blanks alone.
+    /// None: the statement has only blanks.
     Nothing,
-    /// It is too long to be asked.
+    /// The statement is too long.
     TooLong,
     /// The report of a query.
     Query(T),
     /// The program of a query.
     Explain(T),
-    /// How many visits are quoted of a query.
+    /// The quote of a query.
     Quote(T),
 }
 
-// Whether the front of a text is a word, in letters of either case, and the rest begins with a blank.
+// Tests whether the front of a text is a keyword, in letters of either case, and the rest begins
+// with a blank.
 fn is_word_apart(front: &[u8], rest: &[u8], word: &[u8]) -> bool
     ensures { result ≡ (str_eq_ignore_ascii_case front.now word.now
         && spec.is_blank_at_front rest.now) }
@@ -34,8 +35,8 @@ fn is_word_apart(front: &[u8], rest: &[u8], word: &[u8]) -> bool
     front.eq_ignore_ascii_case(word) && is_blank_at_front(rest)
 }
 
-// What stands after a word and blanks, where a text begins with the word, in letters of either
-// case, and a blank.
+// Returns the text after a keyword and the blanks that follow it, if the text begins with the
+// keyword, in letters of either case, and a blank.
 fn after_word<'a>(text: &'a [u8], word: &[u8]) -> Option<&'a [u8]>
     ensures found { IfSome result (λ query. (begins_with_word word.now text.now ≡ true)
         × (query.now ≡ behind_word word.now text.now)) }
@@ -51,9 +52,10 @@ fn after_word<'a>(text: &'a [u8], word: &[u8]) -> Option<&'a [u8]>
     }
 }
 
-/// What a text asks for that begins with no blank: for nothing where it is empty; for what
-/// `explain` or `quote` tell of the query after that word; and else for the answer to a query. A
-/// text of more than 65,536 bytes is too long.
+/// Returns the request in a text without leading blanks. An empty text requests nothing. After the
+/// keyword `explain` or `quote` and a blank, the rest is a query whose program or quote is
+/// requested. Any other text is a query whose report is requested. A text of more than 65,536 bytes
+/// is too long.
 pub fn question_of(text: &[u8]) -> Question<&[u8]>
     ensures { question_view result ≡ asked_by_text text.now }
 {

@@ -11,8 +11,8 @@ use crate::sources::{ReadFault, Source};
 use std::alloc::AllocError;
 use std::io::Read;
 
-// Adds a byte to what is kept of a statement: no blanks before it, and at most one byte more than it
-// may have.
+// Appends a byte to the retained text of a statement: leading blanks are dropped, and at most one
+// byte above the maximum length is retained.
 fn keep(text: &mut Vec<u8>, byte: u8) -> Result<(), AllocError>
     ensures { OnOk result (text.new.items ≡ with_byte text.old.items byte) }
 {
@@ -23,23 +23,23 @@ fn keep(text: &mut Vec<u8>, byte: u8) -> Result<(), AllocError>
     Ok(())
 }
 
-// Whether a line ends with a semicolon, blanks left aside, once a byte more is read.
+// Tests whether a line ends with a semicolon, blanks ignored, after one more byte.
 fn ends_behind(ends: bool, byte: u8) -> bool
     ensures { result ≡ spec.ends_behind ends byte }
 {
     byte == b';' || ends && is_blank(byte)
 }
 
-// Whether a byte ends a statement, where there may be such a semicolon before it.
+// Tests whether a byte ends a statement, given whether the line so far ends with a semicolon.
 fn closes(ends: bool, byte: u8) -> bool
     ensures { result ≡ spec.closes_statement ends byte }
 {
     ends && byte == b'\n'
 }
 
-/// Reads the next statement, up to the end of a line that ends with a semicolon, and tells whether
-/// there is such a line; if not, the statement is the last. Its text is kept in `text`, from the first
-/// byte on that is no blank: all of it, or of one that is too long one byte more than it may have.
+/// Reads the next statement, up to the end of a line that ends with a semicolon. Returns whether
+/// there is such a line; if not, the statement is the last one. `text` gets the statement without
+/// its leading blanks, or its first 65,537 bytes if it is longer.
 pub fn read_statement<R: Read>(
     source: &mut Source<R>,
     text: &mut Vec<u8>,
@@ -49,7 +49,7 @@ pub fn read_statement<R: Read>(
         text.new.items is_ended statement) }
     ensures within { OnOk result (vec_len text.new ≤ 65537) }
 
-    // Where a read failed, the answer is `Failed`; and it comes for nothing else than it says.
+    // `Failed` is returned if a read failed, and otherwise only in the cases stated here.
     ensures unfailed { OnOk result (has_failed source.new ≡ has_failed source.old) }
     ensures failed { result ≡ Err ReadFault.Failed → (has_failed source.new ≡ true)
         ⊎ ((read : List ℕ) × IsPastCounting (R.remaining (reader_of source.old))

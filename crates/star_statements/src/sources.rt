@@ -1,4 +1,4 @@
-// The bytes of a reader, one by one.
+// The bytes of a reader, one at a time.
 
 ghost use Rattle.std.specs.Prelude.{◌≡◌, [], ◌∷◌, true, false, Ok, None, IfErr, IfOk, IfSome, OnErr, OnOk};
 ghost use Rattle.std.specs.Io.KnownBytes.{Consumes, IsAtEnd};
@@ -12,9 +12,9 @@ use std::io::Read;
 /// Why no statement was read.
 #[derive(Clone, Copy, Debug, PartialEq, Eq)]
 pub enum ReadFault {
-    /// Memory was refused.
+    /// Out of memory.
     OutOfMemory,
-    /// A read failed, or more bytes came than are counted.
+    /// A read failed, or there were more bytes than can be counted.
     Failed,
 }
 
@@ -26,7 +26,7 @@ impl From<AllocError> for ReadFault {
     }
 }
 
-/// A reader, and whether a read of it has failed.
+/// A reader, and whether a read has failed.
 #[derive(Drop)]
 pub struct Source<R> {
     reader: R,
@@ -34,7 +34,7 @@ pub struct Source<R> {
 }
 
 impl<R: Read> Source<R> {
-    /// Begins to read from a reader.
+    /// Starts reading from a reader.
     pub fn new(reader: R) -> Source<R>
         ensures reader { reader_of result ≡ reader }
         ensures unfailed { has_failed result ≡ false }
@@ -45,7 +45,7 @@ impl<R: Read> Source<R> {
         }
     }
 
-    // The next byte, or none at the end. No read is tried again.
+    // Returns the next byte, or None at the end. A failed read is not retried.
     pub(crate) fn next_byte(&mut self) -> Result<Option<u8>, ReadFault>
         ensures byte { IfOk result (λ next. IfSome next (λ byte.
             Consumes (R.remaining (reader_of self.old)) (R.remaining (reader_of self.new))

@@ -10,7 +10,7 @@ pub record Checked : Type 0 where
   pub database : Database
   pub program : Parts
 
--- the program is admissible over these rows, and no more visits are quoted than any run may make
+-- the program is admissible over these rows, and its quote does not exceed the maximum of any run
 pub record IsVerified (checked : Checked) : Type 0 where
   pub admissible : IsAdmissible (world_of checked.database) checked.program
   pub cheap : quote (world_of checked.database).size checked.program ≤ 10 ^ 15

@@ -1,4 +1,4 @@
--- The row counts and column bounds that a check of a program needs.
+-- The row counts and column bounds that the check of a program needs.
 use Rattle.std.specs.Prelude.{◌≡◌, ◌<◌, ℕ, List, slice_index_or}
 use Rattle.star_schema.specs.declared.column.ColumnId.{ColumnId}
 use Rattle.star_schema.specs.declared.table.TableId.{TableId}

@@ -1,4 +1,4 @@
--- What no public clause speaks of.
+-- Definitions that no public clause cites.
 pub mod Views
 pub mod Bounded
 pub mod Made

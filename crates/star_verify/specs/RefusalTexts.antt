@@ -1,4 +1,4 @@
--- The words of refusals.
+-- The printed form of refusals.
 use Rattle.std.specs.Prelude.{◌++◌, ℕ, List, codes, decimal}
 use Rattle.star_safety.specs.ReasonTexts.{bounds_text, reason_text}
 use Rattle.star_verify.specs.declared.refusal.Refusal.{Refusal}

@@ -1,17 +1,17 @@
--- What a refusal says, in the words of the definitions.
+-- Refusals as definitions see them.
 use Rattle.std.specs.Prelude.{◌≡◌, Option, Some, None, Result, MatchResult}
 use Rattle.star_safety.specs.Admissible as admissible
 use Rattle.star_safety.specs.declared.reason.Reason.{Reason}
 use Rattle.star_verify.specs.declared.refusal.Refusal.{Refusal}
 use Rattle.star_verify.specs.declared.refusal.Refusal.TheVariants as told
 
--- None for want of memory
+-- None if memory ran out
 abbrev pub refusal_view : Refusal → Option admissible.Refusal
 refusal_view told.OutOfMemory = None
 refusal_view (told.TooCostly visits) = Some (admissible.TooCostly visits)
 refusal_view (told.Refused at reason) = Some (admissible.Refused (at, reason))
 refusal_view (told.BadShow place) = Some (admissible.BadShow place)
 
--- Ok where there is no reason, else it
+-- Ok without a reason, otherwise the reason
 abbrev pub IsReason : Result (Unit {0}) Reason → Option Reason → Type 0
 IsReason result found = MatchResult result (λ _. found ≡ None) (λ reason. found ≡ Some reason)

@@ -1,4 +1,4 @@
-// The check of a whole program: of its quote, then of its instructions, and then of its report.
+// The check of a whole program: its quote, then its instructions, then its report.
 
 ghost use Rattle.std.specs.Prelude.{◌≡◌, ◌≤◌, ◌^◌, IfOk, MatchResult, None, length};
 ghost use Rattle.star_schema.specs.Sizes.{size_of};
@@ -23,7 +23,8 @@ use star_program::{MOST_GROUPS, Parts, Program};
 use star_schema::Limits;
 use std::alloc::{AllocError, Global};
 
-// Before the first instruction nothing is known of a register, nothing written and nothing put.
+// Returns the verifier state before the first instruction: no register fact, no written register,
+// no put.
 fn nothing_noted(alloc: Global, parts: &Parts) -> Result<Noted, AllocError>
     requires { IsWithinLimits parts.now }
     ensures kept { IfOk result (λ noted. KeepsContext parts.now noted at_first) }
@@ -39,7 +40,8 @@ fn nothing_noted(alloc: Global, parts: &Parts) -> Result<Noted, AllocError>
     })
 }
 
-// Refuses the first instruction that is to be refused; or tells what is put to the keys of each group.
+// Checks the instructions in order. Returns the first refusal, or what is put to the keys of each
+// group.
 fn check_instructions(alloc: Global, parts: &Parts, facts: &Facts) -> Result<Vec<Tally>, Refusal>
     requires limits { IsWithinLimits parts.now }
     requires quote { spec.quote (size_of facts.now.sizes) parts.now ≤ 10 ^ 15 }
@@ -69,17 +71,16 @@ fn check_instructions(alloc: Global, parts: &Parts, facts: &Facts) -> Result<Vec
     Ok(keys)
 }
 
-// What is known before its run of a program that nothing refuses: how many visits it is quoted, and what
-// is put to the keys of each group.
+// Facts about the run of an accepted program: its quote, and what is put to the keys of each group.
 #[derive(Drop)]
 pub(crate) struct Accepted {
     pub(crate) visits: u128,
     pub(crate) keys: Vec<Tally>,
 }
 
-// What refuses a program first, or what is known of its run. The quote is computed here even where a
-// caller has told it before: it takes one pass over the body, and a number that is handed in would
-// have to be proved this program's.
+// Checks a program. Returns its first refusal, or facts about its run. The quote is computed here
+// even if a caller has computed it: it takes one pass over the body, and a given number would have
+// to be proved to be this program's quote.
 pub(crate) fn check(
     alloc: Global,
     program: &Program,

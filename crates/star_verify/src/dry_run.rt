@@ -1,4 +1,4 @@
-// The check of a program over tables that are not at hand.
+// The check of a program over tables that are not loaded.
 
 ghost use Rattle.std.specs.Prelude.{◌≡◌, None, IfErr, IfOk, OnOk};
 ghost use Rattle.star_common.specs.Memory.{UnlessMemory};
@@ -18,8 +18,8 @@ use std::alloc::Global;
 
 /// Returns the quote of a program over any tables with these facts, or its first refusal.
 ///
-/// The tables need not be loaded. The result is the one of `verify` over each catalogue with these
-/// facts, within `limits.visits`; the only other error is `OutOfMemory`.
+/// The tables need not be loaded. The result is that of `verify` over each catalogue with these
+/// facts, within `limits.visits`. The only other error is `OutOfMemory`.
 pub fn forecast(
     alloc: Global,
     program: &Program,

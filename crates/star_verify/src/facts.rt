@@ -1,4 +1,4 @@
-// The row counts and column bounds that a check of a program needs.
+// The row counts and column bounds that the check of a program needs.
 
 ghost use Rattle.std.specs.Prelude.{◌≡◌, IfOk, None, slice_index_or};
 ghost use Rattle.star_schema.specs.Schema.{index_of};
@@ -19,18 +19,18 @@ use star_safety::{Reached, ReachedColumns};
 use star_schema::{COLUMNS, ColumnId, Sizes, TableId, is_table, is_text, references};
 use std::alloc::{AllocError, Global};
 
-/// What the check of a program needs of some tables. Tables with equal facts accept the same
-/// programs, with the same quotes, and refuse the others alike.
+/// Row counts and column bounds of some tables. Over tables with equal facts the same programs are
+/// accepted, with the same quotes, and the same refusals are returned.
 #[derive(Clone, Copy)]
 pub struct Facts {
     /// The row counts.
     pub sizes: Sizes,
-    /// The least and the greatest number of each of the 58 columns, in their order; 0 and 0 for
-    /// columns of texts, and for columns without rows.
+    /// The least and the greatest number of each of the 58 columns, in order. They are 0 and 0 for
+    /// text columns, and for columns without rows.
     pub bounds: [Interval; 58],
 }
 
-// The least and the greatest number of a column, of a column of texts 0 and 0.
+// Returns the least and the greatest number of a column, 0 and 0 for a text column.
 fn column_bounds(catalogue: &Catalogue, column: ColumnId) -> Interval
     ensures { range_of result ≡ (world_of catalogue.now).bounds column }
 {
@@ -57,7 +57,7 @@ impl Facts {
         }
     }
 
-    // The least and the greatest number of a column.
+    // Returns the least and the greatest number of a column.
     pub(crate) fn bounds(&self, column: ColumnId) -> Interval
         ensures { result ≡ slice_index_or self.now.bounds (index_of column) result }
     {
@@ -75,7 +75,7 @@ impl Facts {
         }
     }
 
-    // What is known of a column's value in a row.
+    // Returns the register fact of a column's value.
     pub(crate) fn loaded(&self, column: ColumnId) -> Known
         ensures { (w : World) → AreFacts w self.now
             → (known_view result ≡ ranges.loaded_known w column (world.is_text column))
@@ -92,7 +92,7 @@ impl Facts {
         }
     }
 
-    // Columns in their order, each with its bounds.
+    // Returns the columns of a set in order, each with its bounds.
     pub(crate) fn reached(&self, alloc: Global, reach: Reach) -> Result<ReachedColumns, AllocError>
         ensures { (w : World) → AreFacts w self.now
             → IfOk result (λ columns. columns ≡ refusals.reached w (reach_view reach)) }
@@ -116,7 +116,7 @@ fn is_some_table(table: TableId, other: Option<TableId>) -> bool
     }
 }
 
-// Whether a column's numbers are keys of the table.
+// Tests whether a column is a foreign key to the table.
 pub(crate) fn refers_to(table: TableId, column: Option<ColumnId>) -> bool
     ensures { result ≡ refusals.refers_to table column }
 {

@@ -1,4 +1,4 @@
-// What a put gives the aggregates and the keys of its group.
+// What a put contributes to the aggregates and the keys of its group.
 
 ghost use Rattle.std.specs.Prelude.{◌≡◌, ◌+◌, ◌<◌, ◌≤◌, ◌∷◌, ◌⊎◌, ℕ, List, None, length, map, slice_index_or};
 ghost use Rattle.std.specs.Option.{option_map};
@@ -18,7 +18,7 @@ use crate::totals::tally_at;
 use star_interval::Interval;
 use star_schema::Aggregate;
 
-// Adds `met` numbers that this is known of to the tally of a place.
+// Adds `met` numbers with these facts to the tally at an index.
 fn add(tallies: &mut [Tally], place: usize, met: u64, known: Option<Known>)
     requires there { place < length tallies.old }
     requires room { (t : Tally) → HasTallyRoom (slice_index_or tallies.old place t) met }
@@ -34,7 +34,7 @@ fn add(tallies: &mut [Tally], place: usize, met: u64, known: Option<Known>)
     tallies[place] = tally.with(met, range_at(known), reach_at(known));
 }
 
-// What is known of the number of the next aggregate, and the values that are left.
+// Returns the facts of the next aggregate's number, and the remaining values.
 fn next_number<'v>(
     aggregate: Aggregate,
     registers: &[Register],
@@ -54,7 +54,7 @@ fn next_number<'v>(
     }
 }
 
-// Adds what a put gives to the tallies of its group, which stand from a place on.
+// Adds the contributions of a put to the tallies of its group, which begin at an index.
 pub(crate) fn give(
     tallies: &mut [Tally],
     first: usize,
@@ -87,7 +87,7 @@ pub(crate) fn give(
     }
 }
 
-// Adds what a put gives to the tallies of the keys of its group, which stand from a place on.
+// Adds the contributions of a put to the tallies of the keys of its group, which begin at an index.
 pub(crate) fn give_keys(
     tallies: &mut [Tally],
     first: usize,

@@ -1,4 +1,4 @@
-// What refuses one instruction, and what is known after it.
+// The check of one instruction, and the verifier state after it.
 
 ghost use Rattle.std.specs.Prelude.{◌≡◌, ◌*◌, ◌+◌, ◌<◌, ◌≤◌, ◌||◌, ◌^◌, ℕ, Bool, IfOk, List, Option, None, Some, length, nat_eq};
 ghost use Rattle.std.specs.Option.{option_map, option_or};
@@ -30,8 +30,8 @@ use crate::tally::Tally;
 use star_program::{Fault, MOST_AGGREGATES, MOST_GROUPS, Op, Operation, Parts, RegisterList, Step};
 use star_safety::Reason;
 
-// What is known of each register in scope, which registers earlier instructions write, and what they
-// give the aggregates and the keys of each group.
+// The verifier state: the facts of each register in scope, the registers that earlier instructions
+// write, and the contributions to the aggregates and the keys of each group.
 #[derive(Drop)]
 pub(crate) struct Noted {
     pub(crate) registers: Vec<Register>,
@@ -40,8 +40,8 @@ pub(crate) struct Noted {
     pub(crate) keys: Vec<Tally>,
 }
 
-// Where an instruction stands: its number, whether scans stand around it, how often it is met at
-// most, and which groups are put to in a scan around it or after such a scan.
+// The position of an instruction: its number, whether it is inside a scan, how often it is executed
+// at most, and which groups are put to in an enclosing scan or after such a scan.
 #[derive(Clone, Copy)]
 pub(crate) struct Place {
     pub(crate) at: u16,
@@ -59,7 +59,7 @@ pub(crate) fn is_written(written: &[bool], register: u16) -> bool
     }
 }
 
-// Notes that a register is written.
+// Marks a register as written.
 #[tactic(auto, using(crate::proofs::Writing::written_more))]
 pub(crate) fn note(written: &mut [bool], target: u16)
     requires { target < length written.old }
@@ -69,7 +69,7 @@ pub(crate) fn note(written: &mut [bool], target: u16)
     written[target as usize] = true;
 }
 
-// What is wrong with the target of an instruction that an earlier one writes.
+// Returns the fault of an instruction whose target an earlier one writes.
 fn again(written: &[bool], op: &Op) -> Option<Fault>
     ensures { result ≡ target_again (flag_at written.now) (target_of op.now) }
 {
@@ -79,7 +79,7 @@ fn again(written: &[bool], op: &Op) -> Option<Fault>
     }
 }
 
-// Refuses an instruction by its place, its registers and their kinds.
+// Checks an instruction by its position, its registers and their kinds.
 fn check_op(
     parts: &Parts,
     inside: bool,
@@ -98,7 +98,7 @@ fn check_op(
     }
 }
 
-// Tallies what a put gives the aggregates of its group.
+// Adds the contributions of a put to the aggregates of its group.
 fn put(
     subject: &Subject<'_>,
     place: Place,
@@ -133,7 +133,7 @@ fn put(
     );
 }
 
-// Notes what a put gives the keys of its group.
+// Adds the contributions of a put to the keys of its group.
 fn put_keys(
     parts: &Parts,
     place: Place,
@@ -162,7 +162,7 @@ fn put_keys(
 }
 
 impl Subject<'_> {
-    // The refusal by numbers that leave 64 bits.
+    // Returns the refusal of an instruction whose numbers leave 64 bits.
     fn overflow(&self, at: u16, beyond: Beyond) -> Refusal
         ensures { (w : World) → AreFacts w self.now.facts.now
             → IsFirst result (Some (at, beyond_view w beyond)) }
@@ -180,7 +180,7 @@ impl Subject<'_> {
         }
     }
 
-    // Judges what an operation makes, and writes it.
+    // Checks the result of an operation and records its facts.
     fn assign(
         &self,
         noted: &mut Noted,
@@ -227,7 +227,7 @@ impl Subject<'_> {
         }
     }
 
-    // Judges an instruction with which nothing is wrong by its kinds, and does what it does.
+    // Checks an instruction whose kinds are right, and records its effect.
     fn perform(
         &self,
         noted: &mut Noted,
@@ -266,8 +266,8 @@ impl Subject<'_> {
         }
     }
 
-    // Judges an instruction that stands before these steps; `noted` tells the groups that are put
-    // to after those or in a scan around it.
+    // Checks an instruction that precedes these steps. `place.pending` has the groups that are put
+    // to after them or in an enclosing scan.
     pub(crate) fn judge(
         &self,
         noted: &mut Noted,

@@ -1,4 +1,4 @@
-// What is known of a register before a run.
+// Register facts: what is known about a register before a run.
 
 ghost use Rattle.std.specs.Prelude.{◌≡◌, ◌↔◌, None, Some, IfOk, IsOk, MatchResult};
 ghost use Rattle.std.specs.Option.{option_map};
@@ -15,8 +15,8 @@ use star_interval::{Interval, Wide};
 use star_program::Operator;
 use star_schema::{ColumnId, TableId};
 
-// The kind of a register, and of a number its range, the columns that it is computed from, and the
-// column that it was loaded from, if it was.
+// The kind of a register. For a number also its range, the columns that it is computed from, and
+// the column that it was loaded from, if any.
 #[derive(Clone, Copy)]
 pub(crate) enum Known {
     Number {
@@ -37,7 +37,7 @@ pub(crate) struct Beyond {
     pub(crate) reach: Reach,
 }
 
-// A number that is computed from no column.
+// Returns the facts of a number that is computed from no column.
 pub(crate) fn given(range: Interval) -> Known
     ensures { known_view result ≡ ranges.known_number (range_of range) }
 {
@@ -48,7 +48,7 @@ pub(crate) fn given(range: Interval) -> Known
     }
 }
 
-// The range of a number, which is that of 0 where nothing is known of one.
+// Returns the range of a number, or the range of 0 if there are no facts of a number.
 pub(crate) fn range_at(known: Option<Known>) -> Interval
     ensures { range_of result ≡ ranges.range_at (option_map known_view known) }
 {
@@ -76,7 +76,8 @@ pub(crate) fn origin_at(known: Option<Known>) -> Option<ColumnId>
     }
 }
 
-// What arithmetic makes, by its range and the columns that it is computed from.
+// Returns the facts of an arithmetic result, from its range and the columns that it is computed
+// from.
 pub(crate) fn computed(range: Result<Interval, Wide>, reach: Reach) -> Result<Known, Beyond>
     requires { IsOk range ↔ FitsI64 (bounds_of range) }
     ensures made { IfOk result (λ known. known_view known
@@ -99,7 +100,7 @@ pub(crate) fn computed(range: Result<Interval, Wide>, reach: Reach) -> Result<Kn
     }
 }
 
-// What an operator makes of two registers.
+// Returns the facts of an operator's result over two registers.
 pub(crate) fn answer(
     operator: Operator,
     left: Option<Known>,

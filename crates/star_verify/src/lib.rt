@@ -1,4 +1,4 @@
-//! The check of a program before a run: what refuses it, and what it costs at most.
+//! The verifier: checks a program before a run, and quotes the rows that it visits at most.
 #![tactic(auto)]
 
 mod check;

@@ -7,7 +7,7 @@ ghost use Rattle.star_safety.specs.Standing.{op_puts_to};
 
 use star_program::{Op, Step};
 
-// The group of a number too, where it is one of these.
+// Marks the group with a number, if it is declared.
 #[tactic(auto, using(crate::proofs::Marks::marked_at))]
 fn mark(pending: &mut [bool], group: u16)
     ensures marked { (g : ℕ) → g < length pending.old → slice_index_or pending.new g false
@@ -30,7 +30,7 @@ fn mark_op(pending: &mut [bool], op: &Op)
     }
 }
 
-// The groups of these steps too.
+// Marks the groups that these steps put to.
 pub(crate) fn mark_puts(pending: &mut [bool], steps: &[Step])
     ensures marked { (g : ℕ) → g < length pending.old → slice_index_or pending.new g false
         ≡ (slice_index_or pending.old g false || code_puts_to g (code_of_steps steps.now)) }

@@ -1,4 +1,4 @@
-// What is known of what an operation makes, and what it may not look for or read.
+// The facts of an operation's result, and the check of its source.
 
 ghost use Rattle.std.specs.Prelude.{◌≡◌, ◌*◌, ◌+◌, ◌<◌, ◌≤◌, ℕ, Bool, None, length};
 ghost use Rattle.star_program.specs.CodeOfSteps.{code_of_steps};
@@ -29,7 +29,7 @@ use star_program::{MOST_AGGREGATES, MOST_GROUPS, Operation, Parts, Step};
 use star_safety::Reason;
 use star_schema::Aggregate;
 
-// An aggregate of a group, by their numbers.
+// Returns an aggregate of a group, both by number.
 fn aggregate_at(parts: &Parts, group: u16, aggregate: u16) -> Aggregate
     requires group { group < length parts.now.groups }
     requires aggregate { aggregate < length (group_at parts.now group).aggregates }
@@ -38,7 +38,7 @@ fn aggregate_at(parts: &Parts, group: u16, aggregate: u16) -> Aggregate
     parts.group_at(group).aggregates.as_slice()[aggregate as usize]
 }
 
-// What is known of a read of a declared aggregate.
+// Returns the facts of a read of a declared aggregate.
 fn read_total(
     parts: &Parts,
     tallies: &[Tally],
@@ -64,7 +64,7 @@ fn read_total(
     )
 }
 
-// What is known of what an operation makes.
+// Returns the facts of an operation's result.
 pub(crate) fn make(
     parts: &Parts,
     facts: &Facts,
@@ -104,7 +104,7 @@ pub(crate) fn make(
     }
 }
 
-// Whether a group is put to by these steps, or was open already.
+// Tests whether a group is put to by these steps or is pending already.
 fn is_open(pending: [bool; MOST_GROUPS], steps: &[Step], group: u16) -> bool
     requires { group < 8 }
     ensures { (pending_now : ℕ → Bool) → flag_at pending group ≡ pending_now group
@@ -115,8 +115,8 @@ fn is_open(pending: [bool; MOST_GROUPS], steps: &[Step], group: u16) -> bool
     opened[group as usize]
 }
 
-// Refuses a find by what is no foreign key to its table, and a read of a group that is still put
-// to.
+// Refuses a find by a column that is not a foreign key to its table, and a read of a group that is
+// still put to.
 pub(crate) fn check_source(
     parts: &Parts,
     registers: &[Register],

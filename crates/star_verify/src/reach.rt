@@ -7,7 +7,7 @@ ghost use Rattle.star_verify.specs.Private.Views.{reach_view};
 
 use star_schema::ColumnId;
 
-// Columns, a bit for each in their order, the first column's the lowest.
+// A set of columns: one bit for each column, the lowest for the first.
 #[derive(Clone, Copy)]
 pub(crate) struct Reach {
     columns: u64,
@@ -28,7 +28,7 @@ impl Reach {
         }
     }
 
-    // The columns of either.
+    // Returns the union.
     pub(crate) fn joined(self, other: Reach) -> Reach
         ensures { reach_view result ≡ joined_reach (reach_view self) (reach_view other) }
     {

@@ -1,4 +1,4 @@
-// Why a program is refused, and how that prints.
+// Refusals, and their printed form.
 
 ghost use Rattle.std.specs.Prelude.{Some};
 ghost use Rattle.star_common.specs.Memory.{TellsMemory};
@@ -9,19 +9,20 @@ use star_safety::Reason;
 use std::alloc::AllocError;
 use std::fmt;
 
-// A case for each of the twelve lines would say the number of the instruction in most of them; and
-// what refuses an instruction is asked and proved without its number.
-/// Why a program is refused. Instructions count from 1, as they stand in the text.
+// One case for each of the twelve lines would repeat the instruction's number in most of them, and
+// reasons are checked and proved without a number.
+/// Why a program is refused. Instructions count from 1, in the order of the text.
 #[derive(Drop)]
 pub enum Refusal {
-    /// Memory was refused.
+    /// Out of memory.
     OutOfMemory,
-    /// More visits are quoted than are allowed.
+    /// The quote exceeds the limit.
     TooCostly { visits: u128 },
     /// An instruction is refused, by its number.
     Refused { at: u16, reason: Reason },
-    /// A line of the report names what is not there: 0 for its group or where it shows nothing,
-    /// else the number of the line among the show and then the sort lines, from 1.
+    /// A line of the report names something that is not declared. The position is 0 if the group is
+    /// not declared or nothing is shown, otherwise the number of the line, from 1, among the show
+    /// lines followed by the sort lines.
     BadShow { place: u8 },
 }
 
@@ -33,7 +34,7 @@ impl From<AllocError> for Refusal {
     }
 }
 
-/// In a debug text a refusal is its line.
+/// Debug prints the line of the refusal.
 impl fmt::Debug for Refusal {
     fn fmt<W: fmt::Write>(&self, f: &mut fmt::Formatter<W>) -> fmt::Result {
         write!(f, "{self}")

@@ -1,4 +1,4 @@
-// Registers, by what is known of them.
+// Registers, by their facts.
 
 ghost use Rattle.std.specs.Prelude.{◌≡◌, ◌<◌, length};
 ghost use Rattle.star_kinds.specs.Kinds.{Answers};
@@ -11,7 +11,7 @@ use crate::known::Known;
 use star_kinds::{Kinded, check};
 use star_program::{Fault, Kind, Op, Parts};
 
-// What is known of a register, where something in scope writes it.
+// The facts of a register, if an instruction in scope writes it.
 #[derive(Clone, Copy)]
 pub(crate) struct Register {
     pub(crate) known: Option<Known>,
@@ -40,7 +40,7 @@ impl Kinded for Register {
     }
 }
 
-// What is known of the register of a number.
+// Returns the facts of the register with a number.
 pub(crate) fn known_at(registers: &[Register], number: u16) -> Register
     ensures { known_of result ≡ known_in registers.now number }
 {
@@ -50,7 +50,7 @@ pub(crate) fn known_at(registers: &[Register], number: u16) -> Register
     }
 }
 
-// Writes what is known of a register.
+// Records the facts of a register.
 #[tactic(auto, using(crate::proofs::Registers::known_set))]
 pub(crate) fn learn(registers: &mut [Register], target: u16, known: Known)
     requires { target < length registers.old }
@@ -61,8 +61,7 @@ pub(crate) fn learn(registers: &mut [Register], target: u16, known: Known)
     registers[target as usize] = Register { known: Some(known) };
 }
 
-// What is wrong with an instruction by the kinds of its operands; `again` is what is wrong with its
-// target beside.
+// Checks an instruction by the kinds of its operands; `again` is another fault of its target.
 pub(crate) fn check_kinds(
     parts: &Parts,
     inside: bool,

@@ -1,4 +1,4 @@
-// Whether a report names what is there.
+// The check of a report's names.
 
 ghost use Rattle.std.specs.Prelude.{◌≡◌, ◌≤◌, length, map};
 ghost use Rattle.star_program.specs.Limits.{IsWithinLimits};
@@ -16,7 +16,7 @@ fn has_column(declared: &GroupDecl, column: GroupColumn) -> bool
     }
 }
 
-// The number of the first show line that names what its group does not have.
+// Returns the number of the first show line that names a column which its group does not have.
 fn bad_show(declared: &GroupDecl, shows: &[Show]) -> Option<u8>
     requires { length shows.now ≤ 16 }
     ensures { result ≡ shown.first_unshown declared.now 1 (map (λ show. show.column) shows.now) }
@@ -31,7 +31,7 @@ fn bad_show(declared: &GroupDecl, shows: &[Show]) -> Option<u8>
     None
 }
 
-// The number of the first such sort line, where they are numbered from here on.
+// Returns the number of the first such sort line, counting from the given number.
 fn bad_sort(declared: &GroupDecl, first: u8, sorts: &[SortKey]) -> Option<u8>
     requires few { length sorts.now ≤ 16 }
     requires first { first ≤ 17 }
@@ -48,8 +48,9 @@ fn bad_sort(declared: &GroupDecl, first: u8, sorts: &[SortKey]) -> Option<u8>
     None
 }
 
-// Where a report names what is not there: 0 for its group or where it shows nothing, else the
-// number of the first such line among the show and then the sort lines, from 1.
+// Returns the position of the first line of the report that names something undeclared: 0 if the
+// group is not declared or nothing is shown, otherwise the number of the line, from 1, among the
+// show lines followed by the sort lines.
 pub(crate) fn misnamed_line(parts: &Parts) -> Option<u8>
     requires { IsWithinLimits parts.now }
     ensures { result ≡ shown.shown_fault parts.now }

@@ -1,4 +1,4 @@
-// How many rows the report of a program can have at most.
+// The maximum number of rows of a program's report.
 
 ghost use Rattle.std.specs.Prelude.{◌≡◌, ◌≤◌, ◌<◌, ◌*◌, ◌+◌, ◌^◌, ℕ, List, [], true, length, if◌then◌else◌};
 ghost use Rattle.std.specs.Option.{option_map};
@@ -22,7 +22,7 @@ use star_interval::Interval;
 use star_program::{GroupKey, MOST_AGGREGATES, Parts};
 use star_schema::{Shape, is_text};
 
-// How many whole numbers lie in a range; none where there is no range.
+// Returns the number of whole numbers in a range, 0 without a range.
 fn width(range: Option<Interval>) -> u128
     ensures width { result ≡ bound.range_width (option_map range_of range) }
     ensures few { result ≤ 2 ^ 64 }
@@ -33,7 +33,7 @@ fn width(range: Option<Interval>) -> u128
     }
 }
 
-// How many values a key may have.
+// Returns the maximum number of values of a key.
 fn values(catalogue: &Catalogue, key: GroupKey, tally: Tally) -> u128
     ensures values { (ss : List Share) → IsTally tally ss
         → result ≡ bound.possible_values (world_of catalogue.now) ss key }
@@ -52,8 +52,8 @@ fn lesser(left: u128, right: u128) -> u128
     if left <= right { left } else { right }
 }
 
-// Keys that are each shown or hidden: whether one is shown, whether one is hidden, and how many
-// lists of values those that are shown have, as far as that tells.
+// Keys that are each shown or hidden: whether one is shown, whether one is hidden, and the number
+// of value lists of the shown keys, as far as it is counted.
 #[derive(Clone, Copy)]
 struct Front {
     has_shown: bool,
@@ -62,8 +62,8 @@ struct Front {
 }
 
 impl Front {
-    // With one more key that is shown and has `values` values. Past all counts of updates the lists
-    // need not be told apart.
+    // Adds a shown key with `values` values. Counts above every number of updates need not be
+    // distinguished.
     fn shown(self, values: u128) -> Front
         requires { values ≤ 2 ^ 64 }
         ensures lists { (lists : ℕ) → AgreeUpTo self.lists lists
@@ -78,7 +78,7 @@ impl Front {
         }
     }
 
-    // With a key that is hidden.
+    // Adds a hidden key.
     fn hidden(self) -> Front
         ensures { result ≡ record self { has_hidden = true } }
     {
@@ -88,7 +88,7 @@ impl Front {
         }
     }
 
-    // The rows of its grouping.
+    // Returns the maximum number of rows of its grouping.
     fn rows(self, updates: u64) -> u128
         ensures rows { (lists : ℕ) → AgreeUpTo self.lists lists
             → result ≡ rows_of_rest updates self.has_shown lists [] }
@@ -102,7 +102,7 @@ impl Front {
     }
 }
 
-// Whether the next key may be shown after keys; `has_hidden` tells whether one of them is hidden.
+// Tests whether the next key may be shown; `has_hidden` says whether an earlier key is hidden.
 fn may_show(shape: Shape, has_hidden: bool) -> bool
     ensures { result ≡ spec.may_show shape has_hidden }
 {
@@ -121,8 +121,8 @@ fn may_hide(shape: Shape) -> bool
     }
 }
 
-// The groupings of a group's keys: their shape, what is put to each key, and how many updates there are at
-// most.
+// The groupings of a group's keys: their shape, what is put to each key, and the maximum number of
+// updates.
 #[derive(Clone, Copy)]
 struct Groupings<'a> {
     catalogue: &'a Catalogue,
@@ -132,8 +132,8 @@ struct Groupings<'a> {
 }
 
 impl Groupings<'_> {
-    // The rows of all groupings that go on after a front. The tallies of the keys that are left
-    // stand from a place on.
+    // Returns the maximum number of rows of all groupings that continue a front. The tallies of the
+    // remaining keys begin at an index.
     #[cycle(rows_behind)]
     fn rows_behind(&self, front: Front, keys: &[GroupKey], first: usize) -> u128
         requires there { first + length keys.now ≤ length self.now.tallies.now }
@@ -158,7 +158,7 @@ impl Groupings<'_> {
         with_it + self.rows_if(may_hide, front.hidden(), others, first + 1)
     }
 
-    // The same, where such a front may be; else none.
+    // Returns the same if such a front is allowed, otherwise 0.
     #[cycle(rows_behind)]
     fn rows_if(&self, may_be: bool, front: Front, keys: &[GroupKey], first: usize) -> u128
         requires there { first + length keys.now ≤ length self.now.tallies.now }
@@ -187,9 +187,9 @@ const NO_KEYS: Front = Front {
     lists: 1,
 };
 
-// How many rows the report of a program can have at most, by what is put to the keys of each group.
-// Two closer bounds are left out, as both ask for more to be kept: by the updates and values of
-// each put by itself, and by keys that hang on one another, as a year on a date.
+// Returns the maximum number of rows of a program's report, from what is put to the keys of each
+// group. Two tighter bounds are left out, since each needs more state: the updates and values of
+// each put separately, and dependent keys, as a year depends on its date.
 pub(crate) fn most_rows(catalogue: &Catalogue, parts: &Parts, keys: &[Tally]) -> u128
     requires limits { IsWithinLimits parts.now }
     requires len { length keys.now ≡ 64 }

@@ -1,4 +1,4 @@
-// What a check reads and never changes.
+// The input of a check, which does not change.
 
 ghost use Rattle.star_program.specs.Limits.{IsWithinLimits};
 
@@ -6,7 +6,7 @@ use crate::facts::Facts;
 use star_program::Parts;
 use std::alloc::Global;
 
-// A program within its limits, what its check needs of the tables, and where it takes memory.
+// A program within its limits, the facts of the tables, and an allocator.
 #[derive(Clone, Copy)]
 pub(crate) struct Subject<'a> {
     pub(crate) alloc: Global,

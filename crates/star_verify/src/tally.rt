@@ -1,4 +1,4 @@
-// What the updates of a group can add up to.
+// The possible sums over the updates of a group.
 
 ghost use Rattle.std.specs.Prelude.{◌≡◌, ◌≤◌, ◌+◌, ◌^◌, ◌∷◌, [], List, ◌+ℤ◌, ◌≤ℤ◌, pos};
 ghost use Rattle.std.specs.Option.{option_map};
@@ -11,12 +11,12 @@ use crate::reach::Reach;
 use star_interval::{Interval, Wide};
 use star_program::{MOST_AGGREGATES, MOST_GROUPS};
 
-// How many tallies a check keeps: for each group as many as it can have aggregates, and it can have
-// no more keys than these.
+// The number of tallies of a check: as many for each group as it can have aggregates. It cannot
+// have more keys than that.
 pub(crate) const TALLIES: usize = MOST_GROUPS * MOST_AGGREGATES;
 
-// Of the numbers that puts give an aggregate: between what their sum lies, how many there can be,
-// the least range that holds each, and the columns that they are computed from.
+// The numbers that puts contribute to an aggregate: the bounds of their sums, how many there can
+// be, the least range of one number, and the columns that they are computed from.
 #[derive(Clone, Copy)]
 pub(crate) struct Tally {
     pub(crate) sum: Wide,
@@ -25,7 +25,7 @@ pub(crate) struct Tally {
     pub(crate) reach: Reach,
 }
 
-// The bounds of the sums.
+// Returns the bounds of the sums.
 fn total(sum: Wide, more: Wide) -> Wide
     requires sum_low { pos 0 ≤ℤ (sum.low +ℤ pos (2 ^ 125)) }
     requires sum_high { sum.high ≤ℤ pos (2 ^ 125) }
@@ -40,7 +40,7 @@ fn total(sum: Wide, more: Wide) -> Wide
     }
 }
 
-// The least range that holds also these.
+// Returns the least range that also holds these.
 fn with_range(each: Option<Interval>, range: Interval) -> Interval
     ensures { range_of result ≡ hull_with (option_map range_of each) (range_of range) }
 {
@@ -51,7 +51,7 @@ fn with_range(each: Option<Interval>, range: Interval) -> Interval
 }
 
 impl Tally {
-    // Of no numbers.
+    // Returns the tally of no numbers.
     pub(crate) fn none() -> Tally
         ensures shares { IsTally result [] }
         ensures many { result.many ≡ 0 }
@@ -65,7 +65,7 @@ impl Tally {
         }
     }
 
-    // With `times` more numbers of a range.
+    // Adds `times` numbers of a range.
     pub(crate) fn with(self, times: u64, range: Interval, reach: Reach) -> Tally
         requires few { self.many + times ≤ 2 ^ 62 }
         requires bounded { IsBounded self }

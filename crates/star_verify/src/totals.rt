@@ -1,4 +1,4 @@
-// What reads give.
+// The facts of a read.
 
 ghost use Rattle.std.specs.Prelude.{◌≡◌, ◌<◌, List, length, slice_index_or};
 ghost use Rattle.std.specs.Option.{option_map};
@@ -16,7 +16,7 @@ use crate::tally::Tally;
 use star_interval::Wide;
 use star_schema::Aggregate;
 
-// Between what a total of the numbers lies, where there is one.
+// Returns the bounds of a total of the numbers, if there can be one.
 fn total_range(aggregate: Aggregate, tally: Tally) -> Option<Wide>
     ensures { (ss : List Share) → IsTally tally ss
         → option_map wide_range_of result ≡ aggregate_range aggregate ss }
@@ -34,7 +34,7 @@ fn total_range(aggregate: Aggregate, tally: Tally) -> Option<Wide>
     }
 }
 
-// Between what such a total lies or else a default.
+// Returns the bounds of such a total or a default.
 fn with_default(range: Option<Wide>, default: i64) -> Wide
     ensures { wide_range_of result ≡ hull_with (option_map wide_range_of range) (only default) }
 {
@@ -51,7 +51,7 @@ fn with_default(range: Option<Wide>, default: i64) -> Wide
     }
 }
 
-// What is known of a read.
+// Returns the facts of a read.
 pub(crate) fn read(aggregate: Aggregate, tally: Tally, default: i64) -> Result<Known, Beyond>
     ensures { (w : World) (ss : List Share) → IsTally tally ss
         → IsMade w result (ranges.known_number (read_range aggregate ss (only default)))

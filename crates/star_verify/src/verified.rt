@@ -1,4 +1,4 @@
-// Programs that nothing refuses over a catalogue.
+// Programs that are accepted over a catalogue.
 
 ghost use Rattle.std.specs.Prelude.{◌≡◌, None, IfErr, IfOk, OnOk};
 ghost use Rattle.star_common.specs.Memory.{UnlessMemory};
@@ -24,8 +24,8 @@ use star_schema::Limits;
 use std::alloc::Global;
 use std::marker::Model;
 
-/// A program that nothing refuses over the catalogue that it borrows. A contract sees the rows of
-/// that catalogue, and the parts of the program.
+/// A program that is accepted over the catalogue that it borrows. A contract sees the rows of that
+/// catalogue and the parts of the program.
 #[derive(Drop)]
 pub struct Verified<'c> {
     catalogue: &'c Catalogue,
@@ -57,7 +57,7 @@ impl<'c> Model for Verified<'c> {
         × (v.most_rows ≡ bound.most_report_rows (world_of v.catalogue.now) v.program) };
 }
 
-/// What refuses a program, with the program, unchanged.
+/// The first refusal of a program, with the program, unchanged.
 #[derive(Drop)]
 pub struct Refused {
     pub program: Program,
@@ -65,8 +65,9 @@ pub struct Refused {
 }
 
 impl<'c> Verified<'c> {
-    /// What holds of every verified program: it is admissible over the rows of its catalogue, no
-    /// more visits are quoted than any run may make, and it is within the limits of programs.
+    /// States the properties of every verified program: it is admissible over the rows of its
+    /// catalogue, its quote does not exceed the maximum of any run, and it is within the limits of
+    /// programs.
     pub fn law(&self)
         ensures verified { IsVerified self.now }
         ensures limits { IsWithinLimits self.now.program }
@@ -74,39 +75,39 @@ impl<'c> Verified<'c> {
         self.program.parts();
     }
 
-    /// The catalogue that the program was checked against.
+    /// Returns the catalogue that the program was checked against.
     pub fn catalogue(&self) -> &'c Catalogue
         ensures { result.now ≡ self.now.database }
     {
         self.catalogue
     }
 
-    /// The program that was checked.
+    /// Returns the program.
     pub fn program(&self) -> &Program
         ensures { result.now ≡ self.now.program }
     {
         &self.program
     }
 
-    /// How many turns of scans a run of the program takes at most.
+    /// Returns the quote: the maximum number of visits of a run.
     pub fn quote(&self) -> u128
         ensures { result ≡ spec.quote (world_of self.now.database).size self.now.program }
     {
         self.quote
     }
 
-    /// How many rows the report of a run has at most, by what is known before it: of each grouping one
-    /// where it shows no key, and else no more than updates can be made of the group, and than there
-    /// are lists of values of the keys that it shows.
+    /// Returns the maximum number of rows of a run's report, computed before the run. A grouping
+    /// that shows no key has one row. Any other has no more rows than there are updates of the
+    /// group, and than there are lists of values of the keys that it shows.
     pub fn most_rows(&self) -> u128
         ensures { result ≡ bound.most_report_rows (world_of self.now.database) self.now.program }
     {
         self.most_rows
     }
 
-    /// The least range that holds what puts give the key of this place to the group of this number,
-    /// by what is known before a run; `None` where no number is known. No clause tells it: it may
-    /// make a run faster and changes no answer.
+    /// Returns the least range of the numbers that are put to a key of a group, both by number,
+    /// computed before a run; `None` if no number is known. No clause mentions it: it may make a
+    /// run faster and changes no answer.
     pub fn expected(&self, group: usize, place: usize) -> Option<Interval> {
         if place < MOST_KEYS && group < MOST_GROUPS {
             self.keys.get(MOST_AGGREGATES * group + place)?.each
@@ -115,7 +116,7 @@ impl<'c> Verified<'c> {
         }
     }
 
-    /// The program, which may be checked again.
+    /// Returns the program, which may be checked again.
     pub fn into_program(self) -> Program
         ensures { result ≡ self.entry.program }
     {
@@ -124,9 +125,9 @@ impl<'c> Verified<'c> {
     }
 }
 
-/// Checks a program against a catalogue, for at most `visits` visits: it is verified exactly where
-/// it is admissible and no more are quoted, unless memory runs out. Else it is handed back with
-/// what refuses it first: too many visits, then the first instruction that is refused, then the
+/// Checks a program against a catalogue, for at most `visits` visits. It is accepted exactly if it
+/// is admissible and its quote is within the limit, unless memory runs out. Otherwise it is
+/// returned with its first refusal: too many visits, then the first refused instruction, then the
 /// report.
 pub fn verify<'c>(
     alloc: Global,

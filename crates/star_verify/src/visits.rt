@@ -1,4 +1,4 @@
-// How many rows a program can visit at most.
+// The quote of a program.
 
 ghost use Rattle.std.specs.Prelude.{◌≡◌, ◌≤◌, ◌*◌, ◌^◌};
 ghost use Rattle.star_schema.specs.Sizes.{size_of};
@@ -8,8 +8,8 @@ ghost use Rattle.star_safety.specs.Quote as spec;
 use star_program::{Body, Program, Step};
 use star_schema::Sizes;
 
-// The turns of a body that is met `times` times. 32 bits a scan of those that stand one in another
-// bound how often an instruction is met, and so 128 bits hold the sum over all instructions.
+// Returns the visits of a body that is executed `times` times. Each nested scan multiplies by at
+// most 32 bits, and scans nest at most three deep; the sum over all instructions fits 128 bits.
 fn turns_met(sizes: &Sizes, times: u128, body: &Body) -> u128
     requires few { code_size body.now ≤ 4096 }
     requires deep { times * (2 ^ 32) ^ scan_depth body.now ≤ 2 ^ 96 }
@@ -29,8 +29,8 @@ fn turns_met(sizes: &Sizes, times: u128, body: &Body) -> u128
     total
 }
 
-/// How many turns of scans a program can take at most over tables of these sizes: the sum, over the
-/// scans, of the product of the row counts of that scan and of the scans around it.
+/// Returns the maximum number of visits of a program over tables of these sizes: the sum, over its
+/// scans, of the product of the row counts of that scan and of the enclosing scans.
 pub fn quote(program: &Program, sizes: &Sizes) -> u128
     ensures { result ≡ spec.quote (size_of sizes.now) program.now }
 {

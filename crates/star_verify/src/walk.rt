@@ -1,4 +1,4 @@
-// The check of the instructions of a body, one after another.
+// The check of the instructions of a body, in order.
 
 ghost use Rattle.std.specs.Prelude.{◌≡◌, ◌*◌, ◌+◌, ◌<◌, ◌≤◌, ◌^◌, IfOk, length};
 ghost use Rattle.star_schema.specs.Sizes.{size_of};
@@ -26,7 +26,7 @@ use star_safety::Reason;
 use star_schema::TableId;
 use std::alloc::{AllocError, Global};
 
-// Refuses the register of a scan.
+// Checks the register of a scan.
 fn check_target(parts: &Parts, written: &[bool], target: u16) -> Result<(), Reason>
     ensures reason { (x : Context) → flag_at written.now ≡ x.written
         → IsReason result (scan_reason parts.now x target) }
@@ -47,7 +47,7 @@ fn copied(alloc: Global, registers: &[Register]) -> Result<Vec<Register>, AllocE
     Ok(registers.iter().copied().collect(alloc)?)
 }
 
-// Notes the row of a scan, which its body reads.
+// Records the row of a scan, which its body reads.
 fn enter(noted: &mut Noted, table: TableId, target: u16)
     requires registers { target < length noted.old.registers.items }
     requires written { target < length noted.old.written.items }
@@ -63,8 +63,8 @@ fn enter(noted: &mut Noted, table: TableId, target: u16)
 }
 
 impl Subject<'_> {
-    // Checks a scan and its body, after which of the registers nothing else is known than before
-    // it, and answers the number of the next instruction.
+    // Checks a scan and its body, and returns the number of the next instruction. After the scan
+    // the register facts are those from before it.
     #[cycle(walk)]
     fn scan(
         &self,
@@ -106,7 +106,7 @@ impl Subject<'_> {
         Ok(next)
     }
 
-    // Checks a step before others, and answers the number of the next instruction.
+    // Checks a step that precedes others, and returns the number of the next instruction.
     #[cycle(walk)]
     fn walk_step(
         &self,
@@ -146,8 +146,8 @@ impl Subject<'_> {
         }
     }
 
-    // Checks the steps of a body, where some groups are put to after them or in a scan around them,
-    // and answers the number of the next instruction.
+    // Checks the steps of a body, and returns the number of the next instruction. The pending
+    // groups are put to after these steps or in an enclosing scan.
     #[cycle(walk)]
     pub(crate) fn walk(
         &self,

@@ -1,4 +1,4 @@
--- What a program sees of some rows, column by column.
+-- What a program can see of some rows, column by column.
 use Rattle.std.specs.Prelude.{◌≡◌, ◌↔◌, ◌<◌, ℕ, ℤ, List, true, false, Some, length, nat_lt, slice_get}
 use Rattle.std.specs.Ordering.{is_le, is_lt}
 use Rattle.star_schema.specs.declared.{column.ColumnId.ColumnId, table.Key.TheVariants.One, table.TableId.TableId}
@@ -12,17 +12,17 @@ HasNumber database c row n = slice_get (column_numbers database c) row ≡ Some 
 abbrev pub HasText : Database → ColumnId → ℕ → List ℕ → Type 0
 HasText database c row text = slice_get (column_texts database c) row ≡ Some text
 
--- a code is that of a text of a column: it is how many of the column's texts are less, it lies
--- below what is counted for any text, of the column or not, exactly where the two texts compare so,
--- and it leads back to the text
+-- a code is that of a text of a column: the number of the column's smaller texts. It compares with
+-- the counts for any text, of the column or not, as the two texts compare, and it leads back to the
+-- text
 pub record IsCodeOf (w : World) (c : ColumnId) (text : List ℕ) (code : ℕ) : Type 0 where
   pub place : code ≡ w.low c text
   pub low : (bound : List ℕ) → nat_lt code (w.low c bound) ≡ is_lt (text_cmp text bound)
   pub high : (bound : List ℕ) → nat_lt code (w.high c bound) ≡ is_le (text_cmp text bound)
   pub shown : w.text c code ≡ text
 
--- a world is what programs see of these rows: their numbers and the codes of their texts, the row
--- of a key, which is the one row that has it, and a row for each foreign key
+-- a world of these rows has their numbers, the codes of their texts, for a key the one row that has
+-- it, and a row for each foreign key
 pub record IsWorldOf (database : Database) (w : World) : Type 0 where
   pub size : (t : TableId) → w.size t ≡ length (rows_in database t)
   pub number : (c : ColumnId) (row : ℕ) (n : ℤ) → is_text c ≡ false → HasNumber database c row n

@@ -1,4 +1,4 @@
--- The world that programs see of the rows of five tables.
+-- The world of the rows of five tables.
 use Rattle.std.specs.Prelude.{ℤ, pos, List, [], ◌∷◌, Bool, length, slice_index_or}
 use Rattle.std.specs.{Cmp.Lexicographic.pointwise, List.position_from, Ordering.int_eq}
 use Rattle.star_schema.specs.{Columns.bounds_in, Columns.column_dictionary, Columns.column_numbers, Columns.column_texts, Database.Database, Database.rows_in, Dictionary.low_in, Dictionary.high_in, Loadable.keys_of}
@@ -8,7 +8,7 @@ use Rattle.star_program.specs.World.{World}
 abbrev pub is_key : ℤ → List ℤ → Bool
 is_key n key = pointwise int_eq key (n ∷ [])
 
--- the code of a text is how many of its column's different texts are less than it
+-- the code of a text is the number of its column's smaller distinct texts
 abbrev pub world_of : Database → World
 world_of database = record {
   size = λ t. length (rows_in database t);

@@ -1,4 +1,4 @@
-//! Laws of the world that programs see: functions with no body, whose clauses are the laws.
+//! Laws of the world of a program: functions with empty bodies, whose clauses are the laws.
 
 ghost use Rattle.star_schema.specs.Database.{Database};
 ghost use Rattle.star_schema.specs.Loadable.{IsSound};
@@ -6,14 +6,14 @@ ghost use Rattle.star_program.specs.World.{IsLoaded};
 ghost use Rattle.star_world.specs.RowsSeen.{IsWorldOf};
 ghost use Rattle.star_world.specs.WorldOf.{world_of};
 
-/// In the world of sound rows each column's bounds hold its numbers, the codes of a column are less
-/// than the number of its different texts, and each foreign key is found.
+/// States that in the world of sound rows each column's bounds hold its numbers, each code of a
+/// column is less than the number of its distinct texts, and each foreign key is found.
 pub fn sound_rows_are_loaded()
     ensures { (database : Database) → IsSound database → IsLoaded (world_of database) }
 {}
 
-/// The world of sound rows shows them: numbers, codes that compare as the texts do, and the one row
-/// of each key.
+/// States that the world of sound rows is a world of these rows: it has their numbers, codes that
+/// compare as the texts do, and the one row of each key.
 pub fn sound_rows_have_a_world()
     ensures { (database : Database) → IsSound database → IsWorldOf database (world_of database) }
 {}

@@ -1,7 +1,6 @@
-//! The world that programs see of the rows of five tables.
+//! The world of a program: what it can see of the rows of five tables.
 //!
-//! What it is, and what it shows of each column, stands in `specs/`: what runs, admits or makes
-//! programs cites it.
+//! `specs/` defines it. The crates that run, verify or compile programs cite these definitions.
 #![tactic(auto)]
 
 pub mod law;

@@ -1,4 +1,4 @@
--- What an emitter has written, and what of a compiled program it writes next.
+-- The code that an emitter has written, and the piece of a program that it writes next.
 use Rattle.std.specs.Prelude.{◌≡◌, ℕ, ◌+◌, ◌≤◌, List, [], ◌∷◌, ◌++◌}
 use Rattle.star_schema.specs.declared.column.ColumnId.{ColumnId}
 use Rattle.star_plan.specs.declared.tree.Join.{Join}
@@ -14,7 +14,7 @@ abbrev pub steps_then : List Step → Code → Code
 steps_then [] k = k
 steps_then (s ∷ steps) k = step.before s (steps_then steps k)
 
--- what is known where an emitter writes next
+-- the state at the next instruction
 abbrev pub env_of : Emitter → Env
 env_of e = record { next = e.next; loaded = e.loaded.items; found = e.found.items }
 
@@ -23,42 +23,41 @@ pub record Completed : Type 0 where
   pub code : Code
   pub registers : ℕ
 
--- some code behind what an emitter has written, and how many registers are numbered where it ends
+-- some code after the code of an emitter, and the number of registers at its end
 unfoldable pub completed : Emitter → Code → Completed
 completed e k = record {
   code = steps_then e.steps.items k;
   registers = e.next + register_count k;
 }
 
--- an emitter has gone from the old to the new by writing a piece: whatever is to come after the
--- piece comes after what is written
+-- the emitter has written a piece: whatever code follows the piece follows the written code
 pub record Wrote (old new : Emitter) (piece : Env → (Env → Code) → Code) : Type 0 where
   pub same : (k : Env → Code) → completed new (k (env_of new)) ≡ completed old (piece (env_of old) k)
 
--- the same of a piece whose result is x
+-- the same for a piece with the result x
 pub record Writes {A : Type 0} (old new : Emitter) (piece : Env → (Env → A → Code) → Code) (x : A)
     : Type 0 where
   pub same : (k : Env → A → Code) → completed new (k (env_of new) x) ≡ completed old (piece (env_of old) k)
 
--- a piece is to be written, and with it and with some code after it a program has at most 4,096
+-- a piece is to be written; a program with it and with some code after it has at most 4,096
 -- registers
 pub record HasRegisterRoom {K : Type 0} (e : Emitter) (piece : Env → K → Code) : Type 0 where
   pub rest : K
   pub fits : (completed e (piece (env_of e) rest)).registers ≤ 4096
 
--- columns behind some registers
+-- columns, after some registers
 abbrev pub keys_after : List Join → List ColumnId → List ℕ → Env → Rests → Code
 keys_after js [] so_far env k = k env so_far
 keys_after js (c ∷ cs) so_far env k =
     column_code js c env (λ e x. keys_after js cs (so_far ++ x ∷ []) e k)
 
--- the value of an aggregate behind some registers
+-- the value of an aggregate, after some registers
 abbrev pub value_after : List Join → Measure ColumnId → List ℕ → Env → Rests → Code
 value_after js count so_far env k = k env so_far
 value_after js (fold f a) so_far env k =
     expression_code js a env (λ e x. k e (so_far ++ x ∷ []))
 
--- the values of aggregates behind some registers
+-- the values of aggregates, after some registers
 abbrev pub values_after : List Join → List (Measure ColumnId) → List ℕ → Env → Rests → Code
 values_after js [] so_far env k = k env so_far
 values_after js (m ∷ ms) so_far env k =

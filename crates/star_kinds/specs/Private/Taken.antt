@@ -1,4 +1,4 @@
--- What the operands of instructions may be.
+-- The kinds that an instruction allows its operands.
 use Rattle.std.specs.Prelude.{Bool}
 use Rattle.star_program.specs.declared.value.Kind.{Kind}
 use Rattle.star_program.specs.Faults.{is_number_kind, is_flag_kind, is_row_kind, is_ordered, compares_with, fits_key}

@@ -1,4 +1,4 @@
--- What refuses a program, by one pass over its code.
+-- The first refusal of a program, found by one pass over its code.
 use Rattle.std.specs.Prelude.{ℕ, ◌+◌, Bool, false, ◌||◌, Option, None}
 use Rattle.std.specs.Option.{option_or}
 use Rattle.star_program.specs.declared.program.Parts.{Parts}
@@ -14,15 +14,15 @@ code_puts_to g Stop = false
 code_puts_to g (Then op rest) = op_puts_to g op || code_puts_to g rest
 code_puts_to g (Each table r body rest) = code_puts_to g body || code_puts_to g rest
 
--- what some code puts to is open, or was open already
+-- some code puts to the group, or the group was pending already
 abbrev pub open_with : (ℕ → Bool) → Code → ℕ → Bool
 open_with pending code g = pending g || code_puts_to g code
 
 abbrev pub none_open : ℕ → Bool
 none_open g = false
 
--- the first instruction of some code that is refused, where these groups are put to after it or in
--- a scan round it, and instructions are numbered from here on; and why
+-- the first refused instruction of some code, with its reason; these groups are put to after it or
+-- in an enclosing scan, and instructions are numbered from here on
 abbrev pub first_reason : World → Parts → (ℕ → Bool) → Context → ℕ → Code → Option (ℕ × Reason)
 first_reason w parts pending x at Stop = None
 first_reason w parts pending x at (Then op rest) =

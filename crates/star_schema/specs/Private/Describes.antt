@@ -1,4 +1,4 @@
--- What the code keeps of a column, beside what the schema says of it.
+-- The code's entry of a column, compared with the schema's.
 use Rattle.std.specs.Prelude.{◌≡◌}
 use Rattle.star_schema.specs.declared.column.Column.{Column as Kept}
 use Rattle.star_schema.specs.Schema.{Column}

@@ -5,7 +5,8 @@ use Rattle.star_statements.specs.Blanks.{without_blanks}
 use Rattle.star_common.specs.WhiteSpace.{is_blank}
 use Rattle.star_statements.specs.Statements.{joined_to_first, statements_of}
 
--- what is kept of a statement: no blanks before it, and at most one byte more than it may have
+-- the retained text of a statement: leading blanks are dropped, and at most one byte above the
+-- maximum length is retained
 unfoldable pub kept : List ℕ → List ℕ
 kept statement = take 65537 (without_blanks statement)
 
@@ -13,30 +14,30 @@ abbrev pub is_empty : List ℕ → Bool
 is_empty [] = true
 is_empty (c ∷ rest) = false
 
--- what is kept once a byte more is read
+-- the retained text after one more byte
 abbrev pub with_byte : List ℕ → ℕ → List ℕ
 with_byte text c =
     if (is_empty text && is_blank c) || nat_lt 65536 (length text) then text
     else text ++ c ∷ []
 
--- whether there is a semicolon with blanks alone behind it, once a byte more is read
+-- whether there is a semicolon with only blanks after it, after one more byte
 abbrev pub ends_behind : Bool → ℕ → Bool
 ends_behind ends c = (c == 59) || (ends && is_blank c)
 
--- whether a byte ends a statement: the line end behind such a semicolon
+-- whether a byte ends a statement: it is the line end after such a semicolon
 abbrev pub closes_statement : Bool → ℕ → Bool
 closes_statement ends c = ends && (c == 10)
 
--- a text, cut behind each line end before which there are a semicolon and blanks; there may be such
--- a semicolon before the text
+-- a text, cut after each line end before which there is a semicolon, blanks ignored; the flag says
+-- whether there is such a semicolon before the text
 unfoldable pub cut_statements : Bool → List ℕ → List (List ℕ)
 cut_statements ends [] = [] ∷ []
 cut_statements ends (c ∷ rest) =
     if closes_statement ends c then (c ∷ []) ∷ cut_statements false rest
     else joined_to_first (c ∷ []) (cut_statements (ends_behind ends c) rest)
 
--- a statement that has begun, and that no line has ended yet, where a reader has these bytes left before
--- and behind it
+-- a statement that no line has ended yet, given the remaining bytes of the reader before and after
+-- it
 pub record IsDraft (old new : Option (List ℕ)) (text : List ℕ) (ends : Bool)
     (begun : List ℕ) : Type 0 where
   pub read : Consumes old new begun

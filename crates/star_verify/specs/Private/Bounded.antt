@@ -1,4 +1,4 @@
--- How large the sums of a tally are: few numbers of 64 bits each.
+-- The size of a tally's sums: few numbers of 64 bits each.
 use Rattle.std.specs.Prelude.{◌≤◌, ◌*◌, ◌^◌, ◌+ℤ◌, ◌≤ℤ◌, pos}
 use Rattle.star_verify.specs.declared.tally.Tally.{Tally}
 

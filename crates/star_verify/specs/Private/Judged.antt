@@ -1,4 +1,4 @@
--- What a check answers of an instruction, and what it keeps for the next.
+-- The result of the check of an instruction, and the state for the next.
 use Rattle.std.specs.Prelude.{◌≡◌, ◌*◌, ◌+◌, ◌≤◌, ◌^◌, ℕ, Bool, length, Option, Some, None, Result, MatchResult}
 use Rattle.std.specs.Option.{option_or}
 use Rattle.star_common.specs.Memory.{UnlessMemory}
@@ -24,13 +24,13 @@ use Rattle.star_verify.specs.Private.Kept.{AreMarked, AreTalliesFew, HasKeyShare
 use Rattle.star_verify.specs.Private.Views.{known_in}
 use Rattle.star_verify.specs.Views.{refusal_view}
 
--- this reason at this instruction, or want of memory
+-- this reason at this instruction, or out of memory
 abbrev pub IsFirst : Refusal → Option (ℕ × Reason) → Type 0
 IsFirst told.OutOfMemory found = Unit {0}
 IsFirst (told.Refused at reason) found = found ≡ Some (at, reason)
 IsFirst _ found = ⊥
 
--- ---- what is kept
+-- ---- the state
 
 -- as many registers as are declared, a flag for each, and eight tallies of aggregates and eight of
 -- keys for each of eight groups
@@ -58,13 +58,13 @@ abbrev pub AreFewAt : Noted → ℕ → Type 0
 AreFewAt noted at =
     AreTalliesFew noted.tallies.items (at * 10 ^ 15) × AreTalliesFew noted.keys.items (at * 10 ^ 15)
 
--- a check may go on from an instruction, which is met no more often than any run may visit
+-- the check may continue at an instruction that is executed no more often than any run may visit
 pub record IsReady (parts : Parts) (place : Place) (noted : Noted) : Type 0 where
   pub met : place.met ≤ 10 ^ 15
   pub sized : IsSized parts noted
   pub few : AreFewAt noted place.at
 
--- what holds in each world that the facts are of, and in each context that is kept at this place
+-- what holds in each world with these facts, and in each context with the state at this position
 abbrev pub InEachContext : Subject → Place → Noted
     → (World → Context → (ℕ → Bool) → Type 0) → Type 0
 InEachContext subject place noted Holds =
@@ -72,20 +72,20 @@ InEachContext subject place noted Holds =
     → KeepsContext subject.parts.now noted x → IsPlaceOf place x
     → AreMarked subject.parts.now place.pending pending → Holds w x pending
 
--- ---- what is answered
+-- ---- results
 
--- Ok where there is no reason, with what is kept then, else the reason
+-- Ok without a reason, with the state then, otherwise the reason
 abbrev pub TellsReason : Result (Unit {0}) Refusal → ℕ → Option Reason → Type 0 → Type 0
 TellsReason result at reason Kept =
     MatchResult result (λ _. (reason ≡ None) × Kept)
     (λ refusal. IsFirst refusal (at_place at reason))
 
--- Ok where nothing refuses some code, with what is kept then, else what does first
+-- Ok if nothing refuses some code, with the state then, otherwise the first refusal
 abbrev pub IsWalked : Result ℕ Refusal → Option (ℕ × Reason) → Type 0 → Type 0
 IsWalked result first Kept =
     MatchResult result (λ _. (first ≡ None) × Kept) (λ refusal. IsFirst refusal first)
 
--- what refuses a scan or its body first
+-- the first refusal of a scan or its body
 abbrev pub scan_first : World → Parts → (ℕ → Bool) → Context → ℕ → TableId → ℕ → Code
     → Option (ℕ × Reason)
 scan_first w parts pending x at table r body =
@@ -94,8 +94,8 @@ scan_first w parts pending x at table r body =
 
 -- ---- a whole program
 
--- Ok with its quote and what is put to the keys of its groups, in 64 tallies, where nothing refuses it, else what does
--- first, or want of memory
+-- Ok with its quote and what is put to the keys of its groups, in 64 tallies, if nothing refuses
+-- it; otherwise the first refusal, or out of memory
 abbrev pub IsChecked : Result Accepted Refusal → World → ℕ → Parts → Type 0
 IsChecked result w most parts =
     MatchResult result

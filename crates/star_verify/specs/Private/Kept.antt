@@ -1,4 +1,4 @@
--- What a check keeps between instructions, as the context of the next.
+-- The verifier state between instructions, as the context of the next one.
 use Rattle.std.specs.Prelude.{◌≡◌, ◌+◌, ◌*◌, ◌<◌, ◌≤◌, ◌^◌, ℕ, Bool, false, List, length, map, pos, slice_index_or, Option, Some}
 use Rattle.star_schema.specs.declared.group.Aggregate.{Aggregate}
 use Rattle.star_interval.specs.Range.{only}
@@ -26,24 +26,24 @@ HasKeyShares parts tallies x =
     (g : ℕ) → g < length parts.groups → (place : ℕ) → place < length (group_at parts g).keys
     → IsTallyAt tallies (8 * g + place) (x.keys_so_far g place)
 
--- what is known of the numbers of a put, one for each aggregate
+-- the facts of a put's numbers, one for each aggregate
 abbrev pub numbers_known : List Aggregate → ranges.AllKnown → List ℕ → List (Option ranges.Known)
 numbers_known aggregates known values =
     aligned (Some (ranges.known_number (only (pos 1)))) aggregates (map known values)
 
 -- ---- how much is put
 
--- a tally takes `times` numbers more
+-- a tally has room for `times` more numbers
 pub record HasTallyRoom (tally : Tally) (times : ℕ) : Type 0 where
   pub bounded : IsBounded tally
   pub room : tally.many + times ≤ 2 ^ 62
 
--- of at most `times` numbers more than before
+-- a tally has at most `times` numbers more than before
 pub record IsTallyGrown (old new : Tally) (times : ℕ) : Type 0 where
   pub bounded : IsBounded new
   pub many : new.many ≤ old.many + times
 
--- each tally is of at most `most` numbers
+-- each tally has at most `most` numbers
 abbrev pub AreTalliesFew : List Tally → ℕ → Type 0
 AreTalliesFew tallies most =
     (p : ℕ) (t : Tally) → p < length tallies

@@ -1,4 +1,4 @@
--- What is known of what an instruction makes, or what leaves 64 bits.
+-- The facts of an instruction's result, or the range that leaves 64 bits.
 use Rattle.std.specs.Prelude.{◌≡◌, ◌+◌, ◌<◌, ℕ, List, length, slice_index_or, Option, Some, None, Result, MatchResult}
 use Rattle.star_schema.specs.declared.group.Aggregate.{Aggregate}
 use Rattle.star_program.specs.World.{World}
@@ -16,7 +16,7 @@ abbrev pub beyond_view : World → Beyond → Reason
 beyond_view w beyond =
     Overflow beyond.range.low beyond.range.high (reached w (reach_view beyond.reach))
 
--- Ok with what is known where there is no reason, else the reason, which tells what leaves 64 bits
+-- Ok with the facts without a reason, otherwise the reason, with the range that leaves 64 bits
 abbrev pub IsMade : World → Result Known Beyond → ranges.Known → Option Reason → Type 0
 IsMade w result k reason =
     MatchResult result (λ known. (known_view known ≡ k) × (reason ≡ None))
@@ -24,11 +24,11 @@ IsMade w result k reason =
 
 -- ---- tallies in a list
 
--- the tally of a place is that of some shares
+-- the tally at an index is that of some shares
 abbrev pub IsTallyAt : List Tally → ℕ → List Share → Type 0
 IsTallyAt tallies place ss = (t : Tally) → IsTally (slice_index_or tallies place t) ss
 
--- from a place on stands the tally of each aggregate
+-- the tallies of the aggregates begin at an index
 abbrev pub AreTallies : List Tally → ℕ → List Aggregate → (ℕ → List Share) → Type 0
 AreTallies tallies first aggregates shares =
     (a : ℕ) → a < length aggregates → IsTallyAt tallies (first + a) (shares a)

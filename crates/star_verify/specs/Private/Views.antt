@@ -1,4 +1,4 @@
--- What the check keeps, in the words of the definitions.
+-- The verifier state as definitions see it.
 use Rattle.std.specs.Prelude.{◌≡◌, nat_eq, List, slice_index_or, Option, None}
 use Rattle.std.specs.Option.{option_map}
 use Rattle.std.specs.Int.{bit_at}
@@ -25,14 +25,14 @@ known_view (known.Place c) = ranges.KnownPlace c
 known_view (known.Row t) = ranges.KnownRow t
 known_view known.Flag = ranges.KnownFlag
 
--- what some puts give an aggregate
+-- the contributions of some puts to an aggregate
 pub record IsTally (tally : Tally) (ss : List Share) : Type 0 where
   pub sum : wide_range_of tally.sum ≡ sum_range ss
   pub many : tally.many ≡ most_of ss
   pub each : option_map range_of tally.each ≡ hull_of ss
   pub reach : reach_view tally.reach ≡ reach_of ss
 
--- what is known of registers, by their numbers
+-- the facts of registers, by number
 abbrev pub known_of : Register → Option ranges.Known
 known_of register = option_map known_view register.known
 

@@ -1,4 +1,4 @@
--- A walk over the steps of a body: what it answers of one step, and how far it is.
+-- The check of the steps of a body: the result of one step, and its progress.
 use Rattle.std.specs.Prelude.{◌≡◌, ◌+◌, ◌≤◌, ◌^◌, ℕ, Bool, List, Option}
 use Rattle.star_schema.specs.Sizes.{size_of}
 use Rattle.star_program.specs.declared.body.Step.{Step}
@@ -20,7 +20,7 @@ use Rattle.star_verify.specs.Private.Judged.{InEachContext, IsPlaceOf, IsReady, 
 
 -- ---- a step
 
--- what refuses it first, or what is in it, where such code follows
+-- its first refusal, or that of its body, if such code follows
 abbrev pub step_first : World → Parts → (ℕ → Bool) → Context → ℕ → Step → Code
     → Option (ℕ × Reason)
 step_first w parts pending x at (Act op) rest =
@@ -33,27 +33,27 @@ after_step w parts x (Act op) = after_op w parts x op
 after_step w parts x (Scan table r body) =
     after_scan x (at_end w parts (in_scan w x table r) body)
 
--- how many instructions it is
+-- its number of instructions
 abbrev pub step_size : Step → ℕ
 step_size (Act op) = 1
 step_size (Scan table r body) = 1 + code_size body
 
--- ---- how far a walk is
+-- ---- progress
 
--- what is first of some code is what is first of this rest of it, in the context there
+-- the first refusal of some code is that of this suffix, in the context there
 pub record IsRest (w : World) (parts : Parts) (pending : ℕ → Bool) (x : Context) (at : ℕ)
     (all : Code) (there : Context) (now : ℕ) (rest : Code) : Type 0 where
   pub first : first_reason w parts pending x at all ≡ first_reason w parts pending there now rest
   pub after : at_end w parts x all ≡ at_end w parts there rest
 
--- what a walk was given
+-- the input of the check of a body
 pub record Walk : Type 0 where
   pub subject : Subject
   pub place : Place
   pub noted : Noted
   pub steps : List Step
 
--- these steps are left, from the instruction of this number on, with what is kept there
+-- these steps remain, from the instruction with this number on, with the state there
 pub record AreStepsLeft (walk : Walk) (noted : Noted) (at : ℕ) (left : List Step) : Type 0 where
   pub past : walk.place.at ≤ at
   pub size : at + code_size (code_of_steps left)
