@@ -31,6 +31,11 @@ HABITS = (
     habit("is left, is met", r"\b(?:is|are) (?:left|met)\b", 0.2),
 )
 NOT_PROSE = re.compile(r"```.*?```|^    [^\n]*$|`[^`\n]*`", re.M | re.S)
+COMMENT = re.compile(r"^\s*(?://[/!]?|--) (.*)$", re.M)
+# The crates whose docstrings and comments have been counted so far.
+CRATES_IN_BOUNDS = (
+    "star_common star_interval star_statements star_schema star_kinds star_world star_safety star_verify star_report star_compile"
+).split()
 
 
 def prose_of(files: list[Path]) -> str:
@@ -38,11 +43,16 @@ def prose_of(files: list[Path]) -> str:
     return "\n".join(NOT_PROSE.sub(" ", file.read_text(encoding="utf-8")) for file in files)
 
 
-def habits_above(files: list[Path]) -> Iterator[str]:
-    """Yields each habit that occurs more often than its bound, with its rate in 1,000 words."""
-    text = prose_of(files)
+def comments_of(crates: Path) -> str:
+    """Returns the docstrings and comments of the crates' sources and definitions, without quoted code."""
+    sources = (file for name in CRATES_IN_BOUNDS for part in ("src", "specs") for file in sorted((crates / name / part).rglob("*.*t")))
+    return NOT_PROSE.sub(" ", "\n".join(line for file in sources for line in COMMENT.findall(file.read_text(encoding="utf-8"))))
+
+
+def habits_above(text: str, place: str) -> Iterator[str]:
+    """Yields each habit that occurs more often than its bound in a text, with its rate in 1,000 words."""
     words = max(1, len(re.findall(r"\w+", text)))
     for name, pattern, bound in HABITS:
         rate = len(pattern.findall(text)) * 1000 / words
         if rate > bound:
-            yield f"habit of English above its bound: {name}, {rate:.1f} in 1,000 words, bound {bound}"
+            yield f"habit of English above its bound in {place}: {name}, {rate:.1f} in 1,000 words, bound {bound}"
