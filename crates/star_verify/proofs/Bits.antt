@@ -1,12 +1,6 @@
 -- Sets of columns as the bits of a number.
 use Rattle.std.proofs.Common.{◌≡◌, ◌<◌, ◌≤◌, ◌^◌, ◌*◌, ◌%◌, ℕ, zero, suc, max, arith, ap, sym, ◌∙◌, refl, inl, inr}
-use Rattle.std.proofs.Math.Nat.{mod-eq_of_lt}
-use Rattle.std.proofs.Math.Pow.{pow_mono}
-use Rattle.std.proofs.lemmas.Bool.Decides.{eqb_tells}
-use Rattle.std.proofs.lemmas.Nat.Bits.{bit_at-pow_same, bit_at-pow_other, bit_at_or, bit_at-lt}
-use Rattle.std.specs.Int.{bit_at}
-use Rattle.std.specs.Int.Bits.{bit_or}
-use Rattle.std.specs.Prelude.{◌||◌, nat_eq}
+use Rattle.star_verify.proofs.Common.{bit_at, bit_at-lt, bit_at-pow_other, bit_at-pow_same, bit_at_or, bit_or, eqb_tells, mod-eq_of_lt, nat_eq, pow_mono, ◌||◌}
 
 pub bit_is : (k i : ℕ) → nat_eq (bit_at (2 ^ k) i) 1 ≡ nat_eq k i
 bit_is k i = elim (eqb_tells k i) [

@@ -1,7 +1,6 @@
 -- The elements that a test picks, one after another.
 use Rattle.std.proofs.Common.{◌≡◌, ◌<◌, ◌+◌, ℕ, Bool, true, false, List, ◌∷◌, length, map, drop, get_or, cond, ap, sym, ◌∙◌, add-one}
-use Rattle.std.proofs.Math.Seq.{drop-cons}
-use Rattle.std.specs.List.{filter}
+use Rattle.star_verify.proofs.Common.{drop-cons, filter}
 
 module _ {X Y : Type 0} (p : X → Bool) (f : X → Y) (xs : List X) (i : ℕ) (d : X) where
   next : i < length xs → map f (filter p (drop i xs))

@@ -1,19 +1,6 @@
 -- The bounds of the columns, one column after another.
 use Rattle.std.proofs.Common.{◌≡◌, ◌≢◌, ◌<◌, ◌≤◌, ◌+◌, true≢false, ℕ, Bool, true, false, List, length, get_or, arith, ap, sym, ◌∙◌, refl, get_or-set_other, get_or-set_same}
-use Rattle.std.specs.Prelude.{nat_eq, slice_set}
-use Rattle.std.proofs.lemmas.Bool.Decides.{Decides-eqb}
-use Rattle.std.proofs.lemmas.Option.{get_or_from_slice_get}
-use Rattle.star_schema.specs.Schema.{index_of}
-use Rattle.star_schema.specs.Sizes.{size_of}
-use Rattle.star_schema.specs.declared.column.ColumnId.{ColumnId}
-use Rattle.star_schema.specs.declared.column.TheConstants.{COLUMNS}
-use Rattle.star_schema.specs.declared.sizes.Sizes.{Sizes}
-use Rattle.star_schema.specs.declared.table.TableId.{TableId}
-use Rattle.star_schema.proofs.Same.{at_index, column_same, index_within}
-use Rattle.star_interval.specs.declared.Interval.{Interval}
-use Rattle.star_interval.specs.Interval.{range_of}
-use Rattle.star_program.specs.World.{World}
-use Rattle.star_verify.specs.Facts.{AreBoundsBefore, AreFacts}
+use Rattle.star_verify.proofs.Common.{AreBoundsBefore, AreFacts, COLUMNS, ColumnId, Decides-eqb, Interval, Sizes, TableId, World, at_index, column_same, get_or_from_slice_get, index_of, index_within, nat_eq, range_of, size_of, slice_set}
 
 module _ (w : World) (bounds : List Interval) (k : ℕ) (d : ColumnId) (new : Interval) where
   pub one_more : length bounds ≡ 58 → AreBoundsBefore w bounds k

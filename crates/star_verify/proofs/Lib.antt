@@ -1,3 +1,4 @@
+mod Common
 mod WorkedTexts
 mod Turns
 mod Lines
@@ -11,11 +12,11 @@ mod Registers
 mod Marks
 mod Made
 mod Firsts
-mod Giving
+mod Contributing
 mod Writing
-mod Judging
-mod Placing
-mod Walking
+mod CheckingInstructions
+mod Positions
+mod CheckingSteps
 mod ColumnBounds
 mod Starting
 mod Refusing

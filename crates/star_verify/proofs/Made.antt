@@ -1,14 +1,7 @@
 -- What is known of what an instruction makes, where it leaves 64 bits nowhere.
 use Rattle.std.proofs.Common.{◌≡◌, Some, None, Result, Ok, Err, subst, ◌∙◌}
-use Rattle.std.specs.Prelude.{IfOk, MatchResult}
-use Rattle.star_interval.specs.Range.{Range}
-use Rattle.star_program.specs.World.{World}
+use Rattle.star_verify.proofs.Common.{Beyond, IfOk, IsMade, Known, MatchResult, Range, World, beyond_view, known_view, overflow, overflow_of}
 use Rattle.star_safety.specs.Ranges as ranges
-use Rattle.star_safety.specs.Refusals.{overflow, overflow_of}
-use Rattle.star_verify.specs.declared.known.Beyond.{Beyond}
-use Rattle.star_verify.specs.declared.known.Known.{Known}
-use Rattle.star_verify.specs.Private.Made.{IsMade, beyond_view}
-use Rattle.star_verify.specs.Private.Views.{known_view}
 
 pub made_as : (w : World) (result : Result Known Beyond) (k made : ranges.Known) → k ≡ made
     → IfOk result (λ known. known_view known ≡ k)

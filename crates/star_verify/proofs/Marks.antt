@@ -1,8 +1,6 @@
 -- Groups that are marked, one after another.
 use Rattle.std.proofs.Common.{◌≡◌, ◌<◌, ℕ, Bool, true, false, List, length, get_or, ap, sym, ◌∙◌, ⊎_elim, refl}
-use Rattle.std.proofs.lemmas.Bool.Decides.{eqb_tells}
-use Rattle.std.proofs.lemmas.List.{get_or-set_same, get_or-set_other}
-use Rattle.std.specs.Prelude.{◌||◌, nat_eq, slice_set}
+use Rattle.star_verify.proofs.Common.{eqb_tells, get_or-set_other, get_or-set_same, nat_eq, slice_set, ◌||◌}
 
 pub or_none : (a : Bool) → a || false ≡ a
 or_none true = refl

@@ -1,8 +1,6 @@
 -- How large a 64-bit number is that is taken some times.
 use Rattle.std.proofs.Common.{◌≤◌, ◌*◌, ◌^◌, ℕ, suc, ℤ, pos, negsuc, ◌+ℤ◌, ◌*ℤ◌, FitsSigned, w64, arith}
-use Rattle.std.specs.Prelude.{◌≤ℤ◌}
-use Rattle.std.proofs.lemmas.Int.{ints}
-use Rattle.std.proofs.Math.Nat.{mul-le-mul_left}
+use Rattle.star_verify.proofs.Common.{ints, mul-le-mul_left, ◌≤ℤ◌}
 use borrow.Author.Differences.{up, down, product_is}
 
 pub above : (n : ℕ) (z : ℤ) → down z ≤ 2 ^ 63 → pos 0 ≤ℤ (pos n *ℤ z +ℤ pos (n * 2 ^ 63))

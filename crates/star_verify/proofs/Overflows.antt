@@ -1,15 +1,7 @@
 -- What arithmetic makes of two registers, and where it leaves 64 bits.
 use Rattle.std.proofs.Common.{◌≡◌, Bool, true, false, Option, Some, None, Result, ap, subst, ◌∙◌, refl}
-use Rattle.std.specs.Prelude.{ℤ, MatchResult, not}
-use Rattle.star_interval.specs.Range.{Range, FitsI64, corner_range, fits_i64}
-use Rattle.star_interval.proofs.Ranges.{fits_i64_fits}
-use Rattle.star_program.specs.World.{World}
+use Rattle.star_verify.proofs.Common.{Beyond, FitsI64, Known, MatchResult, Overflow, Range, World, corner_range, fits_i64, fits_i64_fits, not, overflow_of, reach_view, reached, refuses, ℤ}
 use Rattle.star_safety.specs.Ranges as ranges
-use Rattle.star_safety.specs.declared.reason.Reason.TheVariants.{Overflow}
-use Rattle.star_safety.specs.Refusals.{overflow_of, reached, refuses}
-use Rattle.star_verify.specs.declared.known.Beyond.{Beyond}
-use Rattle.star_verify.specs.declared.known.Known.{Known}
-use Rattle.star_verify.specs.Private.Views.{reach_view}
 
 module _ (w : World) (r : Range) (reach : ranges.Reach) where
   pub fitting : FitsI64 r → overflow_of w (ranges.KnownNumber r reach None) ≡ None

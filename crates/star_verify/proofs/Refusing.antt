@@ -1,27 +1,8 @@
 -- What refuses a program first.
 use Rattle.std.proofs.Common.{◌≡◌, ◌<◌, ◌≤◌, ℕ, Option, Some, inl, inr, ap, refl, sym, subst, ◌∙◌}
-use Rattle.std.specs.Option.{option_map, option_or}
-use Rattle.std.proofs.lemmas.Bool.{le-leb, lt-leb}
-use Rattle.star_common.specs.First.{first_answer}
-use Rattle.star_common.specs.Memory.{UnlessMemory}
-use Rattle.star_schema.specs.Sizes.{size_of}
-use Rattle.star_program.specs.declared.program.Parts.{Parts}
-use Rattle.star_program.specs.ShowLines.{shown_fault}
-use Rattle.star_program.specs.World.{World}
+use Rattle.star_verify.proofs.Common.{AreFacts, Facts, IsFirst, Parts, Reason, Refusal, UnlessMemory, World, at_first, cost_refusal, first_answer, first_reason, first_refusal, first_standing, instructions_of, le-leb, lt-leb, none_open, option_map, option_or, quote, reason_of, refusal_view, shown_fault, size_of}
 use Rattle.star_safety.specs.Admissible as admissible
-use Rattle.star_safety.specs.Admissible.{cost_refusal, first_refusal}
-use Rattle.star_safety.specs.Contexts.{at_first}
-use Rattle.star_safety.specs.Private.Forward.{first_reason, none_open}
-use Rattle.star_safety.specs.Quote.{quote}
-use Rattle.star_safety.specs.declared.reason.Reason.{Reason}
-use Rattle.star_safety.specs.Standing.{instructions_of, reason_of}
-use Rattle.star_safety.proofs.Forward.{first_standing}
-use Rattle.star_verify.specs.declared.facts.Facts.{Facts}
-use Rattle.star_verify.specs.declared.refusal.Refusal.{Refusal}
 use Rattle.star_verify.specs.declared.refusal.Refusal.TheVariants as told
-use Rattle.star_verify.specs.Facts.{AreFacts}
-use Rattle.star_verify.specs.Private.Judged.{IsFirst}
-use Rattle.star_verify.specs.Views.{refusal_view}
 
 pub same_quote : (w : World) (facts : Facts) → AreFacts w facts → (parts : Parts) (visits : ℕ)
     → visits ≡ quote (size_of facts.sizes) parts → visits ≡ quote w.size parts
@@ -65,4 +46,4 @@ module _ (w : World) (most : ℕ) (parts : Parts) (facts : Facts) (are : AreFact
   first_told held is cheap (told.Refused at reason) first =
       inr (within held is cheap (Some (at, reason)) (shown_fault held) first refl)
   first_told held is cheap (told.TooCostly n) first = absurd first
-  first_told held is cheap (told.BadShow place) first = absurd first
+  first_told held is cheap (told.BadShow position) first = absurd first

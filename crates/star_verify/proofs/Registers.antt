@@ -1,14 +1,6 @@
 -- Registers in a list.
 use Rattle.std.proofs.Common.{◌≡◌, ℕ, ◌<◌, List, [], ◌∷◌, zero, suc, length, Some, sym, ap, ◌∙◌, ⊎_elim, get_or, refl}
-use Rattle.std.proofs.lemmas.Bool.Decides.{eqb_tells}
-use Rattle.std.proofs.lemmas.List.{get_or-set_same, get_or-set_other}
-use Rattle.std.specs.Prelude.{slice_set, if◌then◌else◌}
-use Rattle.star_kinds.specs.Kinds.{register_kinds}
-use Rattle.star_program.specs.Values.{with_entry}
-use Rattle.star_safety.specs.Ranges.{kinds_known}
-use Rattle.star_verify.specs.declared.known.Known.{Known}
-use Rattle.star_verify.specs.declared.register.Register.{Register}
-use Rattle.star_verify.specs.Private.Views.{kind_known, known_in, known_of, known_view, nothing_known}
+use Rattle.star_verify.proofs.Common.{Known, Register, eqb_tells, get_or-set_other, get_or-set_same, if◌then◌else◌, kind_known, kinds_known, known_in, known_of, known_view, nothing_known, register_kinds, slice_set, with_entry}
 
 known_set_at : (xs : List Register) (t : ℕ) (k : Known) (r : ℕ) → t < length xs
     → known_in (slice_set xs t (record { known = Some k })) r

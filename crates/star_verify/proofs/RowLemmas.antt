@@ -1,23 +1,7 @@
 -- The rows of all groupings, key by key.
 use Rattle.std.proofs.Common.{◌≡◌, ℕ, zero, suc, ◌+◌, ◌*◌, ◌-◌, ◌^◌, ◌≤◌, ◌<◌, Bool, true, false, List, [], ◌∷◌, Option, Some, None, length, map, refl, sym, ap, ◌∙◌, arith, inl, inr, ⊎_elim, true≢false}
-use Rattle.std.specs.Prelude.{ℤ, pos, negsuc, ◌-ℤ◌, ◌≤ℤ◌, ◌&&◌, not, nat_le, filter, unsigned_abs, if◌then◌else◌}
-use Rattle.std.specs.List.{list_all, sum_by}
-use Rattle.std.specs.Option.{is_none}
-use Rattle.std.proofs.lemmas.Bool.{leb-false}
-use Rattle.std.proofs.lemmas.Int.{ints}
-use Rattle.std.proofs.lemmas.List.Elements.{filter-append}
-use Rattle.std.proofs.lemmas.List.Sums.{sum_by-append, sum_by-cons}
-use Rattle.std.proofs.Math.Nat.{mul-le-mul_left, mul_assoc}
-use Rattle.star_schema.specs.declared.group.Shape.{Shape}
-use Rattle.star_schema.specs.declared.group.Shape.TheVariants.{Plain, Cube, Rollup}
-use Rattle.star_schema.specs.Groups.{is_grouping}
-use Rattle.star_program.specs.declared.program.Parts.{Parts}
-use Rattle.star_program.specs.Faults.{group_at}
-use Rattle.star_program.specs.Puts.{masks}
-use Rattle.star_program.specs.World.{World}
-use Rattle.star_safety.specs.MostRows.{all_key_shares, each_values, lists_of, most_report_rows, numbers_to, rows_of_grouping, rows_of_groupings, width}
-use Rattle.star_safety.specs.Tallies.{most_of}
-use Rattle.star_verify.specs.Private.Rows.{AgreeUpTo, MayHide, grouping_goes_on, groupings, lesser, may_hide, may_show, rows_behind, rows_of_rest}
+use Rattle.star_verify.proofs.Common.{AgreeUpTo, Cube, MayHide, Parts, Plain, Rollup, Shape, World, all_key_shares, each_values, filter-append, group_at, grouping_goes_on, groupings, if◌then◌else◌, ints, is_grouping, is_none, leb-false, lesser, list_all, lists_of, masks, may_hide, may_show, most_of, most_report_rows, mul-le-mul_left, mul_assoc, nat_le, negsuc, not, numbers_to, pos, rows_behind, rows_of_grouping, rows_of_groupings, rows_of_rest, sum_by, sum_by-append, sum_by-cons, unsigned_abs, width, ℤ, ◌&&◌, ◌-ℤ◌, ◌≤ℤ◌}
+use Rattle.std.specs.Prelude.{filter}
 
 -- ---- the width of a range
 

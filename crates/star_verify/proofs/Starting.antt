@@ -1,16 +1,6 @@
 -- What a check begins with.
 use Rattle.std.proofs.Common.{◌≡◌, ◌<◌, ◌+◌, ◌*◌, ℕ, false, [], get_or, arith, ap, sym, subst, ⊎_elim}
-use Rattle.std.specs.Prelude.{replicate}
-use Rattle.std.proofs.lemmas.Bool.{cases_lt}
-use Rattle.std.proofs.lemmas.List.{get_or-replicate, get_or_past, length-replicate}
-use Rattle.std.proofs.lemmas.List.Elements.{All-get_or}
-use Rattle.star_program.specs.Faults.{group_at}
-use Rattle.star_program.specs.Limits.{IsSmall, IsWithinLimits}
-use Rattle.star_program.specs.declared.program.Parts.{Parts}
-use Rattle.star_safety.specs.Contexts.{at_first}
-use Rattle.star_verify.specs.declared.tally.Tally.{Tally}
-use Rattle.star_verify.specs.Private.Kept.{HasKeyShares, HasShares, flag_at}
-use Rattle.star_verify.specs.Private.Views.{IsTally, known_in, known_of, nothing_known}
+use Rattle.star_verify.proofs.Common.{All-get_or, HasKeyShares, HasShares, IsSmall, IsTally, IsWithinLimits, Parts, Tally, at_first, cases_lt, flag_at, get_or-replicate, get_or_past, group_at, known_in, known_of, length-replicate, nothing_known, replicate}
 
 all_one : {X : Type 0} (n i : ℕ) (x : X) → get_or (replicate n x) i x ≡ x
 all_one n i x = ⊎_elim {C = get_or (replicate n x) i x ≡ x}

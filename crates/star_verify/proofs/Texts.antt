@@ -1,11 +1,7 @@
 -- Columns of numbers.
 use Rattle.std.proofs.Common.{◌≡◌, Bool, true, false, refl}
-use Rattle.std.specs.Prelude.{◌↔◌, IsTrue}
-use Rattle.star_schema.specs.declared.column.ColumnId.{ColumnId}
-use Rattle.star_schema.specs.declared.column.Kind.{Kind}
+use Rattle.star_verify.proofs.Common.{ColumnId, IsTrue, Kind, is_text, kind_of, ◌↔◌}
 use Rattle.star_schema.specs.declared.column.Kind.TheVariants as kind
-use Rattle.star_schema.specs.Schema.{kind_of}
-use Rattle.star_program.specs.World.{is_text}
 
 pub not_text : (c : ColumnId) (b : Bool) → (IsTrue b ↔ (kind_of c ≡ kind.Text)) → b ≡ false
     → is_text c ≡ false

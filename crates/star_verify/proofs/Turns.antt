@@ -1,9 +1,6 @@
 -- The turns of a scan and of what follows it.
 use Rattle.std.proofs.Common.{◌≡◌, ◌<◌, ◌≤◌, ◌+◌, ◌*◌, ◌^◌, ℕ, arith, ap, subst, sym, ◌∙◌}
-use Rattle.star_schema.specs.declared.table.TableId.{TableId}
-use Rattle.star_program.specs.Code.{Code, Each, scan_depth}
-use Rattle.star_safety.specs.Quote.{turns_met}
-use Rattle.star_safety.proofs.Nested.{body_nested, rest_nested, met_within}
+use Rattle.star_verify.proofs.Common.{Code, Each, TableId, body_nested, met_within, rest_nested, scan_depth, turns_met}
 
 pub inner : (times size : ℕ) (table : TableId) (r : ℕ) (body rest left : Code)
     → left ≡ Each table r body rest → size < 2 ^ 32

@@ -1,15 +1,6 @@
 -- What refusals print as, and where their words are told apart.
 use Rattle.std.proofs.Common.{◌≡◌, ◌∷◌, [], refl}
-use Rattle.std.specs.Fmt.{digits}
-use Rattle.std.specs.Prelude.{pos, neg_ℤ, codes}
-use Rattle.star_schema.specs.Schema.{column_of}
-use Rattle.star_schema.specs.declared.column.ColumnId.TheVariants.{LoExtendedprice, LoTax}
-use Rattle.star_program.specs.declared.fault.Fault.TheVariants.{WrittenTwice}
-use Rattle.star_safety.specs.declared.reason.Reason.TheVariants.{Faulty, NotAForeignKey, Overflow}
-use Rattle.star_verify.specs.declared.refusal.Refusal.TheVariants.{TooCostly, Refused, BadShow}
-use Rattle.star_program.specs.TrapTexts.{wrong_text}
-use Rattle.star_safety.specs.ReasonTexts.{reason_text}
-use Rattle.star_verify.specs.RefusalTexts.{refusal_text}
+use Rattle.star_verify.proofs.Common.{BadShow, Faulty, LoExtendedprice, LoTax, NotAForeignKey, Overflow, Refused, TooCostly, WrittenTwice, codes, column_of, digits, neg_ℤ, pos, reason_text, refusal_text, wrong_text}
 
 by_name : refusal_text (Refused 3 NotAForeignKey) ≡ codes "refused 65 NotAForeignKey at 3"
 unfolding digits refusal_text reason_text

@@ -1,9 +1,6 @@
 -- Registers that are written.
 use Rattle.std.proofs.Common.{◌≡◌, ◌<◌, ℕ, Bool, true, false, List, length, ap, sym, ◌∙◌, ⊎_elim, refl}
-use Rattle.std.proofs.lemmas.Bool.Decides.{eqb_tells}
-use Rattle.std.proofs.lemmas.List.{get_or-set_same, get_or-set_other}
-use Rattle.std.specs.Prelude.{◌||◌, nat_eq, slice_set}
-use Rattle.star_verify.specs.Private.Kept.{flag_at}
+use Rattle.star_verify.proofs.Common.{eqb_tells, flag_at, get_or-set_other, get_or-set_same, nat_eq, slice_set, ◌||◌}
 use Rattle.star_verify.proofs.Marks.{or_none}
 
 or_all : (a : Bool) → a || true ≡ true

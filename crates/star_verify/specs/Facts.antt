@@ -17,6 +17,6 @@ pub record AreFacts (w : World) (facts : Facts) : Type 0 where
 
 -- the bounds of the columns before a position among all are those of a world
 abbrev pub AreBoundsBefore : World → List Interval → ℕ → Type 0
-AreBoundsBefore w bounds place =
-    (c : ColumnId) (i : Interval) → index_of c < place
+AreBoundsBefore w bounds index =
+    (c : ColumnId) (i : Interval) → index_of c < index
     → i ≡ slice_index_or bounds (index_of c) i → range_of i ≡ w.bounds c

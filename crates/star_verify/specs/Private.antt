@@ -3,6 +3,6 @@ pub mod Views
 pub mod Bounded
 pub mod Made
 pub mod Kept
-pub mod Judged
+pub mod CheckResults
 pub mod Rows
-pub mod Walked
+pub mod StepResults

@@ -8,15 +8,15 @@ ghost use Rattle.star_safety.specs.Contexts.{at_end, at_first};
 ghost use Rattle.star_safety.specs.Private.Forward.{first_reason, none_open};
 ghost use Rattle.star_safety.specs.Quote as spec;
 ghost use Rattle.star_verify.specs.Facts.{AreFacts};
-ghost use Rattle.star_verify.specs.Private.Judged.{AreFewAt, IsChecked, IsFirst, IsSized, KeepsContext};
+ghost use Rattle.star_verify.specs.Private.CheckResults.{AreFewAt, IsChecked, IsFirst, IsSized, KeepsContext};
 ghost use Rattle.star_verify.specs.Private.Kept.{HasKeyShares};
 
 use crate::facts::Facts;
-use crate::instructions::{Noted, Place};
+use crate::input::CheckInput;
+use crate::instructions::{Position, VerifierState};
 use crate::refusal::Refusal;
 use crate::register::Register;
 use crate::report::misnamed_line;
-use crate::subject::Subject;
 use crate::tally::{TALLIES, Tally};
 use crate::visits::quote;
 use star_program::{MOST_GROUPS, Parts, Program};
@@ -25,14 +25,14 @@ use std::alloc::{AllocError, Global};
 
 // Returns the verifier state before the first instruction: no register fact, no written register,
 // no put.
-fn nothing_noted(alloc: Global, parts: &Parts) -> Result<Noted, AllocError>
+fn empty_state(alloc: Global, parts: &Parts) -> Result<VerifierState, AllocError>
     requires { IsWithinLimits parts.now }
-    ensures kept { IfOk result (λ noted. KeepsContext parts.now noted at_first) }
-    ensures sized { IfOk result (λ noted. IsSized parts.now noted) }
-    ensures few { IfOk result (λ noted. AreFewAt noted 1) }
+    ensures kept { IfOk result (λ state. KeepsContext parts.now state at_first) }
+    ensures sized { IfOk result (λ state. IsSized parts.now state) }
+    ensures few { IfOk result (λ state. AreFewAt state 1) }
 {
     let count = parts.registers as usize;
-    Ok(Noted {
+    Ok(VerifierState {
         registers: vec![in alloc; Register { known: None }; count]?,
         written: vec![in alloc; false; count]?,
         tallies: vec![in alloc; Tally::none(); TALLIES]?,
@@ -53,21 +53,21 @@ fn check_instructions(alloc: Global, parts: &Parts, facts: &Facts) -> Result<Vec
         (λ refusal. IsFirst refusal
         (first_reason w parts.now none_open at_first 1 parts.now.body)) }
 {
-    let mut noted = nothing_noted(alloc, parts)?;
+    let mut state = empty_state(alloc, parts)?;
     let pending = [false; MOST_GROUPS];
-    let first = Place {
+    let first = Position {
         at: 1,
         inside: false,
         met: 1,
         pending,
     };
-    let subject = Subject {
+    let input = CheckInput {
         alloc,
         parts,
         facts,
     };
-    subject.walk(&mut noted, first, parts.body.as_slice())?;
-    let Noted { keys, .. } = noted;
+    input.check_steps(&mut state, first, parts.body.as_slice())?;
+    let VerifierState { keys, .. } = state;
     Ok(keys)
 }
 

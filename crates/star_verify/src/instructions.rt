@@ -14,18 +14,18 @@ ghost use Rattle.star_safety.specs.Ranges.{kinds_known};
 ghost use Rattle.star_safety.specs.declared.reason.Reason.TheVariants.{Faulty};
 ghost use Rattle.star_safety.specs.Refusals.{op_reason, range_reason, source_reason, target_again};
 ghost use Rattle.star_verify.specs.Facts.{AreFacts};
-ghost use Rattle.star_verify.specs.Private.Judged.{AreFewAt, InEachContext, IsFirst, IsReady, IsSized, KeepsContext, TellsReason};
+ghost use Rattle.star_verify.specs.Private.CheckResults.{AreFewAt, InEachContext, IsFirst, IsReady, IsSized, KeepsContext, HasReason};
 ghost use Rattle.star_verify.specs.Private.Kept.{AreTalliesFew, HasKeyShares, HasShares, flag_at};
 ghost use Rattle.star_verify.specs.Private.Made.{beyond_view};
 ghost use Rattle.star_verify.specs.Private.Views.{known_in};
 ghost use Rattle.star_verify.specs.Views.{IsReason};
 
-use crate::gifts::{give, give_keys};
+use crate::contributions::{contribute, contribute_keys};
+use crate::input::CheckInput;
 use crate::known::Beyond;
 use crate::operations::{check_source, make};
 use crate::refusal::Refusal;
 use crate::register::{Register, check_kinds, learn};
-use crate::subject::Subject;
 use crate::tally::Tally;
 use star_program::{Fault, MOST_AGGREGATES, MOST_GROUPS, Op, Operation, Parts, RegisterList, Step};
 use star_safety::Reason;
@@ -33,7 +33,7 @@ use star_safety::Reason;
 // The verifier state: the facts of each register in scope, the registers that earlier instructions
 // write, and the contributions to the aggregates and the keys of each group.
 #[derive(Drop)]
-pub(crate) struct Noted {
+pub(crate) struct VerifierState {
     pub(crate) registers: Vec<Register>,
     pub(crate) written: Vec<bool>,
     pub(crate) tallies: Vec<Tally>,
@@ -43,7 +43,7 @@ pub(crate) struct Noted {
 // The position of an instruction: its number, whether it is inside a scan, how often it is executed
 // at most, and which groups are put to in an enclosing scan or after such a scan.
 #[derive(Clone, Copy)]
-pub(crate) struct Place {
+pub(crate) struct Position {
     pub(crate) at: u16,
     pub(crate) inside: bool,
     pub(crate) met: u64,
@@ -63,7 +63,7 @@ pub(crate) fn is_written(written: &[bool], register: u16) -> bool
 #[tactic(auto, using(crate::proofs::Writing::written_more))]
 pub(crate) fn note(written: &mut [bool], target: u16)
     requires { target < length written.old }
-    ensures noted { flag_at written.new ≡ (λ q. flag_at written.old q || nat_eq target q) }
+    ensures state { flag_at written.new ≡ (λ q. flag_at written.old q || nat_eq target q) }
     ensures len { length written.new ≡ length written.old }
 {
     written[target as usize] = true;
@@ -100,43 +100,43 @@ fn check_op(
 
 // Adds the contributions of a put to the aggregates of its group.
 fn put(
-    subject: &Subject<'_>,
-    place: Place,
+    input: &CheckInput<'_>,
+    position: Position,
     registers: &[Register],
     tallies: &mut [Tally],
     group: u16,
     values: &RegisterList,
 )
-    requires there { group < length subject.now.parts.now.groups }
+    requires there { group < length input.now.parts.now.groups }
     requires values { length values.now
-        ≡ value_count (group_at subject.now.parts.now group).aggregates }
-    requires at { place.at ≤ 4096 }
-    requires met { place.met ≤ 10 ^ 15 }
+        ≡ value_count (group_at input.now.parts.now group).aggregates }
+    requires at { position.at ≤ 4096 }
+    requires met { position.met ≤ 10 ^ 15 }
     requires tallies { length tallies.old ≡ 64 }
-    requires few { AreTalliesFew tallies.old (place.at * 10 ^ 15) }
+    requires few { AreTalliesFew tallies.old (position.at * 10 ^ 15) }
     ensures shares { (w : World) (x : Context) (keys : List ℕ)
-        → known_in registers.now ≡ x.known → x.met ≡ place.met
-        → HasShares subject.now.parts.now tallies.old x
-        → HasShares subject.now.parts.now tallies.new
-        (after_op w subject.now.parts.now x (op.Put group keys values.now)) }
-    ensures few { AreTalliesFew tallies.new ((place.at + 1) * 10 ^ 15) }
+        → known_in registers.now ≡ x.known → x.met ≡ position.met
+        → HasShares input.now.parts.now tallies.old x
+        → HasShares input.now.parts.now tallies.new
+        (after_op w input.now.parts.now x (op.Put group keys values.now)) }
+    ensures few { AreTalliesFew tallies.new ((position.at + 1) * 10 ^ 15) }
     ensures len { length tallies.new ≡ length tallies.old }
 {
-    let declared = subject.parts.group_at(group);
-    give(
+    let declared = input.parts.group_at(group);
+    contribute(
         tallies,
         MOST_AGGREGATES * group as usize,
         registers,
         declared.aggregates.as_slice(),
         values.as_slice(),
-        place.met,
+        position.met,
     );
 }
 
 // Adds the contributions of a put to the keys of its group.
 fn put_keys(
     parts: &Parts,
-    place: Place,
+    position: Position,
     registers: &[Register],
     tallies: &mut [Tally],
     group: u16,
@@ -145,23 +145,23 @@ fn put_keys(
     requires limits { IsWithinLimits parts.now }
     requires there { group < length parts.now.groups }
     requires keys { length keys.now ≡ length (group_at parts.now group).keys }
-    requires at { place.at ≤ 4096 }
-    requires met { place.met ≤ 10 ^ 15 }
+    requires at { position.at ≤ 4096 }
+    requires met { position.met ≤ 10 ^ 15 }
     requires tallies { length tallies.old ≡ 64 }
-    requires few { AreTalliesFew tallies.old (place.at * 10 ^ 15) }
+    requires few { AreTalliesFew tallies.old (position.at * 10 ^ 15) }
     ensures given { (w : World) (x : Context) (values : List ℕ)
-        → known_in registers.now ≡ x.known → x.met ≡ place.met
+        → known_in registers.now ≡ x.known → x.met ≡ position.met
         → HasKeyShares parts.now tallies.old x
         → HasKeyShares parts.now tallies.new
         (after_op w parts.now x (op.Put group keys.now values)) }
-    ensures few { AreTalliesFew tallies.new ((place.at + 1) * 10 ^ 15) }
+    ensures few { AreTalliesFew tallies.new ((position.at + 1) * 10 ^ 15) }
     ensures len { length tallies.new ≡ length tallies.old }
 {
     let first = MOST_AGGREGATES * group as usize;
-    give_keys(tallies, first, registers, keys.as_slice(), place.met);
+    contribute_keys(tallies, first, registers, keys.as_slice(), position.met);
 }
 
-impl Subject<'_> {
+impl CheckInput<'_> {
     // Returns the refusal of an instruction whose numbers leave 64 bits.
     fn overflow(&self, at: u16, beyond: Beyond) -> Refusal
         ensures { (w : World) → AreFacts w self.now.facts.now
@@ -183,8 +183,8 @@ impl Subject<'_> {
     // Checks the result of an operation and records its facts.
     fn assign(
         &self,
-        noted: &mut Noted,
-        place: Place,
+        state: &mut VerifierState,
+        position: Position,
         rest: &[Step],
         target: u16,
         operation: &Operation,
@@ -192,36 +192,36 @@ impl Subject<'_> {
         requires placed { (inside : Bool)
             × (place_fault self.now.parts.now inside (op.Assign target operation.now) ≡ None) }
         requires declared { target < self.now.parts.now.registers }
-        requires ready { IsReady self.now.parts.now place noted.old }
-        ensures judged { InEachContext self.now place noted.old (λ w x pending.
-            TellsReason result place.at
+        requires ready { IsReady self.now.parts.now position state.old }
+        ensures checked { InEachContext self.now position state.old (λ w x pending.
+            HasReason result position.at
             (option_or (source_reason (open_with pending (code_of_steps rest.now)) x
             (op.Assign target operation.now))
             (range_reason w self.now.parts.now x (op.Assign target operation.now)))
-            (KeepsContext self.now.parts.now noted.new
+            (KeepsContext self.now.parts.now state.new
             (after_op w self.now.parts.now x (op.Assign target operation.now)))) }
-        ensures sized { IsSized self.now.parts.now noted.new }
-        ensures tallies { noted.new.tallies ≡ noted.old.tallies }
-        ensures keys { noted.new.keys ≡ noted.old.keys }
+        ensures sized { IsSized self.now.parts.now state.new }
+        ensures tallies { state.new.tallies ≡ state.old.tallies }
+        ensures keys { state.new.keys ≡ state.old.keys }
     {
         let parts = self.parts;
-        match check_source(parts, &noted.registers, place.pending, rest, operation) {
+        match check_source(parts, &state.registers, position.pending, rest, operation) {
             Ok(()) => match make(
                 parts,
                 self.facts,
-                &noted.registers,
-                &noted.tallies,
+                &state.registers,
+                &state.tallies,
                 operation,
             ) {
                 Ok(known) => {
-                    learn(&mut noted.registers, target, known);
-                    note(&mut noted.written, target);
+                    learn(&mut state.registers, target, known);
+                    note(&mut state.written, target);
                     Ok(())
                 }
-                Err(beyond) => Err(self.overflow(place.at, beyond)),
+                Err(beyond) => Err(self.overflow(position.at, beyond)),
             },
             Err(reason) => Err(Refusal::Refused {
-                at: place.at,
+                at: position.at,
                 reason,
             }),
         }
@@ -230,27 +230,27 @@ impl Subject<'_> {
     // Checks an instruction whose kinds are right, and records its effect.
     fn perform(
         &self,
-        noted: &mut Noted,
-        place: Place,
+        state: &mut VerifierState,
+        position: Position,
         rest: &[Step],
         op: &Op,
     ) -> Result<(), Refusal>
         requires fine { (inside : Bool) × (twice : Option Wrong)
             × (fault_of self.now.parts.now inside twice
-            (kinds_known (known_in noted.old.registers.items)) op.now ≡ None) }
-        requires at { place.at ≤ 4096 }
-        requires ready { IsReady self.now.parts.now place noted.old }
-        ensures judged { InEachContext self.now place noted.old (λ w x pending.
-            TellsReason result place.at
+            (kinds_known (known_in state.old.registers.items)) op.now ≡ None) }
+        requires at { position.at ≤ 4096 }
+        requires ready { IsReady self.now.parts.now position state.old }
+        ensures checked { InEachContext self.now position state.old (λ w x pending.
+            HasReason result position.at
             (option_or (source_reason (open_with pending (code_of_steps rest.now)) x op.now)
             (range_reason w self.now.parts.now x op.now))
-            (KeepsContext self.now.parts.now noted.new (after_op w self.now.parts.now x op.now))) }
-        ensures sized { IsSized self.now.parts.now noted.new }
-        ensures few { AreFewAt noted.new (place.at + 1) }
+            (KeepsContext self.now.parts.now state.new (after_op w self.now.parts.now x op.now))) }
+        ensures sized { IsSized self.now.parts.now state.new }
+        ensures few { AreFewAt state.new (position.at + 1) }
     {
         match op {
             Op::Assign { target, operation } => {
-                self.assign(noted, place, rest, *target, operation)
+                self.assign(state, position, rest, *target, operation)
             }
             Op::Keep { .. } => Ok(()),
             Op::Put {
@@ -258,42 +258,56 @@ impl Subject<'_> {
                 keys,
                 values,
             } => {
-                let registers = &noted.registers;
-                put_keys(self.parts, place, registers, &mut noted.keys, *group, keys);
-                put(self, place, registers, &mut noted.tallies, *group, values);
+                let registers = &state.registers;
+                put_keys(
+                    self.parts,
+                    position,
+                    registers,
+                    &mut state.keys,
+                    *group,
+                    keys,
+                );
+                put(
+                    self,
+                    position,
+                    registers,
+                    &mut state.tallies,
+                    *group,
+                    values,
+                );
                 Ok(())
             }
         }
     }
 
-    // Checks an instruction that precedes these steps. `place.pending` has the groups that are put
+    // Checks an instruction that precedes these steps. `position.pending` has the groups that are put
     // to after them or in an enclosing scan.
-    pub(crate) fn judge(
+    pub(crate) fn check_instruction(
         &self,
-        noted: &mut Noted,
-        place: Place,
+        state: &mut VerifierState,
+        position: Position,
         rest: &[Step],
         op: &Op,
     ) -> Result<(), Refusal>
-        requires at { place.at ≤ 4096 }
-        requires ready { IsReady self.now.parts.now place noted.old }
-        ensures judged { InEachContext self.now place noted.old (λ w x pending.
-            TellsReason result place.at
+        requires at { position.at ≤ 4096 }
+        requires ready { IsReady self.now.parts.now position state.old }
+        ensures checked { InEachContext self.now position state.old (λ w x pending.
+            HasReason result position.at
             (op_reason w self.now.parts.now (open_with pending (code_of_steps rest.now)) x op.now)
-            (KeepsContext self.now.parts.now noted.new (after_op w self.now.parts.now x op.now))) }
-        ensures sized { IsSized self.now.parts.now noted.new }
-        ensures few { IfOk result (λ _. AreFewAt noted.new (place.at + 1)) }
+            (KeepsContext self.now.parts.now state.new (after_op w self.now.parts.now x op.now))) }
+        ensures sized { IsSized self.now.parts.now state.new }
+        ensures few { IfOk result (λ _. AreFewAt state.new (position.at + 1)) }
     {
         match check_op(
             self.parts,
-            place.inside,
-            &noted.registers,
-            &noted.written,
+            position.inside,
+            &state.registers,
+            &state.written,
             op,
         ) {
-            Ok(()) => self.perform(noted, place, rest, op),
+            Ok(()) => self.perform(state, position, rest, op),
             Err(reason) => Err(Refusal::Refused {
-                at: place.at,
+                at: position.at,
                 reason,
             }),
         }

@@ -2,9 +2,10 @@
 #![tactic(auto)]
 
 mod check;
+mod contributions;
 mod dry_run;
 mod facts;
-mod gifts;
+mod input;
 mod instructions;
 mod known;
 mod open_groups;
@@ -14,12 +15,11 @@ mod refusal;
 mod register;
 mod report;
 mod rows;
-mod subject;
+mod steps;
 mod tally;
 mod totals;
 mod verified;
 mod visits;
-mod walk;
 
 pub use dry_run::forecast;
 pub use facts::Facts;

@@ -56,10 +56,10 @@ fn read_total(
         (overflow w (read_range (contexts.aggregate_in_group parts.now group aggregate)
         (x.so_far group aggregate) (only default)) (reach_of (x.so_far group aggregate))) }
 {
-    let place = MOST_AGGREGATES * group as usize + aggregate as usize;
+    let index = MOST_AGGREGATES * group as usize + aggregate as usize;
     read(
         aggregate_at(parts, group, aggregate),
-        tally_at(tallies, place),
+        tally_at(tallies, index),
         default,
     )
 }

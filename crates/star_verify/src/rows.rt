@@ -139,13 +139,13 @@ impl Groupings<'_> {
         requires there { first + length keys.now ≤ length self.now.tallies.now }
         requires small { length keys.now ≤ 6 }
         requires hides { MayHide self.now.shape front.has_hidden }
-        ensures rows { (shares : ℕ → List Share) (place lists : ℕ)
+        ensures rows { (shares : ℕ → List Share) (index lists : ℕ)
             → ((k : ℕ) → k < length keys.now
-            → IsTallyAt self.now.tallies.now (first + k) (shares (place + k)))
+            → IsTallyAt self.now.tallies.now (first + k) (shares (index + k)))
             → AgreeUpTo front.lists lists
             → result ≡ spec.rows_behind self.now.updates self.now.shape front.has_shown
             front.has_hidden lists
-            (each_values (world_of self.now.catalogue.now) shares place keys.now) }
+            (each_values (world_of self.now.catalogue.now) shares index keys.now) }
         ensures few { result ≤ groupings (length keys.now) * 2 ^ 64 }
     {
         let [key, others @ ..] = keys else {
@@ -164,13 +164,13 @@ impl Groupings<'_> {
         requires there { first + length keys.now ≤ length self.now.tallies.now }
         requires small { length keys.now ≤ 6 }
         requires hides { may_be ≡ true → MayHide self.now.shape front.has_hidden }
-        ensures rows { (shares : ℕ → List Share) (place lists : ℕ)
+        ensures rows { (shares : ℕ → List Share) (index lists : ℕ)
             → ((k : ℕ) → k < length keys.now
-            → IsTallyAt self.now.tallies.now (first + k) (shares (place + k)))
+            → IsTallyAt self.now.tallies.now (first + k) (shares (index + k)))
             → AgreeUpTo front.lists lists
             → result ≡ (if may_be then spec.rows_behind self.now.updates self.now.shape
             front.has_shown front.has_hidden lists
-            (each_values (world_of self.now.catalogue.now) shares place keys.now) else 0) }
+            (each_values (world_of self.now.catalogue.now) shares index keys.now) else 0) }
         ensures few { result ≤ groupings (length keys.now) * 2 ^ 64 }
     {
         if may_be {

@@ -66,9 +66,9 @@ pub(crate) fn read(aggregate: Aggregate, tally: Tally, default: i64) -> Result<K
     }
 }
 
-pub(crate) fn tally_at(tallies: &[Tally], place: usize) -> Tally
-    requires { place < length tallies.now }
-    ensures { (t : Tally) → slice_index_or tallies.now place t ≡ result }
+pub(crate) fn tally_at(tallies: &[Tally], index: usize) -> Tally
+    requires { index < length tallies.now }
+    ensures { (t : Tally) → slice_index_or tallies.now index t ≡ result }
 {
-    tallies[place]
+    tallies[index]
 }

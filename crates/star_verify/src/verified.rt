@@ -108,9 +108,9 @@ impl<'c> Verified<'c> {
     /// Returns the least range of the numbers that are put to a key of a group, both by number,
     /// computed before a run; `None` if no number is known. No clause mentions it: it may make a
     /// run faster and changes no answer.
-    pub fn expected(&self, group: usize, place: usize) -> Option<Interval> {
-        if place < MOST_KEYS && group < MOST_GROUPS {
-            self.keys.get(MOST_AGGREGATES * group + place)?.each
+    pub fn expected(&self, group: usize, index: usize) -> Option<Interval> {
+        if index < MOST_KEYS && group < MOST_GROUPS {
+            self.keys.get(MOST_AGGREGATES * group + index)?.each
         } else {
             None
         }

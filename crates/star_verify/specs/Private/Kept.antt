@@ -23,8 +23,8 @@ HasShares parts tallies x =
 -- and for each key
 abbrev pub HasKeyShares : Parts → List Tally → Context → Type 0
 HasKeyShares parts tallies x =
-    (g : ℕ) → g < length parts.groups → (place : ℕ) → place < length (group_at parts g).keys
-    → IsTallyAt tallies (8 * g + place) (x.keys_so_far g place)
+    (g : ℕ) → g < length parts.groups → (index : ℕ) → index < length (group_at parts g).keys
+    → IsTallyAt tallies (8 * g + index) (x.keys_so_far g index)
 
 -- the facts of a put's numbers, one for each aggregate
 abbrev pub numbers_known : List Aggregate → ranges.AllKnown → List ℕ → List (Option ranges.Known)

@@ -26,7 +26,7 @@ IsMade w result k reason =
 
 -- the tally at an index is that of some shares
 abbrev pub IsTallyAt : List Tally → ℕ → List Share → Type 0
-IsTallyAt tallies place ss = (t : Tally) → IsTally (slice_index_or tallies place t) ss
+IsTallyAt tallies index ss = (t : Tally) → IsTally (slice_index_or tallies index t) ss
 
 -- the tallies of the aggregates begin at an index
 abbrev pub AreTallies : List Tally → ℕ → List Aggregate → (ℕ → List Share) → Type 0

@@ -1,7 +1,5 @@
 use Rattle.std.proofs.Common.{Some, None, arith, inr, subst, sym, ◌∙◌}
-use Rattle.star_safety.specs.Contexts.{at_end, at_first}
-use Rattle.star_verify.specs.Private.Kept.{HasKeyShares}
-use Rattle.std.proofs.lemmas.Result.{err_from_is_err_and}
+use Rattle.star_verify.proofs.Common.{HasKeyShares, at_end, at_first, err_from_is_err_and}
 use Rattle.star_verify.proofs.Refusing.{first_told, same_quote, too_costly, within}
 use Rattle.star_verify.proofs.check.check.Goals as goal
 

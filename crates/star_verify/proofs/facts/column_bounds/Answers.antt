@@ -1,6 +1,5 @@
 use Rattle.std.proofs.Common.{◌∙◌}
-use Rattle.star_schema.specs.Schema.{table_of}
-use Rattle.star_world.proofs.TextBounds.{text_bounds}
+use Rattle.star_verify.proofs.Common.{table_of, text_bounds}
 use Rattle.star_verify.proofs.facts.column_bounds.Goals as goal
 
 pub returns-then-is_text : goal.returns-then-is_text

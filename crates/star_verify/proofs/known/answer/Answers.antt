@@ -1,9 +1,5 @@
 use Rattle.std.proofs.Common.{ap, sym, ◌∙◌}
-use Rattle.std.specs.Prelude.{◌+ℤ◌, ◌-ℤ◌, ◌*ℤ◌}
-use Rattle.std.specs.Option.{option_map}
-use Rattle.star_interval.specs.Interval.{bounds_of, range_of}
-use Rattle.star_safety.specs.Ranges.{answer_known}
-use Rattle.star_verify.specs.Private.Views.{known_view, reach_view}
+use Rattle.star_verify.proofs.Common.{answer_known, bounds_of, known_view, option_map, range_of, reach_view, ◌*ℤ◌, ◌+ℤ◌, ◌-ℤ◌}
 use Rattle.star_verify.proofs.Overflows.{computed_is, overflow_as}
 use Rattle.star_verify.proofs.known.answer.Goals as goal
 

@@ -1,11 +1,5 @@
 use Rattle.std.proofs.Common.{◌≡◌, Some, false, true, ap, subst, sym, ◌∙◌, refl}
-use Rattle.std.specs.Prelude.{IsOk, Result}
-use Rattle.star_interval.specs.declared.Interval.{Interval}
-use Rattle.star_interval.specs.declared.Wide.{Wide}
-use Rattle.star_interval.specs.Interval.{bounds_of}
-use Rattle.star_safety.specs.declared.reason.Reason.TheVariants.{Overflow}
-use Rattle.star_safety.specs.Refusals.{reached}
-use Rattle.star_verify.specs.Private.Views.{reach_view}
+use Rattle.star_verify.proofs.Common.{Interval, IsOk, Overflow, Result, Wide, bounds_of, reach_view, reached}
 use Rattle.star_verify.proofs.Overflows.{fitting, leaving}
 use Rattle.star_verify.proofs.known.computed.Goals as goal
 

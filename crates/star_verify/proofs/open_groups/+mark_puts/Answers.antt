@@ -1,11 +1,6 @@
 use Rattle.std.proofs.Common.{◌<◌, ◌+◌, false, length, drop, get_or, ap, sym, ◌∙◌, arith}
-use Rattle.std.specs.Prelude.{◌||◌}
-use Rattle.star_program.specs.Code.{code_size}
-use Rattle.star_program.specs.CodeOfSteps.{code_of_steps}
-use Rattle.star_safety.specs.Private.Forward.{code_puts_to}
+use Rattle.star_verify.proofs.Common.{code_of_steps, code_puts_to, code_size, drop_all, next_act, next_scan, ◌||◌}
 use Rattle.star_verify.proofs.Marks.{marked_more, or_none}
-use Rattle.std.proofs.lemmas.List.{drop_all}
-use Rattle.star_program.proofs.Steps.{next_act, next_scan}
 use Rattle.star_verify.proofs.open_groups.+mark_puts.Goals as goal
 use Rattle.star_verify.proofs.open_groups.+mark_puts.Goals.{in-Act, in-Scan}
 

@@ -1,9 +1,6 @@
 -- The groups that are marked, and those of the steps that are left.
 use Rattle.std.proofs.Common.{◌≡◌, ◌≤◌, ◌<◌, ℕ, false, length, drop, get_or}
-use Rattle.std.specs.Prelude.{◌||◌}
-use Rattle.star_program.specs.Code.{code_size}
-use Rattle.star_program.specs.CodeOfSteps.{code_of_steps}
-use Rattle.star_safety.specs.Private.Forward.{code_puts_to}
+use Rattle.star_verify.proofs.Common.{code_of_steps, code_puts_to, code_size, ◌||◌}
 use Rattle.star_verify.proofs.open_groups.+mark_puts.Given as goal
 
 abbrev pub decreases-mark_puts : goal.decreases-mark_puts

@@ -1,15 +1,6 @@
 use Rattle.std.proofs.Common.{◌≡◌, ◌<◌, FitsSigned, w64, None, ap, length, to_z-of_z, rules, subst, sym, ◌∙◌}
-use Rattle.star_interval.specs.Interval.{range_of}
-use Rattle.star_interval.specs.Range.{only}
-use Rattle.star_program.specs.declared.op.Op.TheVariants.{Assign}
-use Rattle.star_program.specs.declared.op.Operation.{Operation}
-use Rattle.star_program.specs.Faults.{group_at}
-use Rattle.star_safety.specs.Contexts.{aggregate_in_group, operation_known}
+use Rattle.star_verify.proofs.Common.{Assign, IsMade, Operation, aggregate_in_group, group_at, known_view, only, operation_known, range_of, range_reason, reach_of, read_range}
 use Rattle.star_safety.specs.Ranges as ranges
-use Rattle.star_safety.specs.Refusals.{range_reason}
-use Rattle.star_safety.specs.Tallies.{reach_of, read_range}
-use Rattle.star_verify.specs.Private.Made.{IsMade}
-use Rattle.star_verify.specs.Private.Views.{known_view}
 use Rattle.star_verify.proofs.Made.{made_as, read_as}
 use Rattle.star_verify.proofs.Overflows.{fitting}
 use Rattle.star_verify.proofs.operations.make.Goals as goal

@@ -1,6 +1,5 @@
 use Rattle.std.proofs.Common.{subst}
-use Rattle.star_kinds.specs.Kinds.{Answers}
-use Rattle.star_program.specs.Faults.{Kinds, fault_of}
+use Rattle.star_verify.proofs.Common.{Answers, Kinds, fault_of}
 use Rattle.star_verify.proofs.Registers.{same_kinds}
 use Rattle.star_verify.proofs.register.check_kinds.Goals as goal
 

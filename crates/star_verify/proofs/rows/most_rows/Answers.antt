@@ -1,12 +1,5 @@
 use Rattle.std.proofs.Common.{◌≡◌, ◌∙◌, ◌+◌, ◌*◌, ◌<◌, ℕ, [], ap, arith, inl, length, refl, subst, sym, zero-add}
-use Rattle.std.proofs.lemmas.List.{get_or_past}
-use Rattle.star_schema.specs.declared.group.Shape.TheVariants.{Plain}
-use Rattle.std.specs.Prelude.{slice_index_or}
-use Rattle.star_world.specs.WorldOf.{world_of}
-use Rattle.star_safety.specs.MostRows.{all_key_shares, each_values, rows_of_groupings}
-use Rattle.star_safety.specs.Tallies.{most_of}
-use Rattle.star_verify.specs.Private.Made.{IsTallyAt}
-use Rattle.star_verify.specs.Private.Views.{IsTally}
+use Rattle.star_verify.proofs.Common.{IsTally, IsTallyAt, Plain, all_key_shares, each_values, get_or_past, most_of, rows_of_groupings, slice_index_or, world_of}
 use Rattle.star_verify.proofs.RowLemmas.{all_rows, empty_list, one_row}
 use Rattle.star_verify.proofs.rows.most_rows.Goals as goal
 

@@ -1,7 +1,5 @@
 use Rattle.std.proofs.Common.{◌+◌, FitsSigned, ap, rules, sym, to_z-of_z, w64, ◌∙◌}
-use Rattle.std.specs.Option.{option_map}
-use Rattle.star_interval.specs.Interval.{range_of}
-use Rattle.star_safety.specs.MostRows.{range_width}
+use Rattle.star_verify.proofs.Common.{option_map, range_of, range_width}
 use Rattle.star_verify.proofs.RowLemmas.{width_is}
 use Rattle.star_verify.proofs.rows.width.Goals as goal
 

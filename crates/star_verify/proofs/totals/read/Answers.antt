@@ -1,11 +1,6 @@
 -- The range of the total with its default fits 64 bits, or leaves them.
 use Rattle.std.proofs.Common.{◌≡◌, FitsSigned, refl, subst, sym, w64, to_z-of_z, rules, ◌∙◌}
-use Rattle.std.proofs.lemmas.Bool.{false≢true}
-use Rattle.star_interval.specs.Interval.{wide_range_of}
-use Rattle.star_interval.specs.Range.{FitsI64, only}
-use Rattle.star_safety.specs.Refusals.{overflow}
-use Rattle.star_safety.specs.Tallies.{hull_with, reach_of, read_range}
-use Rattle.star_verify.specs.Private.Views.{reach_view}
+use Rattle.star_verify.proofs.Common.{FitsI64, false≢true, hull_with, only, overflow, reach_of, reach_view, read_range, wide_range_of}
 use Rattle.star_verify.proofs.Overflows.{fitting, leaving}
 use Rattle.star_verify.proofs.totals.read.Goals as goal
 

@@ -1,8 +1,5 @@
 use Rattle.std.proofs.Common.{◌≡◌, arith, subst, sym}
-use Rattle.star_world.specs.WorldOf.{world_of}
-use Rattle.star_safety.specs.Contexts.{at_end, at_first}
-use Rattle.star_safety.specs.MostRows.{most_report_rows}
-use Rattle.star_verify.specs.Private.Kept.{HasKeyShares}
+use Rattle.star_verify.proofs.Common.{HasKeyShares, at_end, at_first, most_report_rows, world_of}
 use Rattle.star_verify.proofs.verified.verify.Goals as goal
 
 pub invariant_of-result : goal.invariant_of-result

@@ -1,9 +1,5 @@
 use Rattle.std.proofs.Common.{◌≡◌, ◌≤◌, ◌<◌, ◌+◌, ◌*◌, ◌^◌, drop, sym, ap, subst, ◌∙◌, arith}
-use Rattle.star_schema.specs.Sizes.{size_of}
-use Rattle.star_program.specs.Code.{code_size, scan_depth}
-use Rattle.star_program.specs.CodeOfSteps.{code_of_steps}
-use Rattle.star_safety.specs.Quote.{turns_met}
-use Rattle.star_program.proofs.Steps.{next_act, next_scan}
+use Rattle.star_verify.proofs.Common.{code_of_steps, code_size, next_act, next_scan, scan_depth, size_of, turns_met}
 use Rattle.star_verify.proofs.Turns.{inner, outer, often, scan_turns, scan_sum, scan_bound}
 use Rattle.star_verify.proofs.visits.+turns_met.Goals as goal
 use Rattle.star_verify.proofs.visits.+turns_met.Goals.{After-from, in-Act, in-Scan}

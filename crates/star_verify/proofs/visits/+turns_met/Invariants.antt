@@ -1,9 +1,6 @@
 -- The turns so far and those of the steps that are left.
 use Rattle.std.proofs.Common.{◌≡◌, ◌≤◌, ◌+◌, ◌*◌, ◌^◌, drop}
-use Rattle.star_schema.specs.Sizes.{size_of}
-use Rattle.star_program.specs.Code.{code_size, scan_depth}
-use Rattle.star_program.specs.CodeOfSteps.{code_of_steps}
-use Rattle.star_safety.specs.Quote.{turns_met}
+use Rattle.star_verify.proofs.Common.{code_of_steps, code_size, scan_depth, size_of, turns_met}
 use Rattle.star_verify.proofs.visits.+turns_met.Given as goal
 
 abbrev pub decreases-turns_met : goal.decreases-turns_met

@@ -1,8 +1,6 @@
 -- Three scans stand one in another at most.
 use Rattle.std.proofs.Common.{◌≤◌, ◌^◌, arith, subst, sym}
-use Rattle.std.proofs.Math.Nat.{pow-le-pow_right}
-use Rattle.star_program.specs.declared.program.Parts.{Parts}
-use Rattle.star_program.specs.Code.{scan_depth}
+use Rattle.star_verify.proofs.Common.{Parts, pow-le-pow_right, scan_depth}
 use Rattle.star_verify.proofs.visits.quote.Goals as goal
 
 pub turns_met-requires-clause-deep : goal.turns_met-requires-clause-deep

@@ -1,7 +1,5 @@
 use Rattle.std.proofs.Common.{◌≡◌, FitsSigned, w64, rules, None, Some, ap, subst, sym, ◌∙◌}
-use Rattle.star_interval.specs.Range.{FitsI64}
-use Rattle.star_safety.specs.Ranges.{KnownNumber, loaded_known}
-use Rattle.star_safety.specs.Refusals.{overflow_of}
+use Rattle.star_verify.proofs.Common.{FitsI64, KnownNumber, loaded_known, overflow_of}
 use Rattle.star_verify.proofs.Overflows.{fitting}
 use Rattle.star_verify.proofs.Texts.{not_text}
 use Rattle.star_verify.proofs.facts.Facts.loaded.Goals as goal

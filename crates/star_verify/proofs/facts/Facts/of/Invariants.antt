@@ -1,7 +1,6 @@
 -- The bounds so far.
 use Rattle.std.proofs.Common.{◌≡◌, length}
-use Rattle.star_world.specs.WorldOf.{world_of}
-use Rattle.star_verify.specs.Facts.{AreBoundsBefore}
+use Rattle.star_verify.proofs.Common.{AreBoundsBefore, world_of}
 use Rattle.star_verify.proofs.facts.Facts.of.Given as goal
 
 abbrev pub invariant-loop-column : goal.invariant-loop-column

@@ -1,11 +1,5 @@
 use Rattle.std.proofs.Common.{◌+◌, ◌++◌, ◌∷◌, [], List, map, drop, ap, sym, ◌∙◌}
-use Rattle.std.proofs.lemmas.List.{append-nil, append_assoc, drop_all}
-use Rattle.std.specs.List.{filter}
-use Rattle.star_schema.specs.declared.column.ColumnId.{ColumnId}
-use Rattle.star_schema.specs.declared.column.TheConstants.{COLUMNS}
-use Rattle.star_safety.specs.declared.reason.Reached.{Reached}
-use Rattle.star_safety.specs.Refusals.{reached, with_bounds}
-use Rattle.star_verify.specs.Private.Views.{reach_view}
+use Rattle.star_verify.proofs.Common.{COLUMNS, ColumnId, Reached, append-nil, append_assoc, drop_all, filter, reach_view, reached, with_bounds}
 use Rattle.star_verify.proofs.Chosen.{picked, left_out}
 use Rattle.star_verify.proofs.facts.Facts.reached.Goals as goal
 use Rattle.star_verify.proofs.facts.Facts.reached.Goals.{then-has+in_ok-push, else-has}

@@ -1,10 +1,6 @@
 -- The columns so far, and then those that are left.
 use Rattle.std.proofs.Common.{◌≡◌, ◌++◌, drop, map}
-use Rattle.std.specs.List.{filter}
-use Rattle.star_program.specs.World.{World}
-use Rattle.star_safety.specs.Refusals.{with_bounds}
-use Rattle.star_verify.specs.Facts.{AreFacts}
-use Rattle.star_verify.specs.Private.Views.{reach_view}
+use Rattle.star_verify.proofs.Common.{AreFacts, World, filter, reach_view, with_bounds}
 use Rattle.star_verify.proofs.facts.Facts.reached.Given as goal
 
 abbrev pub invariant-loop-column : goal.invariant-loop-column

@@ -1,7 +1,5 @@
 use Rattle.std.proofs.Common.{ap}
-use Rattle.std.proofs.lemmas.Nat.Bits.{bit_at-zero}
-use Rattle.std.specs.Prelude.{nat_eq}
-use Rattle.star_schema.specs.Schema.{index_of}
+use Rattle.star_verify.proofs.Common.{bit_at-zero, index_of, nat_eq}
 use Rattle.star_verify.proofs.reach.Reach.none.Goals as goal
 
 pub returns : goal.returns

@@ -1,8 +1,5 @@
 use Rattle.std.proofs.Common.{ap, ◌∙◌}
-use Rattle.std.specs.Int.{bit_at}
-use Rattle.std.specs.Prelude.{nat_eq}
-use Rattle.star_schema.proofs.Same.{index_within}
-use Rattle.star_schema.specs.Schema.{index_of}
+use Rattle.star_verify.proofs.Common.{bit_at, index_of, index_within, nat_eq}
 use Rattle.star_verify.proofs.Bits.{bit_alone, bit_is}
 use Rattle.star_verify.proofs.reach.Reach.only.Goals as goal
 

@@ -1,13 +1,5 @@
 use Rattle.std.proofs.Common.{◌+◌, Some, ◌*◌, ◌^◌, pos, ◌+ℤ◌, FitsSigned, w64, ap, subst, sym, ◌∙◌, arith, rules}
-use Rattle.std.specs.Prelude.{◌≤ℤ◌}
-use Rattle.std.proofs.lemmas.Int.{ints}
-use Rattle.star_interval.specs.Interval.{range_of, wide_range_of}
-use Rattle.star_interval.specs.Range.{corner_range, hull, multiple_range, only}
-use Rattle.star_safety.specs.Ranges.{joined_reach}
-use Rattle.star_safety.specs.Tallies.{hull_with}
-use Rattle.star_verify.specs.Private.Views.{reach_view}
-use Rattle.star_interval.proofs.Ranges.{range_same}
-use Rattle.star_interval.proofs.Sums.{sum_ends}
+use Rattle.star_verify.proofs.Common.{corner_range, hull, hull_with, ints, joined_reach, multiple_range, only, range_of, range_same, reach_view, sum_ends, wide_range_of, ◌≤ℤ◌}
 use Rattle.star_verify.proofs.Multiples.{above, below, small_down, small_up}
 use Rattle.star_verify.proofs.tally.Tally.with.Goals as goal
 
