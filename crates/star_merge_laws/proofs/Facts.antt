@@ -1,25 +1,6 @@
 -- The facts of two parts together are those of the whole.
 use Rattle.std.proofs.Common.{◌≡◌, ◌∙◌, ◌⊎◌, ℕ, ℤ, zero, suc, ◌+◌, List, [], ◌∷◌, ◌++◌, length, map, refl, sym, subst, ap, arith, inl, inr, ⊎_elim}
-use Rattle.std.specs.Prelude.{◌≤ℤ◌}
-use Rattle.std.specs.Int.{int_min, int_max}
-use Rattle.std.specs.List.{Contains, flat_map}
-use Rattle.std.proofs.lemmas.Int.{ints, clamps, fold-int_max_reached, fold-int_min_reached}
-use Rattle.star_common.proofs.Members.{contains_cases, contains_none, of_each}
-use Rattle.std.proofs.lemmas.List.{append-nil, length-append}
-use Rattle.std.proofs.lemmas.List.Elements.{All-append, All-contains, All-from_recursion, All-head, All-tail, All-weaker, Contains-append_left, Contains-append_right}
-use Rattle.std.proofs.lemmas.List.Sorted.{Contains-permutation, IsPermutation-map, IsPermutation-sym, length_permutation}
-use Rattle.std.specs.List.Sorted.{IsPermutation}
-use Rattle.star_interval.specs.Range.{Range, hull}
-use Rattle.star_schema.specs.declared.column.ColumnId.{ColumnId}
-use Rattle.star_schema.specs.declared.table.TableId.{TableId}
-use Rattle.star_schema.specs.declared.table.TableId.TheVariants.{Date, Customer, Supplier, Part, Lineorder}
-use Rattle.star_schema.specs.Bounds.{greatest, least, numbers_at, numbers_of}
-use Rattle.star_schema.specs.Database.{Database, rows_in}
-use Rattle.star_schema.specs.Schema.{table_of}
-use Rattle.star_schema.specs.Tables.{Value}
-use Rattle.star_schema.proofs.Extremes.{greatest_above, greatest_is, greatest_there, least_below, least_is, least_there}
-use Rattle.star_merge_laws.specs.Facts.{AreFactsOf, HaveFacts, Facts, RowsWithFacts, all_facts, hull_of_rows, joined_facts}
-use Rattle.star_merge_laws.specs.Parts.{with_lineorder}
+use Rattle.star_merge_laws.proofs.Common.{All-append, All-contains, All-from_recursion, All-head, All-tail, All-weaker, AreFactsOf, ColumnId, Contains, Contains-append_left, Contains-append_right, Contains-permutation, Customer, Database, Date, Facts, HaveFacts, IsPermutation, IsPermutation-map, IsPermutation-sym, Lineorder, Part, Range, RowsWithFacts, Supplier, TableId, Value, all_facts, append-nil, clamps, contains_cases, contains_none, flat_map, fold-int_max_reached, fold-int_min_reached, greatest, greatest_above, greatest_is, greatest_there, hull, hull_of_rows, int_max, int_min, ints, joined_facts, least, least_below, least_is, least_there, length-append, length_permutation, numbers_at, numbers_of, of_each, rows_in, table_of, with_lineorder, ◌≤ℤ◌}
 use Rattle.star_merge_laws.proofs.LoadableParts.{numbers_joined}
 
 min_is_one : (x y : ℤ) → (int_min x y ≡ x) ⊎ (int_min x y ≡ y)

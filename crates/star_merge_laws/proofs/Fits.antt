@@ -1,27 +1,7 @@
 -- A plan that fits the rows of lineorder fits those of a part that has a row.
 use Rattle.std.proofs.Common.{◌≡◌, ℕ, ℤ, zero, suc, ◌≤◌, Bool, true, ◌&&◌, List, [], ◌∷◌, ◌++◌, length, ◌≤ℤ◌, ◌+ℤ◌, ◌-ℤ◌, ◌*ℤ◌, refl, subst, arith}
-use Rattle.std.specs.Int.{int_min, int_max}
-use Rattle.std.specs.List.{list_all}
-use Rattle.std.proofs.lemmas.Bool.{and_from, and_parts}
-use Rattle.std.proofs.lemmas.Int.{ints, clamps}
-use Rattle.std.proofs.lemmas.List.{length-append}
-use Rattle.std.proofs.lemmas.List.Elements.{All-head}
-use Rattle.star_interval.specs.Range.{IsOrdered, IsWithin, Range, corner_range, fits_i64}
-use Rattle.star_interval.proofs.Products.{products_within}
-use Rattle.star_interval.proofs.Ranges.{fits_held, fits_i64_fits, holds_high, holds_low, holds_within, within_hull_left, within_hull_right}
-use Rattle.star_interval.proofs.Sums.{differences_within, sums_within}
-use Rattle.star_schema.specs.declared.column.ColumnId.{ColumnId}
-use Rattle.star_schema.specs.Bounds.{greatest, least, numbers_of}
-use Rattle.star_schema.specs.Columns.{bounds_in}
-use Rattle.star_schema.specs.Database.{Database}
-use Rattle.star_schema.specs.Schema.{table_of}
-use Rattle.star_schema.proofs.Extremes.{greatest_above, least_below}
-use Rattle.star_query.specs.Tree.{Expression, Measure, add, column, constant, count, fold, mul, sub}
-use Rattle.star_plan.specs.Fits.{Fits, expression_range, measure_fits, nodes_fit}
-use Rattle.star_plan.specs.Meaning.{Plan, Row}
-use Rattle.star_merge_laws.specs.Facts.{hull_of_rows}
+use Rattle.star_merge_laws.proofs.Common.{All-head, ColumnId, Database, Expression, Fits, IsOrdered, IsWithin, Measure, Plan, Range, Row, add, and_from, and_parts, bounds_in, clamps, column, constant, corner_range, count, differences_within, expression_range, fits_held, fits_i64, fits_i64_fits, fold, greatest, greatest_above, holds_high, holds_low, holds_within, hull_of_rows, int_max, int_min, ints, least, least_below, length-append, list_all, measure_fits, mul, nodes_fit, numbers_of, products_within, sub, sums_within, table_of, tables_with, within_hull_left, within_hull_right}
 use Rattle.star_merge_laws.proofs.Facts.{in_table}
-use Rattle.star_merge_laws.specs.Tables.{tables_with}
 
 corners_ordered : (op : ℤ → ℤ → ℤ) (a b : Range) → IsOrdered (corner_range op a b)
 corners_ordered op a b =

@@ -1,3 +1,4 @@
+mod Common
 pub mod Totals
 pub mod Merging
 pub mod LoadableParts

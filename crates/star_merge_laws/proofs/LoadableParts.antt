@@ -1,28 +1,6 @@
 -- Parts whose keys lie apart can be loaded together.
 use Rattle.std.proofs.Common.{◌≡◌, ◌≢◌, ◌∙◌, ℕ, ℤ, suc, ◌+◌, ◌≤◌, true, List, [], ◌∷◌, ◌++◌, Option, Some, None, AllPairs, length, get_or, map, refl, sym, subst, ap, arith, ⊎_elim, true≢false}
-use Rattle.std.specs.List.{All, Contains}
-use Rattle.std.specs.Ordering.{is_le, is_lt}
-use Rattle.std.specs.Cmp.{IsTotalOrder}
-use Rattle.std.specs.declared.cmp.Ordering.{Ordering}
-use Rattle.std.specs.declared.cmp.Ordering.TheVariants.{Less, Equal, Greater}
-use Rattle.std.proofs.lemmas.Bool.{or_cases}
-use Rattle.std.proofs.lemmas.Cmp.{alike_right, int_cmp_total, lists_total, tied_itself}
-use Rattle.std.proofs.lemmas.List.{append-nil, map-append, length-append}
-use Rattle.std.proofs.lemmas.List.Concat.{flat_map-append}
-use Rattle.std.proofs.lemmas.List.Elements.{All-head, All-tail, All-cons, All-append, All-nil}
-use Rattle.std.proofs.lemmas.List.Kept.{AllPairs-cons}
-use Rattle.star_schema.specs.declared.column.ColumnId.{ColumnId}
-use Rattle.star_schema.specs.declared.column.ColumnId.TheVariants.{LoCustkey, LoPartkey, LoSuppkey, LoOrderdate, LoCommitdate}
-use Rattle.star_schema.specs.declared.table.TableId.{TableId}
-use Rattle.star_schema.specs.declared.table.TableId.TheVariants.{Date, Customer, Supplier, Part, Lineorder}
-use Rattle.star_schema.specs.Bounds.{numbers_at, numbers_of}
-use Rattle.star_schema.specs.Database.{Database, TableTexts, rows_in}
-use Rattle.star_schema.specs.Loadable.{HasDistinctKeys, IsLoadable, IsSound, RefersTo, database_of, key_numbers, keys_of}
-use Rattle.star_schema.specs.Records.{records_in, records_of}
-use Rattle.star_schema.specs.Schema.{column_of, key_of, references, table_of}
-use Rattle.star_schema.specs.Tables.{IsTable, IsRecordOf, Value, row_of, rows_of}
-use Rattle.star_schema.proofs.KeyColumns.{foreign_key}
-use Rattle.star_merge_laws.specs.Parts.{LineorderPart, IsLoadablePart, AreDisjoint, AreWithin, whole_text, Span, are_disjoint, key_list_cmp, with_lineorder, with_lineorder_text}
+use Rattle.star_merge_laws.proofs.Common.{All, All-append, All-cons, All-head, All-nil, All-tail, AllPairs-cons, AreDisjoint, AreWithin, ColumnId, Contains, Customer, Database, Date, Equal, Greater, HasDistinctKeys, IsLoadable, IsLoadablePart, IsRecordOf, IsSound, IsTable, IsTotalOrder, Less, Lineorder, LineorderPart, LoCommitdate, LoCustkey, LoOrderdate, LoPartkey, LoSuppkey, Ordering, Part, RefersTo, Span, Supplier, TableId, TableTexts, Value, alike_right, append-nil, are_disjoint, column_of, database_of, flat_map-append, foreign_key, int_cmp_total, is_le, is_lt, key_list_cmp, key_numbers, key_of, keys_of, length-append, lists_total, map-append, numbers_at, numbers_of, or_cases, records_in, records_of, references, row_of, rows_in, rows_of, table_of, tied_itself, whole_text, with_lineorder, with_lineorder_text}
 
 -- ---- lists
 

@@ -1,28 +1,7 @@
 -- Tables that are too long together have that fault, and no other before it.
 use Rattle.std.proofs.Common.{◌≡◌, ◌∙◌, ℕ, suc, ◌+◌, ◌<◌, ◌≤◌, true, false, List, [], ◌∷◌, ◌++◌, Some, None, All, length, refl, sym, ap, arith, inl, inr}
-use Rattle.std.specs.Prelude.{nat_eq, nat_lt}
-use Rattle.std.specs.List.{AllByRecursion, starts_with}
-use Rattle.std.proofs.lemmas.Bool.{and_parts, cases_Bool, cases_lt, le-ltb, ltb-false}
-use Rattle.std.proofs.lemmas.List.{length-append}
-use Rattle.std.proofs.lemmas.List.Elements.{All-head, All-tail}
-use Rattle.star_common.proofs.Firsts.{or_none}
-use Rattle.star_common.specs.First.{first_answer}
-use Rattle.star_schema.specs.declared.column.Kind.{Kind}
-use Rattle.star_schema.specs.declared.table.TableId.{TableId}
-use Rattle.star_schema.specs.declared.table.TableId.TheVariants.{Date, Customer, Supplier, Part, Lineorder}
-use Rattle.star_schema.specs.Database.{TableTexts}
-use Rattle.star_schema.specs.Loadable.{IsLoadable}
-use Rattle.star_schema.specs.Records.{fields_of, records_in, records_of}
-use Rattle.star_schema.specs.Schema.{kinds_of}
-use Rattle.star_schema.specs.Tables.{IsRecordOf, are_cells, cells_of}
+use Rattle.star_merge_laws.proofs.Common.{All-head, All-tail, AllByRecursion, Customer, Date, IsLoadable, IsLoadablePart, IsRecordOf, Kind, Lineorder, LineorderPart, Part, Supplier, TableId, TableTexts, TooManyRows, and_parts, are_cells, byte_order_mark, cases_Bool, cases_lt, cell_complete, cells_fault, cells_of, fields_of, first_answer, kinds_of, le-ltb, length-append, load_fault, ltb-false, nat_eq, nat_lt, or_none, part_fault, parts_fault, record_fault, records_fault, records_in, records_of, records_sound, right_count, starts_with, table_complete, table_fault, table_none, tables_fault, text_fault, whole_text, width_kinds, with_lineorder_text}
 use Rattle.star_reader.specs.declared.fault.ReadFault.TheVariants as fault
-use Rattle.star_reader.specs.Faults.{byte_order_mark, cells_fault, part_fault, parts_fault, record_fault, records_fault, text_fault}
-use Rattle.star_reader.proofs.Counts.{right_count}
-use Rattle.star_reader.proofs.Law.{cell_complete, records_sound, table_complete, width_kinds}
-use Rattle.star_catalogue.specs.Load.{load_fault, table_fault, tables_fault}
-use Rattle.star_catalogue.specs.declared.fault.LoadFault.TheVariants.{TooManyRows}
-use Rattle.star_catalogue.proofs.Loading.{table_none}
-use Rattle.star_merge_laws.specs.Parts.{LineorderPart, IsLoadablePart, whole_text, with_lineorder_text}
 
 -- ---- a record of a table has no fault, whatever its number (as in star_reader's proofs, where it
 -- isn't exported)

@@ -1,38 +1,9 @@
 -- The answer that is made of partials is the query's answer over all their rows.
 use Rattle.std.proofs.Common.{◌≡◌, ◌∙◌, ◌↔◌, ℕ, ◌+◌, List, [], ◌∷◌, ◌++◌, map, refl, sym, subst, ap}
-use Rattle.std.specs.List.{All, flat_map, sum_by}
-use Rattle.std.specs.List.Sorted.{IsPermutation}
-use Rattle.std.specs.Prelude.{length}
-use Rattle.std.proofs.lemmas.List.Elements.{All-head, All-nil, All-cons, All-tail}
-use Rattle.std.proofs.lemmas.List.{map-append}
-use Rattle.std.proofs.lemmas.List.Sorted.{IsPermutation-append, IsPermutation-map, IsPermutation-refl, IsPermutation-sym, IsPermutation-trans, length_permutation}
-use Rattle.std.proofs.lemmas.List.Concat.{length-flat_map}
-use Rattle.std.proofs.lemmas.List.Sums.{sum_by-cons}
-use Rattle.star_schema.specs.declared.group.Aggregate.{Aggregate}
-use Rattle.star_schema.specs.declared.group.Shape.TheVariants.{Plain}
-use Rattle.star_schema.specs.Database.{Database, rows_in}
-use Rattle.star_schema.specs.Groups.{AreGroups, Entry, GroupRow}
-use Rattle.star_schema.specs.Order.{value_cmp}
-use Rattle.star_schema.specs.Tables.{Value}
-use Rattle.star_query.specs.Tree.{Tree}
-use Rattle.star_plan.specs.Meaning.{Joined, Plan, Row, aggregate_of, entry_of, plan_rows}
-use Rattle.star_plan.specs.Resolved.{IsResolved}
-use Rattle.star_plan.specs.WellNamed.{IsWellNamed}
-use Rattle.star_plan.proofs.Conditions.{no_fault}
-use Rattle.star_plan.proofs.Kept.{kept_sound}
-use Rattle.star_merge_laws.specs.Facts.{AreFactsOf}
-use Rattle.star_merge_laws.specs.Parts.{with_lineorder}
-use Rattle.star_merge_laws.specs.Merging.{AreMerged, IsPart, Part, all_groups, all_rows}
+use Rattle.star_merge_laws.proofs.Common.{Aggregate, All, All-cons, All-head, All-nil, All-tail, AreFactsOf, AreGroups, AreMerged, AreShards, Cell, Database, Entry, GroupRow, IsAnswer, IsMergedAnswer, IsPart, IsPartial, IsPermutation, IsPermutation-append, IsPermutation-map, IsPermutation-refl, IsPermutation-sym, IsPermutation-trans, IsPlainAnswer, IsResolved, IsWellNamed, Joined, Partial, Plain, Plan, Row, Shard, Tree, Value, aggregate_of, all_groups, all_of, all_rows, count_same, entries_reordered, entry_of, flat_map, functions_same, groups_of_partials, groups_reordered, kept_sound, length, length-flat_map, length_permutation, map-append, measures_of, no_fault, plan_rows, query_entry, rows_in, selected, selected_reordered, shard_partials, shard_rows, sum_by, sum_by-cons, tables_with, value_cmp, with_lineorder}
+use Rattle.star_merge_laws.specs.Merging.{Part}
 use Rattle.star_merge_laws.proofs.Merging.{merged_groups}
 use Rattle.star_merge_laws.proofs.Values.{once_in_order, value_decides}
-use Rattle.star_program.specs.declared.outcome.Cell.{Cell}
-use Rattle.star_query_meaning.specs.Answers.{IsAnswer}
-use Rattle.star_query_meaning.specs.Rows.{measures_of, query_entry, selected}
-use Rattle.star_query_meaning.proofs.GroupOrders.{groups_reordered}
-use Rattle.star_query_meaning.proofs.OwnWords.{count_same, entries_reordered, selected_reordered}
-use Rattle.star_query_meaning.proofs.OwnShows.{functions_same}
-use Rattle.star_merge_laws.specs.Partials.{AreShards, IsMergedAnswer, IsPartial, IsPlainAnswer, Partial, Shard, shard_partials, shard_rows, groups_of_partials}
-use Rattle.star_merge_laws.specs.Tables.{all_of, tables_with}
 use Rattle.star_merge_laws.proofs.Rows.{selected_of_parts}
 
 module _ {X Y : Type 0} where

@@ -1,26 +1,8 @@
 -- What is told of a merge is what is told of the whole.
 use Rattle.std.proofs.Common.{◌≡◌, ◌∙◌, ℕ, ◌+◌, List, [], ◌∷◌, All, length, map, refl, sym, subst, ap}
-use Rattle.std.specs.List.{sum_by}
-use Rattle.std.proofs.lemmas.List.{length-append}
-use Rattle.std.proofs.lemmas.List.Elements.{All-cons, All-head, All-nil, All-tail}
-use Rattle.std.proofs.lemmas.List.Sums.{sum_by-cons}
-use Rattle.star_schema.specs.declared.table.TableId.TheVariants.{Lineorder}
-use Rattle.star_schema.specs.Database.{Database}
-use Rattle.star_query.specs.Tree.{Tree}
-use Rattle.star_plan.specs.Meaning.{Plan, Row}
-use Rattle.star_plan.specs.Resolved.{IsResolved}
-use Rattle.star_plan.specs.Sound.{IsSoundPlan}
-use Rattle.star_plan.specs.WellNamed.{IsWellNamed}
-use Rattle.star_query_meaning.specs.Reports.{IsReport}
-use Rattle.star_query_meaning.specs.Rows.{selected}
-use Rattle.star_compile_laws.specs.Counts.{lookups_of, turn_lookups}
-use Rattle.star_merge_laws.specs.Parts.{with_lineorder}
-use Rattle.star_merge_laws.specs.Partials.{AreShards, IsMergedAnswer, IsPartial, Shard, shard_partials, shard_rows, rows_of_partials}
-use Rattle.star_merge_laws.specs.Plain.{plain_plan}
-use Rattle.star_merge_laws.specs.Tables.{all_of, tables_with}
+use Rattle.star_merge_laws.proofs.Common.{All-cons, All-head, All-nil, All-tail, AreShards, Database, IsMergedAnswer, IsMergedOutput, IsPartial, IsReport, IsResolved, IsSoundPlan, IsTask, IsWellNamed, Lineorder, Output, Plan, Row, Shard, Task, Tree, all_of, length-append, lookups_of, plain_plan, rows_of_partials, selected, shard_partials, shard_rows, sum_by, sum_by-cons, tables_with, task_partials, task_rows, turn_lookups, with_lineorder}
 use Rattle.star_merge_laws.proofs.MergedAnswers.{merged_answer, updates_of_all}
 use Rattle.star_merge_laws.proofs.Rows.{counted_of_parts}
-use Rattle.star_merge_laws.specs.Outputs.{IsMergedOutput, IsTask, Task, Output, task_partials, task_rows}
 
 -- ---- lookups
 

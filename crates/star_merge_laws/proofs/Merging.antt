@@ -1,21 +1,7 @@
 -- The plain groups of parts make up the groups of all their rows.
 use Rattle.std.proofs.Common.{◌≡◌, ◌≢◌, ◌∙◌, ◌↔◌, ℕ, zero, suc, Bool, true, false, ◌&&◌, ◌||◌, List, [], ◌∷◌, ◌++◌, Option, Some, None, AllPairs, map, cond, refl, sym, subst, ap, arith, inl, inr, ⊎_elim, true≢false}
-use Rattle.std.specs.Prelude.{IsTrue, filter, replicate}
-use Rattle.std.specs.Bool.{Decides}
-use Rattle.std.specs.List.{All, AllByRecursion, Contains, flat_map, list_any}
-use Rattle.std.specs.Option.{option_to_list}
-use Rattle.std.specs.Ordering.{is_eq}
-use Rattle.std.specs.declared.cmp.Ordering.{Ordering}
-use Rattle.std.proofs.lemmas.Bool.{and_from, and_parts}
-use Rattle.std.proofs.lemmas.List.Elements.{All-head, All-tail, Contains-append_left, Contains-append_right, Contains-append_cases, filter-append, filter_agree, recursion_from_All}
-use Rattle.std.proofs.lemmas.List.Folds.{list_any-from_Any}
-use Rattle.star_common.proofs.Members.{contains_none, contains_mapped, from_contains_map, of_each}
-use Rattle.star_schema.specs.declared.group.Aggregate.{Aggregate}
-use Rattle.star_schema.specs.declared.group.Shape.{Shape}
-use Rattle.star_schema.specs.declared.group.Shape.TheVariants.{Plain}
-use Rattle.star_schema.specs.Groups.{AreGroups, Entry, GroupRow, IsGroup, IsMasked, belongs, is_grouping, members, totals_of}
-use Rattle.star_schema.proofs.Groupings.{all_keys, shown_masked}
-use Rattle.star_merge_laws.specs.Merging.{AreMerged, IsPart, Part, all_groups, all_rows, as_row, merged_totals, total_over}
+use Rattle.star_merge_laws.proofs.Common.{Aggregate, All, All-head, All-tail, AllByRecursion, AreGroups, AreMerged, Contains, Contains-append_cases, Contains-append_left, Contains-append_right, Decides, Entry, GroupRow, IsGroup, IsMasked, IsPart, IsTrue, Ordering, Plain, Shape, all_groups, all_keys, all_rows, and_from, and_parts, as_row, belongs, contains_mapped, contains_none, filter, filter-append, filter_agree, flat_map, from_contains_map, is_eq, is_grouping, list_any, list_any-from_Any, members, merged_totals, of_each, option_to_list, recursion_from_All, replicate, shown_masked, total_over, totals_of}
+use Rattle.star_merge_laws.specs.Merging.{Part}
 use Rattle.star_merge_laws.proofs.Totals.{totals_either}
 
 -- ---- keys that are all shown

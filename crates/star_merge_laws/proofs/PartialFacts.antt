@@ -1,39 +1,8 @@
 -- What facts tell of a query, totals in any order, and partials by plans.
 use Rattle.std.proofs.Common.{◌≡◌, ◌∙◌, ◌↔◌, ℕ, ◌+◌, ◌≤◌, suc, true, List, [], ◌∷◌, ◌++◌, Option, inl, inr, length, map, refl, sym, subst, ap, arith}
-use Rattle.std.specs.Prelude.{ℤ, nat_lt, pos}
-use Rattle.std.specs.List.{list_all}
-use Rattle.std.specs.List.Sorted.{IsPermutation}
-use Rattle.std.specs.Option.{option_map_or}
-use Rattle.std.proofs.lemmas.Bool.{and_from, and_parts, lt-ltb, ltb-true}
-use Rattle.std.proofs.lemmas.List.{append_assoc, length-append}
-use Rattle.std.proofs.lemmas.List.Sorted.{Contains-permutation, IsPermutation-append, IsPermutation-append_comm, IsPermutation-map, IsPermutation-refl, IsPermutation-sym, IsPermutation-trans}
-use Rattle.std.proofs.lemmas.List.Folds.{list_all-append}
-use Rattle.star_schema.specs.declared.group.Aggregate.{Aggregate}
-use Rattle.star_schema.specs.declared.group.GroupColumn.{GroupColumn}
-use Rattle.star_schema.specs.declared.group.Shape.{Shape}
+use Rattle.star_merge_laws.proofs.Common.{Aggregate, AreFactsOf, AreMerged, Cell, Contains-permutation, Database, Facts, FitsFacts, FitsTables, GroupColumn, GroupRow, IsGroup, IsMergedAnswer, IsPermutation, IsPermutation-append, IsPermutation-append_comm, IsPermutation-map, IsPermutation-refl, IsPermutation-sym, IsPermutation-trans, IsSoundPlan, Partial, Plan, Row, Shape, Tree, Value, aggregate_of, and_from, and_parts, append_assoc, as_row, belongs, bounds_in, column_at, columns_at, filter_reordered, groups_of_partials, is_group_column, length-append, list_all, list_all-append, lt-ltb, ltb-true, measure_fits, measures_of, merged, merged_totals, nat_lt, only, option_map_or, parts_of, plain_plan, pos, reordered, tables_with, total_over, value_cmp, with_lineorder, ℤ}
 use Rattle.star_schema.specs.declared.group.GroupColumn.TheVariants as group
-use Rattle.star_schema.specs.Columns.{bounds_in}
-use Rattle.star_schema.specs.Database.{Database}
-use Rattle.star_schema.specs.Groups.{GroupRow, IsGroup, belongs}
-use Rattle.star_schema.specs.Order.{value_cmp}
-use Rattle.star_schema.specs.Tables.{Value}
-use Rattle.star_interval.specs.Range.{only}
-use Rattle.star_query.specs.Tree.{Tree}
-use Rattle.star_plan.specs.Fits.{measure_fits}
-use Rattle.star_plan.specs.Meaning.{Plan, Row, aggregate_of}
-use Rattle.star_plan.specs.Names.{column_at}
-use Rattle.star_plan.specs.Sound.{IsSoundPlan, is_group_column}
-use Rattle.star_merge_laws.specs.Facts.{AreFactsOf, Facts}
-use Rattle.star_merge_laws.specs.Merging.{AreMerged, as_row, merged, merged_totals, parts_of, total_over}
-use Rattle.star_merge_laws.specs.Parts.{with_lineorder}
 use Rattle.star_merge_laws.proofs.Totals.{merged_assoc, merged_comm}
-use Rattle.star_program.specs.declared.outcome.Cell.{Cell}
-use Rattle.star_query_meaning.specs.Fitting.{FitsTables}
-use Rattle.star_query_meaning.specs.Rows.{measures_of}
-use Rattle.star_query_meaning.proofs.Reorderings.{filter_reordered, reordered}
-use Rattle.star_merge_laws.specs.Partials.{FitsFacts, IsMergedAnswer, Partial, groups_of_partials}
-use Rattle.star_merge_laws.specs.Plain.{columns_at, plain_plan}
-use Rattle.star_merge_laws.specs.Tables.{tables_with}
 
 -- ---- whether a query fits hangs on the facts alone
 

@@ -1,23 +1,6 @@
 -- Totals that are added up under all groupings are those of the groups.
 use Rattle.std.proofs.Common.{◌≡◌, ◌∙◌, ◌⊎◌, ℕ, Bool, true, false, ◌&&◌, List, [], ◌∷◌, ◌++◌, Option, Some, None, map, cond, refl, sym, subst, ap, inl, inr, ⊎_elim, true≢false, IsTrue}
-use Rattle.std.specs.Prelude.{filter, replicate}
-use Rattle.std.specs.Bool.{Decides}
-use Rattle.std.specs.Cmp.Lexicographic.{slice_cmp}
-use Rattle.std.specs.List.{All, Contains, flat_map}
-use Rattle.std.specs.Ordering.{is_eq, ordering_then}
-use Rattle.std.specs.declared.cmp.Ordering.{Ordering}
-use Rattle.std.specs.declared.cmp.Ordering.TheVariants.{Less, Equal, Greater}
-use Rattle.std.proofs.lemmas.Bool.{and_parts}
-use Rattle.std.proofs.lemmas.List.{append-nil}
-use Rattle.std.proofs.lemmas.List.Elements.{All-append, All-cons, All-contains, All-contains_itself, All-filter, All-map, All-nil, All-weaker, Contains-append_cases, Contains-append_left, Contains-append_right, filter-append, filter_agree, filter_passes}
-use Rattle.star_common.proofs.Members.{contains_cases, contains_here, contains_later, contains_mapped, contains_none, from_contains_map}
-use Rattle.star_schema.specs.declared.group.Aggregate.{Aggregate}
-use Rattle.star_schema.specs.declared.group.Shape.{Shape}
-use Rattle.star_schema.specs.Groups.{Entry, GroupRow, IsGroup, IsMasked, belongs, is_grouping}
-use Rattle.star_schema.specs.Order.{key_cmp}
-use Rattle.star_merge_laws.specs.Merging.{AreMerged, as_row, merged_totals, parts_of, total_over}
-use Rattle.star_program.specs.Puts.{masks}
-use Rattle.star_merge_laws.specs.Regrouping.{AreAddedUp, added, all_added, are_same}
+use Rattle.star_merge_laws.proofs.Common.{Aggregate, All, All-append, All-cons, All-contains, All-contains_itself, All-filter, All-map, All-nil, All-weaker, AreAddedUp, AreMerged, Contains, Contains-append_cases, Contains-append_left, Contains-append_right, Decides, Entry, Equal, Greater, GroupRow, IsGroup, IsMasked, Less, Ordering, Shape, added, all_added, and_parts, append-nil, are_same, as_row, belongs, contains_cases, contains_here, contains_later, contains_mapped, contains_none, filter, filter-append, filter_agree, filter_passes, flat_map, from_contains_map, is_eq, is_grouping, key_cmp, masks, merged_totals, ordering_then, parts_of, replicate, slice_cmp, total_over}
 
 -- ---- lists
 

@@ -1,21 +1,7 @@
 -- The rows that a plan selects of lineorder's rows are those that it selects of each part.
 use Rattle.std.proofs.Common.{◌≡◌, ◌∙◌, ℕ, ◌+◌, true, List, [], ◌∷◌, ◌++◌, Option, Some, None, refl, sym, ap, true≢false}
-use Rattle.std.specs.Prelude.{filter}
-use Rattle.std.specs.List.{flat_map, list_all, sum_by}
-use Rattle.std.proofs.lemmas.Bool.{and_parts}
-use Rattle.std.proofs.lemmas.List.Concat.{flat_map-append}
-use Rattle.std.proofs.lemmas.List.Elements.{filter-append}
-use Rattle.std.proofs.lemmas.List.Sums.{sum_by-append, sum_by-cons}
-use Rattle.star_schema.specs.declared.table.TableId.{TableId}
-use Rattle.star_schema.specs.declared.table.TableId.TheVariants.{Lineorder}
-use Rattle.star_schema.specs.Database.{Database, rows_in}
-use Rattle.star_schema.specs.Schema.{key_of, references, table_of}
-use Rattle.star_schema.proofs.Same.{table_same}
-use Rattle.star_plan.specs.declared.tree.Join.{Join}
-use Rattle.star_plan.specs.Joins.{is_foreign, is_lone_key, refers}
-use Rattle.star_plan.specs.Meaning.{Joined, Plan, Row, all_hold, joined_rows, matches, only_row, partners, plan_rows, with_row}
+use Rattle.star_merge_laws.proofs.Common.{Database, Join, Joined, Lineorder, Plan, Row, TableId, all_hold, all_of, and_parts, filter, filter-append, flat_map, flat_map-append, is_foreign, is_lone_key, joined_rows, key_of, list_all, matches, only_row, partners, plan_rows, references, refers, rows_in, sum_by, sum_by-append, sum_by-cons, table_of, table_same, tables_with, with_row}
 use Rattle.star_merge_laws.proofs.LoadableParts.{IsBeside, referred_beside, rows_beside}
-use Rattle.star_merge_laws.specs.Tables.{all_of, tables_with}
 
 -- ---- joins are with other tables than lineorder
 

@@ -1,19 +1,7 @@
 -- Spans in a chain lie apart, in whatever order their parts come.
 use Rattle.std.proofs.Common.{◌≡◌, ◌∙◌, Bool, true, ◌||◌, List, [], ◌∷◌, ◌++◌, Option, Some, None, AllPairs, refl, subst, ap, arith, ⊎_elim}
-use Rattle.std.specs.Cmp.{IsTotalOrder}
-use Rattle.std.specs.List.{AllByRecursion, Contains}
-use Rattle.std.specs.List.Sorted.{IsPermutation}
-use Rattle.std.specs.Option.{option_to_list}
-use Rattle.std.specs.Ordering.{is_lt}
-use Rattle.std.proofs.Math.Bool.{or_comm}
-use Rattle.std.proofs.lemmas.Cmp.{int_cmp_total, lists_total}
-use Rattle.std.proofs.lemmas.List.Elements.{All-cons, All-contains, All-from_recursion, All-head, All-tail}
-use Rattle.std.proofs.lemmas.List.Kept.{AllPairs-cons}
-use Rattle.star_common.proofs.Members.{contains_cases, contains_here, contains_later, of_each}
-use Rattle.star_merge_laws.specs.Parts.{LineorderPart, AreDisjoint, Span, are_disjoint, key_list_cmp}
+use Rattle.star_merge_laws.proofs.Common.{All-cons, All-contains, All-from_recursion, All-head, All-tail, AllByRecursion, AllPairs-cons, AreDisjoint, AreInSequence, Contains, IsBefore, IsPermutation, IsTotalOrder, LineorderPart, Span, are_disjoint, contains_cases, contains_here, contains_later, int_cmp_total, is_lt, key_list_cmp, lists_total, of_each, option_to_list, or_comm, reordered, spans_of}
 use Rattle.star_merge_laws.proofs.LoadableParts.{is_less, less_upto, pairs_head, pairs_tail}
-use Rattle.star_query_meaning.proofs.Reorderings.{reordered}
-use Rattle.star_merge_laws.specs.Spans.{AreInSequence, IsBefore, spans_of}
 
 order : IsTotalOrder key_list_cmp
 order = lists_total int_cmp_total

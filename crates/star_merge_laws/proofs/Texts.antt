@@ -1,28 +1,7 @@
 -- What is merged of parts' texts is the report over the whole text.
 use Rattle.std.proofs.Common.{◌≡◌, ◌∙◌, ℕ, ◌+◌, ◌≤◌, List, [], ◌∷◌, ◌++◌, map, refl, sym, subst, ap, arith}
-use Rattle.std.specs.List.{All}
-use Rattle.std.specs.Prelude.{length}
-use Rattle.std.proofs.lemmas.List.{length-map}
-use Rattle.std.proofs.lemmas.List.Sums.{sum_by-cons}
-use Rattle.std.proofs.lemmas.List.Elements.{All-head, All-nil, All-cons, All-tail}
-use Rattle.star_schema.specs.declared.table.TableId.TheVariants.{Lineorder}
-use Rattle.star_schema.specs.Database.{TableTexts, rows_in}
-use Rattle.star_schema.specs.Loadable.{IsLoadable, database_of}
-use Rattle.star_schema.specs.Records.{records_in}
-use Rattle.star_schema.specs.Tables.{row_of, rows_of}
-use Rattle.star_query.specs.Derives.{Means}
-use Rattle.star_query.specs.Tree.{Tree}
-use Rattle.star_plan.specs.Meaning.{Plan}
-use Rattle.star_plan.specs.Resolved.{IsResolved}
-use Rattle.star_plan.specs.WellNamed.{IsWellNamed}
-use Rattle.star_merge_laws.specs.Parts.{IsLoadablePart, AreDisjoint, whole_text, with_lineorder, with_lineorder_text}
+use Rattle.star_merge_laws.proofs.Common.{All, All-cons, All-head, All-nil, All-tail, AreDisjoint, AreShards, Cell, IsAnswer, IsLoadable, IsLoadablePart, IsMergedAnswer, IsPartial, IsReport, IsResolved, IsTextShard, IsWellNamed, Lineorder, Means, Plan, Shard, TableTexts, TextShard, Tree, all_of, database_of, length, length-map, records_in, report_text, row_of, rows_in, rows_of, rows_of_partials, shard_partials, shard_rows, sum_by-cons, text_partials, text_parts, whole_text, with_lineorder, with_lineorder_text}
 use Rattle.star_merge_laws.proofs.LoadableParts.{parts_loadable, records_joined, rows_joined}
-use Rattle.star_program.specs.declared.outcome.Cell.{Cell}
-use Rattle.star_report.specs.Report.{report_text}
-use Rattle.star_query_meaning.specs.Answers.{IsAnswer}
-use Rattle.star_query_meaning.specs.Reports.{IsReport}
-use Rattle.star_merge_laws.specs.Partials.{AreShards, IsMergedAnswer, IsPartial, IsTextShard, Shard, TextShard, shard_partials, shard_rows, text_partials, text_parts, rows_of_partials}
-use Rattle.star_merge_laws.specs.Tables.{all_of}
 use Rattle.star_merge_laws.proofs.MergedAnswers.{merged_answer}
 
 module _ (most : ℕ) (texts : TableTexts) (q : Tree) where

@@ -1,12 +1,6 @@
 -- Aggregates over rows that pass one of two tests.
 use Rattle.std.proofs.Common.{◌≡◌, ◌∙◌, ℕ, ◌+◌, Bool, true, false, ◌&&◌, ◌||◌, List, [], ◌∷◌, ◌++◌, Option, Some, None, map, cond, refl, sym, ap, arith, true≢false}
-use Rattle.std.specs.Prelude.{ℤ, pos, ◌+ℤ◌, filter, slice_index_or}
-use Rattle.std.specs.Int.{int_min, int_max}
-use Rattle.std.proofs.lemmas.Int.{ints, clamps}
-use Rattle.star_schema.specs.declared.group.Aggregate.{Aggregate}
-use Rattle.star_schema.specs.declared.group.Aggregate.TheVariants.{Sum, Count, Min, Max}
-use Rattle.star_schema.specs.Groups.{Entry, aggregate, joined, joined_with, totals_from, totals_of}
-use Rattle.star_merge_laws.specs.Merging.{both, merged, merged_totals}
+use Rattle.star_merge_laws.proofs.Common.{Aggregate, Count, Entry, Max, Min, Sum, aggregate, both, clamps, filter, int_max, int_min, ints, joined, joined_with, merged, merged_totals, pos, slice_index_or, totals_from, totals_of, ℤ, ◌+ℤ◌}
 
 both_comm : (g : Aggregate) (x y : ℤ) → both g x y ≡ both g y x
 both_comm Sum x y = omega (arith, ints)

@@ -1,21 +1,7 @@
 -- What is known before a run holds at every moment of it.
 use Rattle.std.proofs.Common.{◌≡◌, ℕ, zero, suc, ◌+◌, ◌*◌, ◌^◌, ◌≤◌, ◌<◌, Bool, true, false, List, [], ◌∷◌, refl, sym, subst, arith, le_trans}
-use Rattle.std.specs.Prelude.{ℤ, nat_lt, not}
-use Rattle.std.proofs.lemmas.Bool.{ltb-true, or_parts}
-use Rattle.star_schema.specs.Groups.{members, numbers_for}
-use Rattle.star_schema.specs.declared.group.Aggregate.TheVariants.{Count}
-use Rattle.std.specs.Prelude.{slice_index_or}
-use Rattle.star_interval.specs.Range.{Holds}
-use Rattle.star_program.specs.declared.{program.Parts.Parts, value.Value.TheVariants.Row, fault.Fault.TheVariants.BadRegister, fault.Fault.TheVariants.WrittenTwice}
-use Rattle.star_program.specs.Code.{Code, Stop, Then, Each, code_size}
-use Rattle.star_program.specs.{World.World, World.IsLoaded, Values.Registers, Values.no_registers, Values.with_entry, Faults.unless, Faults.group_at, Keys.key_value_cmp, Run.End, Run.visited, Run.turns, Run.meaning}
-use Rattle.star_program.specs.Effects.{State, empty_state, Effect, GoesOn, EndsTurn, Traps, act}
-use Rattle.star_common.proofs.Firsts.{or_none}
-use Rattle.star_program.proofs.Unless.{unless_none}
-use Rattle.star_safety.specs.{Ranges.KnownRow, Ranges.AllKnown, Tallies.Shares, Refusals.op_reason, Refusals.scan_reason, Standing.at_place, Private.Forward.code_puts_to, Private.Forward.open_with, Private.Forward.none_open, Quote.turns_met, Quote.quote, Moments.sum_of, Moments.picked, Moments.IsMoment, Moments.all_shares, Private.Throughout.HoldsThroughout, Private.Throughout.InEachTurn, Private.Throughout.Onward, Private.Throughout.Throughout, Laws.IsAccepted, Laws.TotalsLie, Fitting.Agrees}
+use Rattle.star_safety.proofs.Common.{Agrees, AllKnown, BadRegister, Code, Context, Count, Each, Effect, End, EndsTurn, Faulty, GoesOn, Holds, HoldsThroughout, InEachTurn, IsAccepted, IsLoaded, IsMoment, KnownRow, Onward, Parts, Registers, Row, Shares, State, Stop, Then, Throughout, TotalsLie, Traps, World, WrittenTwice, act, after_op, after_scan, all_shares, at_end, at_first, at_place, code_puts_to, code_size, empty_state, group_at, in_scan, key_value_cmp, ltb-true, meaning, members, nat_lt, no_registers, none_open, not, numbers_for, op_reason, open_with, or_none, or_parts, picked, quote, scan_reason, slice_index_or, sum_of, turns, turns_met, unless, unless_none, visited, with_entry, ℤ}
 use Rattle.star_safety.proofs.Tally.{Tally, Tallies, no_tallies, plus_all, times_all, tallies_of, tally_of, tally_sum, sum_range_is}
-use Rattle.star_safety.specs.Contexts.{Context, at_first, after_op, in_scan, after_scan, at_end}
-use Rattle.star_safety.specs.declared.reason.Reason.TheVariants.{Faulty}
 use Rattle.star_safety.proofs.{TallyOrder.AtMost, TallyOrder.at_most_trans, TallyOrder.at_most_plus, TallyOrder.at_most_turn, Gains.op_gain, Gains.gain, Gains.whole_gain, Room.has_room}
 use Rattle.star_safety.proofs.Tallied.{sum_up, sum_down, IsTallied, tallied_more, tallied_members, sums_lie, shares_lie}
 use Rattle.star_safety.proofs.Instructions.{unmapped_none, agrees_entry, AreTallied, IsGood, act_good}

@@ -1,16 +1,7 @@
 -- No run makes more turns than are quoted, and one that may make as many as that is the run without
 -- a bound.
 use Rattle.std.proofs.Common.{◌≡◌, ℕ, zero, suc, ◌+◌, ◌*◌, ◌≤◌, ◌<◌, Bool, true, false, Option, Some, None, refl, sym, ap, subst, ◌∙◌, arith, zero-add, le_trans}
-use Rattle.std.specs.Prelude.{nat_lt, if◌then◌else◌}
-use Rattle.std.proofs.lemmas.Bool.{lt-ltb}
-use Rattle.std.proofs.Math.Nat.{mul-le-mul_right}
-use Rattle.star_program.specs.declared.{op.Op.Op, op.Op.TheVariants.Assign, op.Op.TheVariants.Keep, op.Op.TheVariants.Put, program.Parts.Parts, value.Value.TheVariants.Row, fault.TrapKind.TrapKind}
-use Rattle.star_program.specs.declared.op.Operation.TheVariants.{Const, Edge, Load, Find, Binary, Within, Not, Read}
-use Rattle.star_program.specs.Code.{Code, Stop, Then, Each, code_size}
-use Rattle.star_program.specs.{World.World, Values.Registers, Values.no_registers, Values.with_entry, Values.flag_read, ShowLines.shown_fault}
-use Rattle.star_program.specs.Effects.{State, empty_state, Effect, GoesOn, EndsTurn, Traps, trap_of, unless_trap, effect_of, act}
-use Rattle.star_program.specs.Run.{End, Ended, Trapped, Limited, follow, after, visited, begin, turns, scans, meaning, unless_unshown, run_of, bounded_run_of}
-use Rattle.star_safety.specs.Quote.{turns_met, quote}
+use Rattle.star_safety.proofs.Common.{Assign, Binary, Code, Const, Each, Edge, Effect, End, Ended, EndsTurn, Find, GoesOn, Keep, Limited, Load, Not, Op, Parts, Put, Read, Registers, Row, State, Stop, Then, TrapKind, Trapped, Traps, Within, World, act, after, begin, bounded_run_of, code_size, effect_of, empty_state, flag_read, follow, if◌then◌else◌, lt-ltb, meaning, mul-le-mul_right, nat_lt, no_registers, quote, run_of, scans, shown_fault, trap_of, turns, turns_met, unless_trap, unless_unshown, visited, with_entry}
 use Rattle.star_safety.proofs.Sound.{quoted_each, in_time}
 
 -- ---- an instruction begins no turn

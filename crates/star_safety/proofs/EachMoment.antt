@@ -1,15 +1,6 @@
 -- What holds throughout a run holds at each moment that it meets, and the other way round.
 use Rattle.std.proofs.Common.{◌≡◌, ℕ, zero, suc, ◌+◌, ◌<◌, Bool, true, false, refl, subst, sym, arith}
-use Rattle.std.specs.Prelude.{nat_lt}
-use Rattle.std.proofs.lemmas.Bool.{ltb-true}
-use Rattle.star_program.specs.declared.{program.Parts.Parts, value.Value.TheVariants.Row}
-use Rattle.star_program.specs.Code.{Code, Stop, Then, Each, code_size}
-use Rattle.star_program.specs.{World.World, Values.Registers, Values.with_entry}
-use Rattle.star_program.specs.Effects.{State, Effect, GoesOn, EndsTurn, Traps, act}
-use Rattle.star_program.specs.Run.{End, Ended, Trapped, Limited, EndsWith, after, follow, meaning, meaning_of, scans, turns, visited}
-use Rattle.star_safety.specs.{Tallies.Shares, Private.Throughout.HoldsThroughout, Private.Throughout.InEachTurn, Private.Throughout.Onward, Private.Throughout.Throughout}
-use Rattle.star_safety.specs.Contexts.{Context, after_op, in_scan, after_scan, at_end}
-use Rattle.star_safety.specs.Moments.{AtEveryMoment, HoldsFrom, IsMetFrom, Moment, all_shares, behind, behind_scan, first_moment, in_turn, itself, moment}
+use Rattle.star_safety.proofs.Common.{AtEveryMoment, Code, Context, Each, Effect, End, Ended, EndsTurn, EndsWith, GoesOn, HoldsFrom, HoldsThroughout, InEachTurn, IsMetFrom, Limited, Moment, Onward, Parts, Registers, Row, Shares, State, Stop, Then, Throughout, Trapped, Traps, World, act, after, after_op, after_scan, all_shares, at_end, behind, behind_scan, code_size, first_moment, follow, in_scan, in_turn, itself, ltb-true, meaning, meaning_of, moment, nat_lt, scans, turns, visited, with_entry}
 use Rattle.star_safety.proofs.BeforePuts.{moment_of}
 
 -- ---- from the whole run to a moment

@@ -1,18 +1,6 @@
 -- Groups whose keys have few values are few.
 use Rattle.std.proofs.Common.{◌≡◌, ◌⊎◌, ℕ, zero, suc, ◌*◌, ◌≤◌, Bool, true, false, List, [], ◌∷◌, ◌++◌, Option, Some, None, length, map, replicate, refl, sym, ap, subst, ◌∙◌, arith, ⊎_elim, true≢false, le_trans}
-use Rattle.std.specs.Prelude.{nat_le, filter, if◌then◌else◌}
-use Rattle.std.specs.List.{Contains, IsDistinct, flat_map, list_all, sum_by}
-use Rattle.std.specs.Option.{is_none}
-use Rattle.std.proofs.lemmas.{List.length-append, List.length-map, List.Elements.Contains-append_left, List.Elements.Contains-append_right, List.Elements.Contains-append_cases, List.Sums.sum_by-cons, Map.Made.length-le_from_is_member, Map.Views.Contains-from_any, Map.Views.list_any-from_Contains}
-use Rattle.star_common.proofs.Members.{contains_here, contains_later, contains_cases, contains_none, contains_mapped, from_contains_map}
-use Rattle.star_schema.specs.declared.group.Shape.{Shape, TheVariants.Plain, TheVariants.Cube, TheVariants.Rollup}
-use Rattle.star_schema.specs.Groups.{IsMasked, is_grouping}
-use Rattle.star_program.specs.declared.key.KeyValue.{KeyValue}
-use Rattle.star_program.specs.Puts.{masks}
-use Rattle.star_program.proofs.Rows.{length-rows}
-use Rattle.star_group.specs.OwnKeys.{key_eq}
-use Rattle.star_group.proofs.GroupKeys.{key_decides, key_equiv}
-use Rattle.star_safety.specs.MostRows.{lists_of, rows_of_grouping, rows_of_groupings}
+use Rattle.star_safety.proofs.Common.{Contains, Contains-append_cases, Contains-append_left, Contains-append_right, Contains-from_any, Cube, IsDistinct, IsMasked, KeyValue, Plain, Rollup, Shape, contains_cases, contains_here, contains_later, contains_mapped, contains_none, filter, flat_map, from_contains_map, if◌then◌else◌, is_grouping, is_none, key_decides, key_eq, key_equiv, length-append, length-le_from_is_member, length-map, length-rows, list_all, list_any-from_Contains, lists_of, masks, nat_le, rows_of_grouping, rows_of_groupings, sum_by, sum_by-cons}
 
 -- ---- elements of lists that are joined, and of those that pass a test
 

@@ -1,18 +1,6 @@
 -- One pass over the code of a program finds the first instruction that is refused.
 use Rattle.std.proofs.Common.{◌≡◌, ℕ, ◌+◌, ◌≤◌, Bool, true, false, List, [], ◌∷◌, ◌++◌, Option, Some, None, refl, sym, ap, subst, ◌∙◌, arith, append_assoc, append-nil}
-use Rattle.std.specs.Prelude.{◌&&◌, ◌||◌, nat_lt}
-use Rattle.std.specs.{List.list_any, Option.option_or}
-use Rattle.std.proofs.lemmas.Bool.{eq-eqb, lt-ltb, le-ltb, or_right, and_right}
-use Rattle.std.proofs.lemmas.List.Folds.{list_any-append}
-use Rattle.std.proofs.Math.Bool.{or-false}
-use Rattle.star_schema.specs.declared.table.TableId.{TableId}
-use Rattle.star_common.specs.First.{first_answer}
-use Rattle.star_program.specs.declared.{op.Op.Op, program.Parts.Parts}
-use Rattle.star_program.specs.Code.{Code, Stop, Then, Each, code_size}
-use Rattle.star_program.specs.World.{World}
-use Rattle.star_safety.specs.Contexts.{Context, at_first, after_op, in_scan, after_scan, at_end}
-use Rattle.star_safety.specs.{Refusals.op_reason, Refusals.scan_reason, Private.Forward.code_puts_to, Private.Forward.open_with, Private.Forward.none_open, Private.Forward.first_reason, Told.item_scope, Told.scope_of}
-use Rattle.star_safety.specs.Standing.{Enclosing, CodeItem, Act, Scan, BodyEnd, Standing, standing, instructions_of, op_puts_to, puts_to, is_open, at_place, reason_among, reason_of, has_scan, in_one_of}
+use Rattle.star_safety.proofs.Common.{Act, BodyEnd, Code, CodeItem, Context, Each, Enclosing, Op, Parts, Scan, Standing, Stop, TableId, Then, World, after_op, after_scan, and_right, at_end, at_first, at_place, code_puts_to, code_size, eq-eqb, first_answer, first_reason, has_scan, in_one_of, in_scan, instructions_of, is_open, item_scope, le-ltb, list_any, list_any-append, lt-ltb, nat_lt, none_open, op_puts_to, op_reason, open_with, option_or, or-false, or_right, puts_to, reason_among, reason_of, scan_reason, scope_of, standing, ◌&&◌, ◌||◌}
 use Rattle.star_safety.proofs.Scopes.{AreBelow, any_with, any_has, EachOf, each_both, each_so, same_any, stand_in}
 use Rattle.star_safety.proofs.Told.{Tells, tells_then, tells_in, tells_after, tells_through, nothing_told}
 

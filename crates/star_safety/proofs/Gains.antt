@@ -1,11 +1,6 @@
 -- What instructions and code add each time that they are met.
 use Rattle.std.proofs.Common.{ℕ, ◌+◌, ◌≤◌, Bool, true, false, List, [], ◌∷◌, ◌++◌, None, arith}
-use Rattle.std.specs.Prelude.{nat_eq, slice_index_or, if◌then◌else◌}
-use Rattle.star_schema.specs.declared.table.TableId.{TableId}
-use Rattle.star_program.specs.declared.{group.GroupDecl.GroupDecl, op.Op.Op, op.Op.TheVariants.Put, program.Parts.Parts}
-use Rattle.star_program.specs.{Code.Code, Code.Stop, Code.Then, Code.Each, Faults.group_at, World.World}
-use Rattle.star_safety.specs.{Ranges.AllKnown, Ranges.range_at, Moments.all_shares}
-use Rattle.star_safety.specs.Contexts.{Context, put_known, put_share, after_op, in_scan, after_scan, at_end}
+use Rattle.star_safety.proofs.Common.{AllKnown, Code, Context, Each, GroupDecl, Op, Parts, Put, Stop, TableId, Then, World, after_op, after_scan, all_shares, at_end, group_at, if◌then◌else◌, in_scan, nat_eq, put_known, put_share, range_at, slice_index_or}
 use Rattle.star_safety.proofs.Tally.{Tally, no_tally, once, plus, times, Tallies, no_tallies, plus_all, times_all, tally_of, tallies_of}
 use Rattle.star_safety.proofs.TallyOrder.{AtMost, at_most_refl, at_most_trans, at_most_both, at_most_spread, at_most_product, at_most_nothing}
 

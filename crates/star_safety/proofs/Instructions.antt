@@ -1,31 +1,9 @@
 -- One instruction of an admissible program.
 use Rattle.std.proofs.Common.{◌≡◌, ℕ, zero, suc, ◌<◌, Bool, true, false, List, [], ◌∷◌, Option, Some, None, refl, sym, ap, subst}
-use Rattle.std.proofs.lemmas.Bool.{eq-eqb}
-use Rattle.std.specs.Prelude.{ℤ, pos, ◌+ℤ◌, ◌-ℤ◌, ◌*ℤ◌, map, nat_eq, not, if◌then◌else◌, unwrap_or, slice_index_or}
-use Rattle.std.specs.Option.{option_map, option_or}
-use Rattle.star_schema.specs.declared.{table.TableId.TableId, column.ColumnId.ColumnId, group.Aggregate.Aggregate, group.Aggregate.TheVariants.Count}
-use Rattle.star_schema.specs.{Schema.table_of, Schema.references, Groups.numbers_for}
-use Rattle.star_interval.specs.Range.{Holds, only, corner_range, is_i64, fits_i64}
-use Rattle.star_interval.specs.Laws.{KeepsValues}
-use Rattle.star_interval.proofs.{Sums.sums_held, Sums.differences_held, Products.products_held}
-use Rattle.star_program.specs.declared.{group.GroupDecl.GroupDecl, op.Op.Op, op.Op.TheVariants.Assign, op.Op.TheVariants.Keep, op.Op.TheVariants.Put, op.Operator.Operator, op.Operator.TheVariants.Add, op.Operator.TheVariants.Sub, op.Operator.TheVariants.Mul, op.Operator.TheVariants.Less, program.Parts.Parts, value.Value.Value, fault.Fault.Fault, fault.TrapKind.TrapKind, fault.TrapKind.TheVariants.Wrong, fault.TrapKind.TheVariants.Overflow}
-use Rattle.star_program.specs.declared.op.Operation.TheVariants.{Const, Edge, Load, Find, Binary, Within, Not, Read}
-use Rattle.star_program.specs.World.{World, IsLoaded, IsRowNumberOf, edge_of, is_text}
-use Rattle.star_program.specs.declared.value.Value.TheVariants.{Number, Text, Place, Row, Flag}
-use Rattle.star_program.specs.Values.{register_kind, Registers, with_entry, number_read, flag_read, row_read}
-use Rattle.star_program.specs.Faults.{unless, kind_fault, operand_fault, is_number_kind, is_row_kind, is_row_of, both_fault, binary_fault, numbers_fault, keys_fault, place_fault, target_fault, target_of, operands_fault, group_at, fault_of}
-use Rattle.star_program.specs.Puts.{Update, aligned, overflows, own_groups, total_over}
-use Rattle.star_program.specs.Effects.{State, Effect, GoesOn, EndsTurn, Traps, answer_of, loaded, update_of, result_trap, effect_of, unless_trap, kinds_in, act}
-use Rattle.star_program.specs.Private.Doing.{sets, sets_answer, sets_found, keeps, puts, puts_update, does}
-use Rattle.star_common.proofs.Firsts.{or_none}
-use Rattle.star_program.proofs.Unless.{unless_none}
-use Rattle.star_schema.proofs.Same.{table_same}
-use Rattle.star_safety.specs.Ranges.{Known, KnownNumber, KnownText, KnownPlace, KnownRow, KnownFlag, known_kind, AllKnown, range_at, origin_at, known_number, loaded_known, known_arithmetic, answer_known, kinds_known}
-use Rattle.star_safety.specs.{Tallies.Share, Tallies.read_range, Fitting.FromColumn, Fitting.FitsValue, Fitting.FitsAt, Fitting.Agrees, Contexts.Context, Contexts.put_known, Contexts.after_op}
+use Rattle.star_safety.proofs.Common.{Add, Aggregate, Agrees, AllKnown, Assign, Binary, ColumnId, Const, Context, Count, Edge, Effect, EndsTurn, Fault, Faulty, Find, FitsAt, FitsValue, Flag, FromColumn, GoesOn, GroupDecl, Holds, IsLoaded, IsRowNumberOf, Keep, KeepsValues, Known, KnownFlag, KnownNumber, KnownPlace, KnownRow, KnownText, Less, Load, Mul, Not, Number, Op, Operator, Parts, Place, Put, Read, Reason, Registers, Row, Share, State, Sub, TableId, Text, TrapKind, Traps, Update, Value, Within, World, Wrong, act, after_op, aligned, answer_known, answer_of, binary_fault, both_fault, corner_range, differences_held, does, edge_of, effect_of, eq-eqb, fault_of, fits_i64, flag_read, group_at, if◌then◌else◌, is_i64, is_number_kind, is_row_kind, is_row_of, is_some_table, is_text, keeps, keys_fault, kind_fault, kind_reason, kinds_in, kinds_known, known_arithmetic, known_kind, known_number, loaded, loaded_known, map, nat_eq, not, number_read, numbers_fault, numbers_for, only, op_reason, operand_fault, operands_fault, option_map, option_or, or_none, origin_at, overflow_of, overflows, own_groups, place_fault, pos, products_held, put_known, puts, puts_update, range_at, range_reason, read_range, references, refers_to, refuses, register_kind, result_trap, row_read, sets, sets_answer, sets_found, slice_index_or, source_reason, sums_held, table_of, table_same, target_again, target_fault, target_of, total_over, unless, unless_none, unless_trap, unwrap_or, update_of, with_entry, ℤ, ◌*ℤ◌, ◌+ℤ◌, ◌-ℤ◌}
+use Rattle.star_program.specs.declared.fault.TrapKind.TheVariants.{Overflow}
 use Rattle.star_safety.proofs.Tally.{Tally, no_tally, plus, Tallies, no_tallies, plus_all, tally_of}
 use Rattle.star_safety.proofs.{Gains.put_tally, Gains.op_gain, Numbers.holds_itself, Numbers.fits_held, TallyOrder.AtMost, TallyOrder.at_most_plus}
-use Rattle.star_safety.specs.declared.reason.Reason.{Reason, TheVariants.Faulty}
-use Rattle.star_safety.specs.Refusals.{refuses, is_some_table, refers_to, overflow_of, target_again, kind_reason, source_reason, range_reason, op_reason}
 use Rattle.star_safety.proofs.Tallied.{IsTallied, tallied_more, tallied_put, no_overflow, read_holds, tallies_fit, tallies_fit_less}
 
 -- ---- no fault, and no reason

@@ -1,12 +1,6 @@
 -- Each moment of a run stands among the instructions of its program.
 use Rattle.std.proofs.Common.{◌≡◌, ℕ, ◌+◌, List, [], ◌∷◌, ◌++◌, Some, append_assoc, append-nil, ap, length, refl, sym, ◌∙◌}
-use Rattle.std.specs.Prelude.{slice_get}
-use Rattle.star_program.specs.declared.program.Parts.{Parts}
-use Rattle.star_program.specs.Code.{Code, Stop, Then, Each, code_size}
-use Rattle.star_program.specs.World.{World}
-use Rattle.star_safety.specs.Contexts.{Context, after_op, in_scan, after_scan, at_end}
-use Rattle.star_safety.specs.Moments.{IsMet, Moment, StandsIn, behind, behind_scan, in_turn, item_of, itself, moment}
-use Rattle.star_safety.specs.Standing.{Act, Enclosing, Scan, Standing, instructions_of, standing}
+use Rattle.star_safety.proofs.Common.{Act, Code, Context, Each, Enclosing, IsMet, Moment, Parts, Scan, Standing, StandsIn, Stop, Then, World, after_op, after_scan, at_end, behind, behind_scan, code_size, in_scan, in_turn, instructions_of, item_of, itself, moment, slice_get, standing}
 
 at_seam : {A : Type 0} (front : List A) (x : A) (back : List A)
     → slice_get (front ++ x ∷ back) (length front) ≡ Some x

@@ -1,14 +1,7 @@
 -- Where nothing refuses some code, what is known at its end lies within 2 ^ 63 of zero, and so does
 -- each number that it puts.
 use Rattle.std.proofs.Common.{◌≡◌, ℕ, ◌+◌, Bool, None}
-use Rattle.star_schema.specs.declared.table.TableId.{TableId}
-use Rattle.star_program.specs.declared.{op.Op.Op, program.Parts.Parts}
-use Rattle.star_program.specs.Code.{Code, Stop, Then, Each, code_size}
-use Rattle.star_program.specs.World.{World}
-use Rattle.star_common.proofs.Firsts.{or_none}
-use Rattle.star_safety.specs.Contexts.{Context, at_first, after_op, in_scan, after_scan, at_end}
-use Rattle.star_safety.specs.{Private.Forward.open_with, Private.Forward.first_reason, Ranges.KnownRow, Standing.at_place}
-use Rattle.star_safety.specs.Refusals.{kind_reason, source_reason, range_reason, op_reason, scan_reason}
+use Rattle.star_safety.proofs.Common.{Code, Context, Each, KnownRow, Op, Parts, Stop, TableId, Then, World, after_op, after_scan, at_end, at_first, at_place, code_size, first_reason, in_scan, kind_reason, op_reason, open_with, or_none, range_reason, scan_reason, source_reason}
 use Rattle.star_safety.proofs.{Sound.at_place_none, NarrowRanges.Fits, NarrowRanges.zero_narrow, NarrowRanges.entry_narrow, NarrowRanges.after_narrow}
 
 -- at the first instruction

@@ -1,18 +1,7 @@
 -- What is known where nothing is refused lies within 2 ^ 63 of zero, each result of it within
 -- 2 ^ 126, and so does the sum of fewer than 2 ^ 63 numbers.
 use Rattle.std.proofs.Common.{◌≡◌, ℕ, zero, suc, ◌+◌, ◌*◌, ◌^◌, ◌≤◌, ◌<◌, Bool, true, false, List, [], ◌∷◌, ◌++◌, Option, Some, None, refl, arith, FitsSigned, w64}
-use Rattle.std.specs.Prelude.{ℤ, pos, negsuc, ◌+ℤ◌, ◌-ℤ◌, ◌*ℤ◌, map, nat_eq, slice_index_or, unsigned_abs, if◌then◌else◌}
-use Rattle.std.specs.List.{AllByRecursion}
-use Rattle.star_schema.specs.declared.{column.ColumnId.ColumnId, group.Aggregate.Aggregate, group.Aggregate.TheVariants.Sum, group.Aggregate.TheVariants.Count, group.Aggregate.TheVariants.Min, group.Aggregate.TheVariants.Max}
-use Rattle.star_interval.specs.Range.{Range, FitsI64, FitsI128, fits_i64, only, hull, multiple_range}
-use Rattle.star_program.specs.declared.{op.Op.Op, op.Op.TheVariants.Assign, op.Op.TheVariants.Keep, op.Op.TheVariants.Put, op.Operation.Operation, op.Operator.Operator, program.Parts.Parts}
-use Rattle.star_program.specs.declared.op.Operation.TheVariants.{Const, Edge, Load, Find, Binary, Within, Not, Read}
-use Rattle.star_program.specs.declared.op.Operator.TheVariants.{Add, Sub, Mul, Less, LessOrEqual, Equal, And, Or}
-use Rattle.star_program.specs.{Faults.group_at, Puts.aligned, Values.with_entry, World.World, World.is_text}
-use Rattle.star_safety.specs.{Bounds.NamesI64, Refusals.overflow_of, Refusals.range_reason}
-use Rattle.star_safety.specs.Contexts.{Context, put_known, put_share, result_known, after_op}
-use Rattle.star_safety.specs.Ranges.{Known, KnownNumber, KnownText, KnownPlace, KnownRow, KnownFlag, AllKnown, range_at, known_number, loaded_known, answer_known}
-use Rattle.star_safety.specs.Tallies.{Share, sum_range, most_of, hull_with, hull_of, read_range, widened}
+use Rattle.star_safety.proofs.Common.{Add, Aggregate, AllByRecursion, AllKnown, And, Assign, Binary, ColumnId, Const, Context, Count, Edge, Equal, Find, FitsI128, FitsI64, Keep, Known, KnownFlag, KnownNumber, KnownPlace, KnownRow, KnownText, Less, LessOrEqual, Load, Max, Min, Mul, NamesI64, Not, Op, Operation, Operator, Or, Parts, Put, Range, Read, Share, Sub, Sum, Within, World, after_op, aligned, answer_known, fits_i64, group_at, hull, hull_of, hull_with, if◌then◌else◌, is_text, known_number, loaded_known, map, most_of, multiple_range, nat_eq, negsuc, only, overflow_of, pos, put_known, put_share, range_at, range_reason, read_range, result_known, slice_index_or, sum_range, unsigned_abs, widened, with_entry, ℤ, ◌*ℤ◌, ◌+ℤ◌, ◌-ℤ◌}
 use Rattle.star_safety.proofs.Instructions.{not_refuses_none}
 use Rattle.star_safety.proofs.Sizes.{Small, small_more, sum_abs, difference_abs, product_abs, fits_small, small_fits, i64_small, only_small, hull_small, corner_small, widened_small, multiple_small}
 

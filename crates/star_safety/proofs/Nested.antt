@@ -1,10 +1,6 @@
 -- How often an instruction is met where few scans stand one in another.
 use Rattle.std.proofs.Common.{◌≡◌, ◌<◌, ◌≤◌, ◌+◌, ◌*◌, ◌^◌, ℕ, suc, Bool, true, false, arith, ap, refl}
-use Rattle.std.proofs.Math.Nat.{mul_assoc, mul-le-mul_left, mul-le-mul_right, pow-succ', pow-le-pow_right, one-le-pow}
-use Rattle.std.proofs.lemmas.Bool.{ltb-false, Decides.Decides-ltb}
-use Rattle.std.specs.Prelude.{nat_lt, if◌then◌else◌}
-use Rattle.star_schema.specs.declared.table.TableId.{TableId}
-use Rattle.star_program.specs.Code.{Code, Each, scan_depth}
+use Rattle.star_safety.proofs.Common.{Code, Decides-ltb, Each, TableId, if◌then◌else◌, ltb-false, mul-le-mul_left, mul-le-mul_right, mul_assoc, nat_lt, one-le-pow, pow-le-pow_right, pow-succ', scan_depth}
 
 pub deeper_left : (b : Bool) (m n k : ℕ) → nat_lt m n ≡ b → (if b then n else m) ≤ k → m ≤ k
 deeper_left true m n k e h = let lt : m < n = (Decides-ltb m n).0 e in omega (arith, lt, h)

@@ -1,9 +1,7 @@
 -- Numbers in ranges, and in their bits.
 use Rattle.std.proofs.Common.{◌≡◌, ◌^◌, ◌≤◌, ◌<◌, true, refl, arith, inl, inr}
-use Rattle.std.specs.Prelude.{ℤ, pos, negsuc, ◌≤ℤ◌}
-use Rattle.std.proofs.lemmas.{Bool.lt-ltb, Bool.and_parts, Int.ints}
+use Rattle.star_safety.proofs.Common.{Holds, Range, and_parts, fits_i64, hull, ints, is_i128, is_i64, lt-ltb, negsuc, only, pos, ℤ, ◌≤ℤ◌}
 use borrow.Author.Differences.{up, down}
-use Rattle.star_interval.specs.Range.{Range, Holds, is_i64, is_i128, fits_i64, only, hull}
 use Rattle.star_interval.proofs.Ranges as ranges
 
 pub holds_itself : (z : ℤ) → Holds (only z) z

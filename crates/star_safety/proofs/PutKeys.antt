@@ -1,28 +1,8 @@
 -- Each key of an update is one of the values that are known of it before the run.
 use Rattle.std.proofs.Common.{◌≡◌, ℕ, zero, suc, ◌+◌, ◌<◌, Bool, true, false, List, [], ◌∷◌, ◌++◌, Option, Some, None, length, map, refl, sym, ap, subst, ◌∙◌, arith, ⊎_elim, zero-add}
-use Rattle.std.specs.Prelude.{ℤ, pos, negsuc, ◌+ℤ◌, ◌-ℤ◌, nat_eq, nat_lt, slice_index_or, if◌then◌else◌}
-use Rattle.std.specs.{List.AllByRecursion, List.Contains, List.range_with_len, Option.option_map}
-use Rattle.std.proofs.lemmas.{Bool.and_parts, Bool.eqb-true, Bool.lt-ltb, Int.ints, List.length-map, List.Elements.Contains-append_right, List.FromFn.length-range_with_len, List.FromFn.get_or-range_with_len}
-use Rattle.star_program.proofs.Unless.{unless_none}
-use Rattle.star_common.proofs.{Firsts.or_none, Members.contains_here, Members.contains_cases, Members.contains_mapped, Members.contains_none}
-use Rattle.star_schema.proofs.Same.{column_same}
-use Rattle.star_schema.specs.declared.column.ColumnId.{ColumnId}
-use Rattle.star_interval.specs.Range.{Range, Holds}
-use Rattle.star_program.specs.declared.{group.GroupKey.GroupKey, key.KeyValue.KeyValue, op.Op.Op, op.Op.TheVariants.Assign, op.Op.TheVariants.Keep, op.Op.TheVariants.Put, op.Operation.Operation, op.Operator.TheVariants.Add, op.Operator.TheVariants.Sub, op.Operator.TheVariants.Mul, program.Parts.Parts, value.Value.Value, fault.Fault.TheVariants.BadRegister, fault.Fault.TheVariants.WrongKind, fault.Fault.TheVariants.BadGroup, fault.TrapKind.TrapKind, fault.TrapKind.TheVariants.Wrong}
+use Rattle.star_safety.proofs.Common.{Add, Agrees, AllByRecursion, AllKnown, Assign, BadGroup, BadRegister, Binary, Code, ColumnId, Const, Contains, Contains-append_right, Context, Each, Edge, Effect, End, Ended, EndsTurn, EndsWith, Find, FitsAt, Flag, GoesOn, GroupKey, Holds, InEachTurn, Keep, KeyValue, Known, KnownFlag, KnownNumber, KnownPlace, KnownRow, KnownText, Limited, Load, Mul, Not, Number, Onward, Op, Operation, Parts, Place, Put, Range, Read, Registers, Row, Share, Shares, State, Stop, Sub, Text, Then, Throughout, TrapKind, Trapped, Traps, Update, Value, Within, World, Wrong, WrongKind, act, after, after_op, after_scan, all_key_shares, and_parts, at_end, code_size, column_same, contains_cases, contains_here, contains_mapped, contains_none, each_values, effect_of, eqb-true, fault_of, fits_key, follow, get_or-range_with_len, group_at, hull_of, hull_with, if◌then◌else◌, in_scan, ints, is_column, is_text, key_read, key_share, keys_fault, kind_fault, kinds_in, known_share, length-map, length-range_with_len, loaded_known, lt-ltb, meaning, most_of, nat_eq, nat_lt, negsuc, numbers_fault, numbers_to, op_key_shares, operand_fault, operation_known, option_map, or_none, place_fault, pos, possible_values, put_share, range_width, range_with_len, register_kind, result_known, scans, slice_index_or, target_fault, trap_of, turns, unless, unless_none, unless_trap, update_of, visited, width, with_entry, ℤ, ◌+ℤ◌, ◌-ℤ◌}
 use Rattle.star_program.specs.declared.group.GroupKey.TheVariants as declared
 use Rattle.star_program.specs.declared.key.KeyValue.TheVariants as key
-use Rattle.star_program.specs.declared.op.Operation.TheVariants.{Const, Edge, Load, Find, Binary, Within, Not, Read}
-use Rattle.star_program.specs.declared.value.Value.TheVariants.{Number, Text, Place, Row, Flag}
-use Rattle.star_program.specs.Code.{Code, Stop, Then, Each, code_size}
-use Rattle.star_program.specs.Effects.{State, Effect, GoesOn, EndsTurn, Traps, kinds_in, trap_of, effect_of, unless_trap, update_of, act}
-use Rattle.star_program.specs.Faults.{group_at, fault_of, fits_key, keys_fault, kind_fault, numbers_fault, operand_fault, place_fault, target_fault, unless}
-use Rattle.star_program.specs.{Puts.Update, Values.Registers, Values.key_read, Values.register_kind, Values.with_entry, World.World, World.is_column, World.is_text}
-use Rattle.star_program.specs.Run.{End, Ended, Trapped, Limited, EndsWith, after, follow, meaning, scans, turns, visited}
-use Rattle.star_safety.specs.Contexts.{Context, after_op, after_scan, at_end, in_scan, key_share, known_share, op_key_shares, operation_known, put_share, result_known}
-use Rattle.star_safety.specs.{Fitting.Agrees, Fitting.FitsAt, Private.Throughout.InEachTurn, Private.Throughout.Onward, Private.Throughout.Throughout}
-use Rattle.star_safety.specs.MostRows.{all_key_shares, each_values, numbers_to, possible_values, width, range_width}
-use Rattle.star_safety.specs.Ranges.{Known, KnownNumber, KnownText, KnownPlace, KnownRow, KnownFlag, AllKnown, loaded_known}
-use Rattle.star_safety.specs.Tallies.{Share, Shares, hull_of, hull_with, most_of}
 use Rattle.star_safety.proofs.{BeforePuts.moment_of, FewGroups.sizes, Instructions.unmapped_none, Numbers.holds_hull_left, Numbers.holds_hull_right}
 
 -- ---- the values of a key

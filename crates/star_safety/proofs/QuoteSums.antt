@@ -1,13 +1,6 @@
 -- A quote is the sum of the turns of the scans of a program.
 use Rattle.std.proofs.Common.{◌≡◌, ◌∙◌, ◌+◌, ◌*◌, ◌++◌, ℕ, List, [], ◌∷◌, ap, arith, refl, sym, zero-add}
-use Rattle.std.specs.List.{sum_by}
-use Rattle.std.proofs.lemmas.List.Sums.{sum_by-append, sum_by-cons}
-use Rattle.star_program.specs.declared.program.Parts.{Parts}
-use Rattle.star_program.specs.Code.{Code, Stop, Then, Each, code_size}
-use Rattle.star_program.specs.World.{World}
-use Rattle.star_safety.specs.Contexts.{Context, after_op, after_scan, at_end, at_first, in_scan}
-use Rattle.star_safety.specs.{Quote.quote, Quote.turns_met, Told.rows_together, Told.turns_of}
-use Rattle.star_safety.specs.Standing.{Act, Enclosing, Scan, Standing, instructions_of, standing}
+use Rattle.star_safety.proofs.Common.{Act, Code, Context, Each, Enclosing, Parts, Scan, Standing, Stop, Then, World, after_op, after_scan, at_end, at_first, code_size, in_scan, instructions_of, quote, rows_together, standing, sum_by, sum_by-append, sum_by-cons, turns_met, turns_of}
 
 together : (first b c d e : ℕ) → b ≡ d → c ≡ e → first + b + c ≡ first + (d + e)
 together first b c d e h k = omega (arith, h, k)

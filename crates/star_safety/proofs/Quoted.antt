@@ -1,15 +1,6 @@
 -- The visits that a refusal tells fit 128 bits.
 use Rattle.std.proofs.Common.{◌≡◌, ℕ, ◌*◌, ◌^◌, ◌≤◌, ◌<◌, Bool, true, false, Option, Some, None, arith, subst}
-use Rattle.std.proofs.Math.Nat.{pow-le-pow_right}
-use Rattle.std.specs.Option.{option_map, option_or}
-use Rattle.star_common.specs.First.{first_answer}
-use Rattle.star_schema.specs.declared.table.TableId.{TableId}
-use Rattle.star_program.specs.declared.program.Parts.{Parts}
-use Rattle.star_program.specs.Code.{Code, Stop, Then, Each, code_size, scan_depth}
-use Rattle.star_program.specs.{Limits.IsWithinLimits, ShowLines.shown_fault, World.World}
-use Rattle.star_safety.specs.Admissible.{TooCostly, Refused, BadShow, cost_refusal, first_refusal}
-use Rattle.star_safety.specs.{Quote.turns_met, Quote.quote, Standing.instructions_of, Standing.reason_of}
-use Rattle.star_safety.specs.declared.reason.Reason.{Reason}
+use Rattle.star_safety.proofs.Common.{BadShow, Code, Each, IsWithinLimits, Parts, Reason, Refused, Stop, TableId, Then, TooCostly, World, code_size, cost_refusal, first_answer, first_refusal, instructions_of, option_map, option_or, pow-le-pow_right, quote, reason_of, scan_depth, shown_fault, turns_met}
 use Rattle.star_safety.proofs.Nested.{body_nested, rest_nested, met_within}
 
 module _ (size : TableId → ℕ) (small : (t : TableId) → size t < 2 ^ 32) where

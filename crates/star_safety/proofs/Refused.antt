@@ -1,14 +1,6 @@
 -- What refuses a program, if anything does.
 use Rattle.std.proofs.Common.{◌≡◌, ℕ, ◌≤◌, Bool, true, false, None, refl, ap}
-use Rattle.std.specs.Prelude.{nat_le}
-use Rattle.std.specs.Option.{option_map}
-use Rattle.std.proofs.lemmas.Bool.{leb-true, le-leb}
-use Rattle.star_common.specs.First.{first_answer}
-use Rattle.star_common.proofs.Firsts.{all_without_answer, first_answer_none, or_none}
-use Rattle.star_program.specs.declared.program.Parts.{Parts}
-use Rattle.star_program.specs.World.{World}
-use Rattle.star_safety.specs.{Quote.quote, Standing.instructions_of, Standing.reason_of}
-use Rattle.star_safety.specs.Admissible.{Refused, BadShow, cost_refusal, IsAdmissible, first_refusal}
+use Rattle.star_safety.proofs.Common.{BadShow, IsAdmissible, Parts, Refused, World, all_without_answer, cost_refusal, first_answer, first_answer_none, first_refusal, instructions_of, le-leb, leb-true, nat_le, option_map, or_none, quote, reason_of}
 use Rattle.star_safety.proofs.Instructions.{both_none, unmapped_none}
 
 cheap : (visits : ℕ) (b : Bool) → cost_refusal visits b ≡ None → b ≡ true

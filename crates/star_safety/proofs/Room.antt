@@ -1,13 +1,6 @@
 -- Updates that are tallied within their bits are such as a put of the newest asks for.
 use Rattle.std.proofs.Common.{◌≡◌, ℕ, zero, suc, ◌+◌, ◌^◌, ◌<◌, true, List, [], ◌∷◌, length, refl, subst, arith, zero-add}
-use Rattle.std.specs.Prelude.{ℤ, pos, negsuc, slice_index_or}
-use Rattle.std.proofs.lemmas.{Bool.and_parts, List.length-map}
-use Rattle.star_schema.specs.declared.group.Aggregate.{Aggregate, TheVariants.Sum, TheVariants.Count}
-use Rattle.star_schema.specs.Groups.{numbers_for}
-use Rattle.star_program.specs.declared.group.GroupDecl.{GroupDecl}
-use Rattle.star_program.specs.Puts.{Update}
-use Rattle.star_group.specs.Stores.{AddUp, HasRoom, above_zero, below_zero, group_declared}
-use Rattle.star_group.proofs.SmallNumbers.{small_room}
+use Rattle.star_safety.proofs.Common.{AddUp, Aggregate, Count, GroupDecl, HasRoom, Sum, Update, above_zero, and_parts, below_zero, group_declared, length-map, negsuc, numbers_for, pos, slice_index_or, small_room, ℤ}
 use Rattle.star_safety.proofs.Tally.{Tally, sum_fits}
 use Rattle.star_safety.proofs.Tallied.{IsTallied, sum_up, sum_down, sum_ends, counted_fits, tallies_fit}
 

@@ -1,21 +1,9 @@
 -- The report of an accepted program has no more rows than are known before its run.
 use Rattle.std.proofs.Common.{◌≡◌, ℕ, suc, ◌≤◌, Bool, true, false, List, [], ◌∷◌, Option, Some, None, length, map, replicate, refl, sym, ap, subst, ◌∙◌, arith, ⊎_elim, inl, inr, true≢false}
-use Rattle.std.specs.Prelude.{pos, slice_index_or}
-use Rattle.std.specs.{List.AllByRecursion, List.Contains, List.IsDistinct, List.Sorted.IsStrictlySortedBy, Cmp.Lexicographic.slice_cmp, Ordering.is_lt, Ordering.ordering_reverse, Ordering.ordering_then}
-use Rattle.std.specs.declared.cmp.Ordering.{Ordering, TheVariants.Less, TheVariants.Equal, TheVariants.Greater}
-use Rattle.std.proofs.lemmas.{Cmp.int_cmp_total, Cmp.lists_total, Cmp.nat_cmp_total, List.length-map, List.length-replicate}
-use Rattle.star_common.proofs.Members.{at_each, contains_here, contains_later, contains_mapped, from_contains_map, of_each}
-use Rattle.star_schema.specs.declared.group.{GroupColumn.GroupColumn, Direction.Direction, Direction.TheVariants.Ascending, Direction.TheVariants.Descending, SortKey.SortKey}
+use Rattle.star_safety.proofs.Common.{AllByRecursion, AreReportRows, Ascending, Contains, Descending, Direction, End, Ended, EndsWith, Greater, GroupColumn, GroupDecl, GroupKey, GroupRow, IsAccepted, IsDistinct, IsGroup, IsMasked, IsOutcome, IsStrictlySortedBy, KeyValue, Limited, Ordering, Outcome, Parts, SortKey, State, Trapped, Update, World, all_key_shares, all_shares, at_each, at_first, contains_here, contains_later, contains_mapped, decoded_row, empty_state, from_contains_map, group_at, int_cmp_total, is_grouping, is_lt, key_cmp, key_decides, key_eq, key_value_cmp, length-map, length-replicate, lists_total, members, most_of, most_report_rows, nat_cmp_total, no_registers, of_each, ordering_reverse, ordering_then, pos, row_cmp, rows_of_groupings, run_of, shown_cells, shown_fault, slice_cmp, slice_index_or, sort_cmp, total_cmp, totals_of, unless_unshown, value_cmp}
+use Rattle.std.specs.declared.cmp.Ordering.TheVariants.{Less, Equal}
 use Rattle.star_schema.specs.declared.group.GroupColumn.TheVariants as column
-use Rattle.star_schema.specs.Groups.{GroupRow, IsGroup, IsMasked, is_grouping, members, totals_of}
-use Rattle.star_schema.specs.Order.{key_cmp, row_cmp, sort_cmp, total_cmp, value_cmp}
 use Rattle.star_schema.specs.Tables.{Value, Number, Text}
-use Rattle.star_program.specs.declared.{group.GroupDecl.GroupDecl, group.GroupKey.GroupKey, key.KeyValue.KeyValue, outcome.Outcome.Outcome, program.Parts.Parts}
-use Rattle.star_program.specs.{Effects.State, Effects.empty_state, Faults.group_at, Keys.key_value_cmp, Outcome.AreReportRows, Outcome.IsOutcome, Outcome.decoded_row, Outcome.shown_cells, Puts.Update, ShowLines.shown_fault, Values.no_registers, World.World}
-use Rattle.star_program.specs.Run.{End, Ended, Trapped, Limited, EndsWith, run_of, unless_unshown}
-use Rattle.star_group.specs.OwnKeys.{key_eq}
-use Rattle.star_group.proofs.GroupKeys.{key_decides}
-use Rattle.star_safety.specs.{Contexts.at_first, Laws.IsAccepted, Moments.all_shares, MostRows.all_key_shares, MostRows.most_report_rows, MostRows.rows_of_groupings, Tallies.most_of}
 use Rattle.star_safety.proofs.{Always.accepted_throughout, FewGroups.AreAmong, FewGroups.IsOne, FewGroups.few_groups, FewGroups.sizes, Runs.ends, Tally.most_is}
 use Rattle.star_safety.proofs.PutKeys.{AreListed, KeysAmong, all_listed, each_listed, kept, same_many, sizes_are}
 

@@ -1,18 +1,7 @@
 -- The run of an admissible program: it ends with no trap, within its quote.
 use Rattle.std.proofs.Common.{◌≡◌, ℕ, zero, suc, ◌+◌, ◌*◌, ◌^◌, ◌≤◌, ◌<◌, Bool, true, Option, Some, None, refl, sym, subst, arith, zero-add, le_refl, lt_of_lt_of_le, ◌∙◌}
-use Rattle.std.specs.Prelude.{List, pos, neg_ℤ, nat_le, nat_lt, not, unsigned_abs}
-use Rattle.std.proofs.Math.Nat.{mul-le-mul_right, mul-le-mul_left}
-use Rattle.std.proofs.lemmas.Bool.{and_from, le-leb, lt-ltb, or_parts}
-use Rattle.star_program.specs.declared.{program.Parts.Parts, value.Value.TheVariants.Row, fault.Fault.TheVariants.BadRegister, fault.Fault.TheVariants.WrittenTwice}
-use Rattle.star_program.specs.Code.{Code, Stop, Then, Each, code_size}
-use Rattle.star_program.specs.{World.World, World.IsLoaded, Values.Registers, Values.no_registers, Values.with_entry, Faults.unless, Faults.group_at, Effects.State, Effects.empty_state, Effects.act, ShowLines.shown_fault}
-use Rattle.star_program.specs.Run.{End, Ended, Trapped, Limited, EndsWith, turns, after, meaning, meaning_of, unless_unshown, run_while}
-use Rattle.star_program.proofs.Unless.{unless_none}
-use Rattle.star_safety.specs.{Laws.IsAccepted, Ranges.KnownRow, Tallies.Share, Tallies.most_of, Refusals.op_reason, Refusals.scan_reason, Private.Forward.code_puts_to, Private.Forward.open_with, Private.Forward.none_open, Private.Forward.first_reason, Standing.instructions_of, Standing.reason_of, Standing.at_place, Quote.turns_met, Quote.quote, Fitting.Agrees, Moments.all_shares}
+use Rattle.star_safety.proofs.Common.{Agrees, BadRegister, Code, Context, Each, End, Ended, EndsWith, Faulty, IsAccepted, IsLoaded, KnownRow, Limited, List, Parts, Registers, Row, Share, State, Stop, Then, Trapped, World, WrittenTwice, act, after, after_op, after_scan, all_shares, and_from, at_end, at_first, at_place, code_puts_to, code_size, empty_state, first_answer_none, first_reason, group_at, in_scan, instructions_of, le-leb, lt-ltb, meaning, meaning_of, most_of, mul-le-mul_left, mul-le-mul_right, nat_le, nat_lt, neg_ℤ, no_registers, none_open, not, op_reason, open_with, or_none, or_parts, pos, quote, reason_of, run_while, scan_reason, shown_fault, turns, turns_met, unless, unless_none, unless_unshown, unsigned_abs, with_entry}
 use Rattle.star_safety.proofs.Tally.{no_tally, plus, times, Tallies, no_tallies, plus_all, times_all, tally_of, sum_fits, sum_range_is, most_is}
-use Rattle.star_safety.specs.Contexts.{Context, at_first, after_op, in_scan, after_scan, at_end}
-use Rattle.star_safety.specs.declared.reason.Reason.TheVariants.{Faulty}
-use Rattle.star_common.proofs.Firsts.{first_answer_none, or_none}
 use Rattle.star_safety.proofs.TallyOrder.{AtMost, at_most_refl, at_most_trans, at_most_plus, at_most_assoc, at_most_both, at_most_once}
 use Rattle.star_safety.proofs.Gains.{op_gain, op_counted, gain, gained, whole_gain}
 use Rattle.star_safety.proofs.{Forward.first_standing, Tallied.tallies_fit, Tallied.all_tallies_fit, Instructions.unmapped_none, Instructions.agrees_entry, Instructions.AreTallied, Instructions.act_good, Sizes.Small, NarrowRanges.AllNarrow, NarrowRanges.sum_small, NarrowCode.end_fits, NarrowCode.first_fits}

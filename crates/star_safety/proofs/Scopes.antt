@@ -1,15 +1,6 @@
 -- Which scans stand round which instructions, by their numbers.
 use Rattle.std.proofs.Common.{◌≡◌, ℕ, ◌+◌, ◌≤◌, ◌<◌, Bool, true, false, List, [], ◌∷◌, ◌++◌, length, get_or, Option, Some, None, refl, ap, ◌∙◌, arith, append-nil}
-use Rattle.std.specs.Prelude.{◌&&◌, ◌||◌, nat_eq, filter, if◌then◌else◌}
-use Rattle.std.specs.List.{AllByRecursion, last_or, list_all, list_any}
-use Rattle.std.proofs.lemmas.Bool.{eqb-true, eq-eqb, ne_eqb, or_right, and_right}
-use Rattle.std.proofs.lemmas.List.{Elements.filter-append, Folds.Any-from_list_any, Folds.list_all_at, Folds.list_any_at}
-use Rattle.star_program.specs.declared.program.Parts.{Parts}
-use Rattle.star_program.specs.Code.{Code, Stop, Then, Each, code_size}
-use Rattle.star_program.specs.World.{World}
-use Rattle.star_safety.specs.Contexts.{Context, after_op, in_scan, after_scan, at_end}
-use Rattle.star_safety.specs.Standing.{CodeItem, Scan, Act, BodyEnd, Enclosing, Standing, standing, has_scan}
-use Rattle.star_safety.specs.Told.{writes_to, item_scope, scope_of, is_in_scope, last_writer}
+use Rattle.star_safety.proofs.Common.{Act, AllByRecursion, Any-from_list_any, BodyEnd, Code, CodeItem, Context, Each, Enclosing, Parts, Scan, Standing, Stop, Then, World, after_op, after_scan, and_right, at_end, code_size, eq-eqb, eqb-true, filter, filter-append, has_scan, if◌then◌else◌, in_scan, is_in_scope, item_scope, last_or, last_writer, list_all, list_all_at, list_any, list_any_at, nat_eq, ne_eqb, or_right, scope_of, standing, writes_to, ◌&&◌, ◌||◌}
 
 -- ---- scans by their numbers
 

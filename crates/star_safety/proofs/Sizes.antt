@@ -1,12 +1,7 @@
 -- Ranges whose ends are no larger than a number.
 use Rattle.std.proofs.Common.{◌≡◌, ℕ, ◌+◌, ◌*◌, ◌^◌, ◌≤◌, ◌<◌, Bool, true, false, cond, arith, int_lt}
-use Rattle.std.specs.Prelude.{ℤ, pos, negsuc, ◌≤ℤ◌, ◌+ℤ◌, ◌-ℤ◌, ◌*ℤ◌, unsigned_abs}
-use Rattle.std.specs.Int.{w128}
-use Rattle.std.proofs.lemmas.{Bool.ltb-true, Bool.and_parts, Int.ints, Int.unsigned_abs-mul, Int.fits_signed_from_abs}
-use Rattle.std.proofs.Math.Nat.{mul-le-mul_right, mul-le-mul_left}
-use Rattle.star_interval.specs.Range.{Range, FitsI64, FitsI128, is_i64, fits_i64, only, hull, corner_range, multiple_range}
+use Rattle.star_safety.proofs.Common.{FitsI128, FitsI64, Range, and_parts, corner_range, fits_i64, fits_signed_from_abs, hull, ints, is_i64, ltb-true, mul-le-mul_left, mul-le-mul_right, multiple_range, negsuc, only, pos, unsigned_abs, unsigned_abs-mul, w128, widened, ℤ, ◌*ℤ◌, ◌+ℤ◌, ◌-ℤ◌, ◌≤ℤ◌}
 use Rattle.star_interval.proofs.Ranges as ranges
-use Rattle.star_safety.specs.Tallies.{widened}
 
 abbrev pub Small : ℕ → Range → Type 0
 Small n r = (unsigned_abs r.low ≤ n) × (unsigned_abs r.high ≤ n)

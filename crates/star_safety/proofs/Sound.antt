@@ -1,16 +1,7 @@
 -- An admissible program never traps and makes no more turns than its quote.
 use Rattle.std.proofs.Common.{◌≡◌, ℕ, ◌+◌, ◌*◌, ◌≤◌, ◌<◌, Bool, true, false, Option, Some, None, refl, ap, arith}
-use Rattle.std.specs.Prelude.{nat_eq, if◌then◌else◌}
-use Rattle.std.proofs.lemmas.Bool.{or_parts}
-use Rattle.std.proofs.Math.Nat.{mul-le-mul_right}
-use Rattle.star_schema.specs.declared.table.TableId.{TableId}
-use Rattle.star_program.specs.declared.{op.Op.Op, op.Op.TheVariants.Put, program.Parts.Parts}
-use Rattle.star_program.specs.Code.{Code, Stop, Then, Each, code_size}
-use Rattle.star_program.specs.{World.World, Faults.group_at}
-use Rattle.star_common.proofs.Firsts.{or_none}
+use Rattle.star_safety.proofs.Common.{Code, Context, Each, Op, Parts, Put, Stop, TableId, Then, World, after_op, after_scan, at_end, at_place, code_puts_to, code_size, first_reason, group_at, if◌then◌else◌, in_scan, mul-le-mul_right, nat_eq, op_puts_to, op_reason, open_with, or_none, or_parts, scan_reason, turns_met}
 use Rattle.star_safety.proofs.Tally.{Tally, no_tally, plus, times, Tallies, plus_all, times_all, tally_of}
-use Rattle.star_safety.specs.Contexts.{Context, after_op, in_scan, after_scan, at_end}
-use Rattle.star_safety.specs.{Private.Forward.code_puts_to, Private.Forward.open_with, Private.Forward.first_reason, Standing.op_puts_to, Standing.at_place, Refusals.op_reason, Refusals.scan_reason, Quote.turns_met}
 use Rattle.star_safety.proofs.Gains.{put_tally, op_gain, op_gained, gain, scan_gained}
 use Rattle.star_safety.proofs.TallyOrder.{AtMost, at_most_refl, at_most_trans, at_most_plus, at_most_assoc, at_most_both, at_most_turn, at_most_times, at_most_once, at_most_times_both, at_most_nothing}
 

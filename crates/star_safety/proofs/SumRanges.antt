@@ -1,8 +1,6 @@
 -- What can add up to a SUM of an accepted program fits 128 bits, and to a COUNT 64.
 use Rattle.std.proofs.Common.{ℕ, ◌^◌, ◌<◌, sym, subst}
-use Rattle.star_program.specs.declared.program.Parts.{Parts}
-use Rattle.star_program.specs.World.{World}
-use Rattle.star_safety.specs.{Laws.IsAccepted, Laws.SumsFit, Moments.all_shares, Tallies.most_of}
+use Rattle.star_safety.proofs.Common.{IsAccepted, Parts, SumsFit, World, all_shares, most_of}
 use Rattle.star_safety.proofs.{NarrowRanges.sum_fits, Runs.all_narrow, Runs.few_puts, Tally.most_is}
 
 few_shares : (w : World) (parts : Parts) → IsAccepted w parts → (g place : ℕ)

@@ -1,18 +1,7 @@
 -- Tallies hold what numbers add up to.
 use Rattle.std.proofs.Common.{◌≡◌, ℕ, suc, ◌+◌, ◌^◌, ◌≤◌, ◌<◌, Bool, true, false, List, [], ◌∷◌, length, Option, Some, None, refl, sym, ap, subst, ◌∙◌, arith}
-use Rattle.std.specs.Prelude.{ℤ, pos, negsuc, ◌+ℤ◌, nat_lt, nat_le, ◌&&◌, not, cond, unwrap_or}
-use Rattle.std.specs.{List.list_any, Int.int_min, Int.int_max}
-use Rattle.std.proofs.lemmas.Int.{ints, clamps}
-use Rattle.std.proofs.lemmas.Bool.{ltb-true, lt-ltb, leb-true, le-leb, and_parts, and_from, or_from}
-use Rattle.star_group.proofs.Rooms.{count_small}
+use Rattle.star_safety.proofs.Common.{Aggregate, Count, Holds, KeyValue, Max, Min, Range, Share, Sum, TotalLies, Update, aggregate, aggregate_range, and_from, and_parts, belongs, clamps, cond, count_small, holds_within, hull_with, int_max, int_min, ints, is_i128, joined, joined_with, key_value_cmp, le-leb, leaves, leb-true, list_any, lt-ltb, ltb-true, members, nat_le, nat_lt, negsuc, not, numbers_for, only, or_from, pos, read_range, some_leaves, sum_of, unwrap_or, ℤ, ◌&&◌, ◌+ℤ◌}
 use borrow.Author.Differences.{up, down, sum_is_lem}
-use Rattle.star_schema.specs.declared.group.Aggregate.{Aggregate, TheVariants.Sum, TheVariants.Count, TheVariants.Min, TheVariants.Max}
-use Rattle.star_schema.specs.Groups.{belongs, members, joined, joined_with, aggregate, numbers_for}
-use Rattle.star_interval.specs.Range.{Range, Holds, only, is_i128}
-use Rattle.star_interval.proofs.Ranges.{holds_within}
-use Rattle.star_program.specs.declared.key.KeyValue.{KeyValue}
-use Rattle.star_program.specs.{Keys.key_value_cmp, Puts.Update, Puts.leaves, Puts.some_leaves}
-use Rattle.star_safety.specs.{Tallies.Share, Tallies.aggregate_range, Tallies.hull_with, Tallies.read_range, Moments.sum_of, Laws.TotalLies}
 use Rattle.star_safety.proofs.Tally.{Tally, once, joined_range, plus, tally_of, tally_sum, tally_range, sum_fits, range_is}
 use Rattle.star_safety.proofs.Numbers.{holds_itself, holds_hull_left, holds_hull_right, fits_in, up_grows}
 use Rattle.star_safety.proofs.TallyOrder.{LiesIn, lies_in_left, lies_in_right, AtMost}

@@ -1,14 +1,8 @@
 -- What numbers add up to, as two whole numbers: how far the negative ones go below 0, and the
 -- positive ones above it. So all that is said of sums is linear.
 use Rattle.std.proofs.Common.{◌≡◌, ℕ, zero, suc, ◌+◌, ◌*◌, ◌^◌, Bool, List, [], ◌∷◌, Option, Some, None, refl, sym, ap, ◌∙◌, arith}
-use Rattle.std.specs.Prelude.{ℤ, pos, negsuc, neg_ℤ, ◌+ℤ◌, ◌*ℤ◌, ◌&&◌, nat_le, nat_lt}
-use Rattle.std.specs.Int.{int_min, int_max}
-use Rattle.std.proofs.lemmas.Int.{ints, clamps}
+use Rattle.star_safety.proofs.Common.{Aggregate, Count, IsOrdered, Max, Min, Range, Share, Shares, Sum, aggregate_range, clamps, corner_range, hull, hull_of, hull_with, int_max, int_min, ints, most_of, multiple_range, nat_le, nat_lt, neg_ℤ, negsuc, pos, range_same, sum_ends, sum_range, widened, ℤ, ◌&&◌, ◌*ℤ◌, ◌+ℤ◌}
 use borrow.Author.Differences.{up, down}
-use Rattle.star_schema.specs.declared.group.Aggregate.{Aggregate, TheVariants.Sum, TheVariants.Count, TheVariants.Min, TheVariants.Max}
-use Rattle.star_interval.specs.Range.{Range, IsOrdered, hull, corner_range, multiple_range}
-use Rattle.star_interval.proofs.{Ranges.range_same, Sums.sum_ends}
-use Rattle.star_safety.specs.Tallies.{Share, Shares, widened, sum_range, most_of, hull_with, hull_of, aggregate_range}
 
 -- of the numbers that updates give an aggregate
 pub record Tally : Type 0 where

@@ -1,9 +1,6 @@
 -- One tally allows no more than another.
 use Rattle.std.proofs.Common.{ℕ, ◌+◌, ◌*◌, ◌≤◌, Option, Some, None, arith}
-use Rattle.std.proofs.Math.Nat.{mul-le-mul_right, mul-le-mul_left}
-use Rattle.star_interval.specs.Range.{Range, IsWithin}
-use Rattle.star_interval.proofs.Ranges.{within_trans, within_hull_left, within_hull_right, hull_within}
-use Rattle.std.proofs.lemmas.Int.{ints}
+use Rattle.star_safety.proofs.Common.{IsWithin, Range, hull_within, ints, mul-le-mul_left, mul-le-mul_right, within_hull_left, within_hull_right, within_trans}
 use Rattle.star_safety.proofs.Tally.{Tally, no_tally, joined_range, plus, times}
 
 -- a range that may be missing lies in another

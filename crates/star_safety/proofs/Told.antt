@@ -1,18 +1,6 @@
 -- The context of each instruction is told by the scans round it and the instructions before it.
 use Rattle.std.proofs.Common.{◌≡◌, ℕ, ◌+◌, ◌*◌, ◌≤◌, Bool, true, false, List, [], ◌∷◌, ◌++◌, length, Option, Some, None, refl, sym, ap, subst, ◌∙◌, arith, append_assoc, append-nil, length-append}
-use Rattle.std.specs.Prelude.{◌&&◌, ◌||◌, nat_eq, nat_lt, filter, if◌then◌else◌}
-use Rattle.std.specs.{List.last_or, List.list_any, Option.option_map}
-use Rattle.std.proofs.lemmas.Bool.{eqb-true, eqb-false, eq-eqb, lt-ltb, ne_eqb}
-use Rattle.std.proofs.Math.Bool.{or-false}
-use Rattle.std.proofs.lemmas.List.{Elements.filter-append, Folds.list_any-append, Sums.fold-append}
-use Rattle.star_schema.specs.declared.table.TableId.{TableId}
-use Rattle.star_program.specs.declared.{op.Op.Op, program.Parts.Parts}
-use Rattle.star_program.specs.Code.{Code, Stop, Then, Each, code_size}
-use Rattle.star_program.specs.{World.World, Values.with_entry, Faults.target_of}
-use Rattle.star_safety.specs.Ranges.{AllKnown}
-use Rattle.star_safety.specs.Contexts.{Context, at_first, op_key_shares, op_shares, result_known, learned, is_target, after_op, in_scan, after_scan, at_end}
-use Rattle.star_safety.specs.Standing.{Enclosing, CodeItem, Act, Scan, BodyEnd, Standing, standing, has_scan, instructions_of}
-use Rattle.star_safety.specs.Told.{is_instruction, item_key_shares, key_shares_together, writes_to, standing_result, shares_of, shares_together, rows_together, scope_of, last_writer, IsTold}
+use Rattle.star_safety.proofs.Common.{Act, AllKnown, BodyEnd, Code, CodeItem, Context, Each, Enclosing, IsTold, Op, Parts, Scan, Standing, Stop, TableId, Then, World, after_op, after_scan, at_end, at_first, code_size, eq-eqb, eqb-false, eqb-true, filter, filter-append, fold-append, has_scan, if◌then◌else◌, in_scan, instructions_of, is_instruction, is_target, item_key_shares, key_shares_together, last_or, last_writer, learned, list_any, list_any-append, lt-ltb, nat_eq, nat_lt, ne_eqb, op_key_shares, op_shares, option_map, or-false, result_known, rows_together, scope_of, shares_of, shares_together, standing, standing_result, target_of, with_entry, writes_to, ◌&&◌, ◌||◌}
 use Rattle.star_safety.proofs.Scopes.{AreBelow, below_more, none_above, all_there, not_all, EachOf, each_both, each_so, scoped_in, last_or_both, last_then, last_past, last_within}
 
 -- ---- from context to context

@@ -1,22 +1,6 @@
 -- Every bound that a refusal tells fits 128 bits.
 use Rattle.std.proofs.Common.{◌≡◌, ℕ, ◌+◌, ◌*◌, ◌^◌, ◌≤◌, Bool, true, false, List, [], ◌∷◌, ◌++◌, Option, Some, None, refl, ap, subst, ◌∙◌, arith, lit<, ◌⊎◌, inl, inr, ⊎_elim}
-use Rattle.std.specs.Prelude.{pos, nat_eq, nat_le, not, if◌then◌else◌}
-use Rattle.std.specs.Option.{option_map, option_or}
-use Rattle.std.proofs.lemmas.Bool.{leb-true}
-use Rattle.std.proofs.Math.Nat.{mul-le-mul_right}
-use Rattle.star_schema.specs.declared.column.ColumnId.{ColumnId}
-use Rattle.star_interval.specs.Range.{Range, FitsI64, FitsI128, fits_i64, only}
-use Rattle.star_program.specs.declared.{op.Op.Op, op.Op.TheVariants.Assign, op.Op.TheVariants.Keep, op.Op.TheVariants.Put, program.Parts.Parts, fault.Fault.Fault}
-use Rattle.star_program.specs.declared.op.Operation.TheVariants.{Const, Edge, Load, Find, Binary, Within, Not, Read}
-use Rattle.star_program.specs.Code.{Code, Stop, Then, Each, code_size}
-use Rattle.star_program.specs.{World.World, World.is_text, Limits.IsWithinLimits, ShowLines.shown_fault}
-use Rattle.star_safety.specs.{Bounds.NamesI64, Bounds.AllNameI64, Bounds.AreI64, Quote.turns_met, Quote.quote, Private.Forward.open_with, Private.Forward.none_open, Private.Forward.first_reason, Standing.instructions_of, Standing.at_place, Standing.reason_of, Tallies.most_of}
-use Rattle.star_common.specs.First.{first_answer}
-use Rattle.star_safety.specs.Admissible.{Refusal, Refused, BadShow, cost_refusal, first_refusal}
-use Rattle.star_safety.specs.Contexts.{Context, at_first, put_share, result_known, after_op, in_scan, after_scan, at_end}
-use Rattle.star_safety.specs.Ranges.{Known, KnownNumber, KnownText, KnownPlace, KnownRow, KnownFlag}
-use Rattle.star_safety.specs.declared.reason.{Reached.Reached, Reason.Reason, Reason.TheVariants.Faulty, Reason.TheVariants.NotAForeignKey, Reason.TheVariants.OpenGroup, Reason.TheVariants.Overflow}
-use Rattle.star_safety.specs.Refusals.{refuses, overflow_of, kind_reason, source_reason, range_reason, op_reason, scan_reason}
+use Rattle.star_safety.proofs.Common.{AllNameI64, AreI64, Assign, BadShow, Binary, Code, ColumnId, Const, Context, Each, Edge, Fault, Faulty, Find, FitsI128, FitsI64, IsWithinLimits, Keep, Known, KnownFlag, KnownNumber, KnownPlace, KnownRow, KnownText, Load, NamesI64, Not, NotAForeignKey, Op, OpenGroup, Overflow, Parts, Put, Range, Reached, Read, Reason, Refusal, Refused, Stop, Then, Within, World, after_op, after_scan, at_end, at_first, at_place, code_size, cost_refusal, first_answer, first_reason, first_refusal, fits_i64, if◌then◌else◌, in_scan, instructions_of, is_text, kind_reason, leb-true, most_of, mul-le-mul_right, nat_eq, nat_le, none_open, not, only, op_reason, open_with, option_map, option_or, overflow_of, pos, put_share, quote, range_reason, reason_of, refuses, result_known, scan_reason, shown_fault, source_reason, turns_met}
 use Rattle.star_safety.proofs.{Sound.at_place_none, Forward.first_standing, Sizes.small_fits}
 use Rattle.star_safety.proofs.NarrowRanges.{Fits, Wide, IsWide, Counts, result_wide}
 use Rattle.star_safety.proofs.NarrowCode.{op_fits, in_fits, past_fits, end_fits, first_fits}

@@ -1,21 +1,6 @@
 -- The bounds of each column that a refusal tells fit 64 bits.
 use Rattle.std.proofs.Common.{◌≡◌, ℕ, zero, suc, ◌+◌, Bool, true, false, List, [], ◌∷◌, ◌++◌, Option, Some, None, refl, sym, ap, subst, ◌∙◌}
-use Rattle.std.specs.Prelude.{◌||◌, ℤ, All, IfSome, cond, filter, map, nat_eq, not, slice_index_or, if◌then◌else◌}
-use Rattle.std.specs.{List.AllByRecursion, Option.option_map, Option.option_or}
-use Rattle.std.proofs.lemmas.List.Elements.{All-cons, All-nil}
-use Rattle.star_schema.specs.declared.{table.TableId.TableId, column.ColumnId.ColumnId, column.TheConstants.COLUMNS, group.Aggregate.Aggregate, group.Aggregate.TheVariants.Count}
-use Rattle.star_schema.proofs.Same.{column_same}
-use Rattle.star_interval.specs.Range.{FitsI64, fits_i64}
-use Rattle.star_program.specs.declared.{fault.Fault.Fault, op.Op.Op, op.Op.TheVariants.Assign, op.Op.TheVariants.Keep, op.Op.TheVariants.Put, op.Operator.Operator, program.Parts.Parts}
-use Rattle.star_program.specs.declared.op.Operation.TheVariants.{Const, Edge, Load, Find, Binary, Within, Not, Read}
-use Rattle.star_program.specs.declared.op.Operator.TheVariants.{Add, Sub, Mul, Less, LessOrEqual, Equal, And, Or}
-use Rattle.star_program.specs.Code.{Code, Stop, Then, Each, code_size}
-use Rattle.star_program.specs.{Faults.group_at, Puts.aligned, Values.with_entry, World.World, World.is_text}
-use Rattle.star_safety.specs.{Admissible.Refused, Admissible.first_refusal, Bounds.AreI64, Private.Forward.open_with, Private.Forward.none_open, Private.Forward.first_reason, Standing.at_place, Tallies.reach_of}
-use Rattle.star_safety.specs.Contexts.{Context, at_first, put_known, put_share, result_known, after_op, in_scan, after_scan, at_end}
-use Rattle.star_safety.specs.Ranges.{Known, KnownNumber, KnownText, KnownPlace, KnownRow, KnownFlag, Reach, AllKnown, answer_known, joined_reach, loaded_known, no_reach, reach_at}
-use Rattle.star_safety.specs.declared.reason.{Reached.Reached, Reason.Reason, Reason.TheVariants.Faulty, Reason.TheVariants.NotAForeignKey, Reason.TheVariants.OpenGroup, Reason.TheVariants.Overflow}
-use Rattle.star_safety.specs.Refusals.{with_bounds, refuses, reached, overflow_of, kind_reason, source_reason, range_reason, op_reason, scan_reason}
+use Rattle.star_safety.proofs.Common.{Add, Aggregate, All, All-cons, All-nil, AllByRecursion, AllKnown, And, AreI64, Assign, Binary, COLUMNS, Code, ColumnId, Const, Context, Count, Each, Edge, Equal, Fault, Faulty, Find, FitsI64, IfSome, Keep, Known, KnownFlag, KnownNumber, KnownPlace, KnownRow, KnownText, Less, LessOrEqual, Load, Mul, Not, NotAForeignKey, Op, OpenGroup, Operator, Or, Overflow, Parts, Put, Reach, Reached, Read, Reason, Refused, Stop, Sub, TableId, Then, Within, World, after_op, after_scan, aligned, answer_known, at_end, at_first, at_place, code_size, column_same, cond, filter, first_reason, first_refusal, fits_i64, group_at, if◌then◌else◌, in_scan, is_text, joined_reach, kind_reason, loaded_known, map, nat_eq, no_reach, none_open, not, op_reason, open_with, option_map, option_or, overflow_of, put_known, put_share, range_reason, reach_at, reach_of, reached, refuses, result_known, scan_reason, slice_index_or, source_reason, with_bounds, with_entry, ℤ, ◌||◌}
 use Rattle.star_safety.proofs.{Forward.first_standing, ToldBounds.refused_instruction}
 
 -- ---- what numbers are computed from

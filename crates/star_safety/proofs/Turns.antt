@@ -1,11 +1,6 @@
 -- A scan whose turns are safe is safe.
 use Rattle.std.proofs.Common.{◌≡◌, ℕ, zero, suc, ◌+◌, ◌*◌, ◌≤◌, ◌<◌, Bool, true, false, subst, arith}
-use Rattle.std.proofs.Math.Nat.{mul-le-mul_right}
-use Rattle.star_schema.specs.Groups.{numbers_for}
-use Rattle.star_program.specs.{Values.Registers, World.World}
-use Rattle.star_program.specs.Effects.{State, Effect, GoesOn, EndsTurn, Traps}
-use Rattle.star_program.specs.Run.{End, Ended, Trapped, Limited, follow, after, begin, visited, turns, scans}
-use Rattle.star_safety.specs.{Ranges.AllKnown, Fitting.Agrees}
+use Rattle.star_safety.proofs.Common.{Agrees, AllKnown, Effect, End, Ended, EndsTurn, GoesOn, Limited, Registers, State, Trapped, Traps, World, after, begin, follow, mul-le-mul_right, numbers_for, scans, turns, visited}
 use Rattle.star_safety.proofs.{Tally.Tallies, Tally.times, Tally.plus_all, Tally.times_all, TallyOrder.AtMost, TallyOrder.at_most_plus, TallyOrder.at_most_assoc, TallyOrder.at_most_turn, Tallied.tallied_more, Instructions.AreTallied, Instructions.IsGood}
 
 -- the run ends with no trap, within these sums and `v` visits

@@ -1,12 +1,6 @@
 -- Each instruction in a scan is met no more often than turns are quoted.
 use Rattle.std.proofs.Common.{◌≡◌, ℕ, ◌+◌, ◌*◌, ◌≤◌, true, false, List, [], ◌∷◌, refl, arith}
-use Rattle.std.specs.Prelude.{All}
-use Rattle.std.proofs.lemmas.List.Elements.{All-nil, All-cons, All-append}
-use Rattle.star_program.specs.declared.program.Parts.{Parts}
-use Rattle.star_program.specs.Code.{Code, Stop, Then, Each, code_size}
-use Rattle.star_program.specs.World.{World}
-use Rattle.star_safety.specs.Contexts.{Context, at_first, after_op, in_scan, after_scan, at_end}
-use Rattle.star_safety.specs.{Quote.turns_met, Quote.quote, Standing.Enclosing, Standing.standing, Standing.instructions_of, Meetings.IsMetWithinQuote}
+use Rattle.star_safety.proofs.Common.{All, All-append, All-cons, All-nil, Code, Context, Each, Enclosing, IsMetWithinQuote, Parts, Stop, Then, World, after_op, after_scan, at_end, at_first, code_size, in_scan, instructions_of, quote, standing, turns_met}
 
 -- of a context
 record Meets (most : ℕ) (x : Context) : Type 0 where

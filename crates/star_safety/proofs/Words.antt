@@ -1,13 +1,9 @@
 -- Short words for instructions, in which worked programs are written.
-use Rattle.std.specs.Prelude.{ℕ, ℤ, List, [], ◌∷◌}
-use Rattle.star_schema.specs.declared.{table.TableId.TableId, column.ColumnId.ColumnId}
-use Rattle.star_program.specs.declared.{group.GroupDecl.GroupDecl, op.Op.Op, op.Operator.Operator, program.Parts.Parts}
+use Rattle.star_safety.proofs.Common.{Code, ColumnId, GroupDecl, List, Op, Operator, Parts, TableId, Then, [], program, ℕ, ℤ, ◌∷◌}
 use Rattle.star_program.specs.declared.op.Op.TheVariants as op
 use Rattle.star_program.specs.declared.op.Edge.TheVariants as edge
 use Rattle.star_program.specs.declared.op.Operation.TheVariants as operation
 use Rattle.star_program.specs.declared.op.Operator.TheVariants as operator
-use Rattle.star_program.specs.Code.{Code, Then}
-use Rattle.star_program.proofs.Sample.{program}
 
 abbrev pub const : ℕ → ℤ → Op
 const t z = op.Assign t (operation.Const z)

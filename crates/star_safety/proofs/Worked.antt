@@ -1,15 +1,8 @@
 -- What is known of a result, what puts add up to, how many rows are visited and reported, what
 -- instructions say of themselves, and the words of reasons, of a few ranges and programs.
 use Rattle.std.proofs.Common.{ℤ, List, [], ◌∷◌, pos, refl}
-use Rattle.star_common.proofs.Tables.{Gives, Gives2, Gives3}
-use Rattle.star_schema.specs.declared.{column.ColumnId.TheVariants.CRegion, group.Aggregate.TheVariants.Count, group.Shape.Shape, group.Shape.TheVariants.Plain, group.Shape.TheVariants.Cube, group.Shape.TheVariants.Rollup, table.TableId.TheVariants.Lineorder, table.TableId.TheVariants.Part, table.TableId.TheVariants.Supplier}
-use Rattle.star_schema.specs.Schema.{column_of}
-use Rattle.star_interval.specs.Range.{Range}
-use Rattle.star_program.specs.declared.{group.GroupDecl.GroupDecl, op.Op.Op, op.Op.TheVariants.Keep, program.Parts.Parts}
+use Rattle.star_safety.proofs.Common.{CRegion, Code, Count, Cube, Each, Gives, Gives2, Gives3, GroupDecl, Keep, Lineorder, Op, Part, Parts, Plain, Range, Rollup, Shape, Stop, Supplier, Then, column_of, most_report_rows, plain, rows_of_grouping, rows_of_groupings, sample, sizes, turns_met, width}
 use Rattle.star_program.specs.declared.group.GroupKey.TheVariants as key
-use Rattle.star_program.specs.Code.{Code, Each, Stop, Then}
-use Rattle.star_program.proofs.Sample.{sample, plain, sizes}
-use Rattle.star_safety.specs.{MostRows.most_report_rows, MostRows.rows_of_grouping, MostRows.rows_of_groupings, MostRows.width, Quote.turns_met}
 use Rattle.star_safety.proofs.Words.{acts, const, over, put}
 
 abbrev from_to : ℤ → ℤ → Range

@@ -1,17 +1,6 @@
 -- What a moment asks of registers and of what comes next, and what it refuses, by computation.
 use Rattle.std.proofs.Common.{None, Some, [], ap, arith, false, pos, refl, true, ℕ, ℤ, ◌<◌, ◌^◌, ◌∷◌, ◌≡◌, ◌≤◌, w64, ◌↔◌}
-use Rattle.std.specs.Prelude.{FitsSigned, None, pos}
-use Rattle.star_schema.specs.declared.{table.TableId.TheVariants.Date, table.TableId.TheVariants.Lineorder, column.ColumnId.TheVariants.CNation, column.ColumnId.TheVariants.CRegion, column.ColumnId.TheVariants.LoQuantity, group.Aggregate.TheVariants.Count, group.Aggregate.TheVariants.Sum}
-use Rattle.star_schema.specs.Schema.{column_of}
-use Rattle.star_interval.specs.Range.{Holds, only}
-use Rattle.star_program.specs.{Code.Code, Code.Each, Code.Stop, Code.Then, Values.Registers, Values.no_registers, Values.with_entry, Run.Ended, World.IsLoaded, World.World, Limits.IsWithinLimits}
-use Rattle.star_program.specs.declared.value.Value.TheVariants.{Flag, Number, Place, Row, Text}
-use Rattle.star_program.specs.declared.program.Parts.{Parts}
-use Rattle.star_program.specs.Effects.{Effect, EndsTurn, State, act, empty_state}
-use Rattle.star_program.proofs.Sample.{plain, sample}
-use Rattle.star_safety.specs.{Bounds.AllNameI64, Bounds.AreI64, Bounds.NamesI64, Contexts.after_scan, Contexts.at_end, Contexts.at_first, Contexts.in_scan, Fitting.FitsAt, Fitting.FitsValue, Laws.EndsWithin, Laws.IsAccepted, Laws.SumsFit, Laws.TotalLies, Tallies.no_shares, Admissible.IsAdmissible, Quote.quote}
-use Rattle.star_safety.specs.Moments.{IsMet, IsMoment, Moment, behind, behind_scan, first_moment, in_turn, itself, moment, picked, sum_of}
-use Rattle.star_safety.specs.Ranges.{AllKnown, Known, KnownFlag, KnownPlace, KnownRow, KnownText, known_number, loaded_known}
+use Rattle.star_safety.proofs.Common.{AllKnown, AllNameI64, AreI64, CNation, CRegion, Code, Count, Date, Each, Effect, Ended, EndsTurn, EndsWithin, FitsAt, FitsSigned, FitsValue, Flag, Holds, IsAccepted, IsAdmissible, IsLoaded, IsMet, IsMoment, IsWithinLimits, Known, KnownFlag, KnownPlace, KnownRow, KnownText, Lineorder, LoQuantity, Moment, NamesI64, None, Number, Parts, Place, Registers, Row, State, Stop, Sum, SumsFit, Text, Then, TotalLies, World, act, after_scan, at_end, at_first, behind, behind_scan, column_of, empty_state, first_moment, in_scan, in_turn, itself, known_number, loaded_known, moment, no_registers, no_shares, only, picked, plain, pos, quote, sample, sum_of, with_entry}
 use Rattle.star_safety.proofs.Words.{acts, const, keep, over, put, read}
 
 -- ---- a register

@@ -1,21 +1,9 @@
 -- What refuses small programs, by computation: each kind of refusal, which of two comes first, and
 -- ranges: what multiplies, adds up, is read and is reached.
 use Rattle.std.proofs.Common.{◌*◌, ◌^◌, ℕ, List, [], ◌∷◌, Option, Some, None, pos, refl}
-use Rattle.std.specs.Prelude.{ℤ, neg_ℤ}
-use Rattle.star_common.proofs.Tables.{Gives2, Gives3}
-use Rattle.star_schema.specs.declared.{table.TableId.TheVariants.Date, table.TableId.TheVariants.Supplier, table.TableId.TheVariants.Lineorder, column.ColumnId.ColumnId, group.Aggregate.Aggregate, group.Aggregate.TheVariants.Sum, group.Aggregate.TheVariants.Count, group.Aggregate.TheVariants.Min, group.Aggregate.TheVariants.Max, group.Direction.TheVariants.Ascending, group.Shape.TheVariants.Plain}
-use Rattle.star_schema.specs.declared.column.ColumnId.TheVariants.{CRegion, LoExtendedprice, LoQuantity, LoRevenue, LoTax}
+use Rattle.star_safety.proofs.Common.{Aggregate, Ascending, BadShow, CRegion, Code, ColumnId, Count, Date, Each, Fault, Faulty, Gives2, Gives3, GroupDecl, Lineorder, LoExtendedprice, LoQuantity, LoRevenue, LoTax, Max, Min, Op, OpenGroup, Overflow, Parts, Plain, Range, Reached, Reason, Refusal, Refused, Stop, Sum, Supplier, TooCostly, World, WrittenTwice, column_of, first_answer, first_refusal, great_prices, is_i64, neg_ℤ, only, plain, reached, sample, ℤ}
 use Rattle.star_schema.specs.declared.group.GroupColumn.TheVariants as column
-use Rattle.star_schema.specs.Schema.{column_of}
-use Rattle.star_common.specs.First.{first_answer}
-use Rattle.star_interval.specs.Range.{Range, only, is_i64}
-use Rattle.star_program.specs.declared.{group.GroupDecl.GroupDecl, op.Op.Op, program.Parts.Parts, fault.Fault.Fault, fault.Fault.TheVariants.WrittenTwice}
 use Rattle.star_program.specs.declared.group.GroupKey.TheVariants as key
-use Rattle.star_program.specs.{Code.Code, Code.Stop, Code.Each, World.World}
-use Rattle.star_program.proofs.Sample.{sample, great_prices, plain}
-use Rattle.star_safety.specs.declared.reason.{Reached.Reached, Reason.Reason, Reason.TheVariants.Faulty, Reason.TheVariants.OpenGroup, Reason.TheVariants.Overflow}
-use Rattle.star_safety.specs.Refusals.{reached}
-use Rattle.star_safety.specs.Admissible.{Refusal, TooCostly, Refused, BadShow, first_refusal}
 use Rattle.star_safety.proofs.Words.{const, low, load, add, mul, put, read, acts, over}
 
 -- instruction `n` is refused: for this reason, for what is wrong with it, and for a range that

@@ -1,13 +1,6 @@
 -- From the law over the tables, as the facts are theirs.
 use Rattle.std.proofs.Common.{◌≡◌, ◌∙◌, ◌<◌, ◌≤◌, Some, subst, sym}
-use Rattle.std.specs.Option.{option_map}
-use Rattle.star_safety.specs.Admissible.{Refused, TooCostly, first_refusal}
-use Rattle.star_schema.specs.Columns.{bounds_in}
-use Rattle.star_world.specs.WorldOf.{world_of}
-use Rattle.star_compile_laws.specs.Compiled.{compiled}
-use Rattle.star_compile_laws.specs.Wide.{turn_wide}
-use Rattle.star_merge_laws.specs.Parts.{with_lineorder}
-use Rattle.star_merge_laws.specs.Tables.{tables_with}
+use Rattle.star_merge_laws.proofs.Common.{Refused, TooCostly, bounds_in, compiled, first_refusal, option_map, tables_with, turn_wide, with_lineorder, world_of}
 use Rattle.star_merge_laws.proofs.runs.merged_facts_refuse_as_the_whole.Goals as goal
 
 pub returns-clause-costly : goal.returns-clause-costly

@@ -1,12 +1,6 @@
 -- The moment behind the put has the update.
 use Rattle.std.proofs.Common.{◌≡◌, ◌+◌, ℕ, Bool, true, List, ◌∷◌, Option, Some, None, refl, subst}
-use Rattle.std.specs.Prelude.{nat_eq}
-use Rattle.std.proofs.lemmas.Bool.{eq-eqb}
-use Rattle.star_program.specs.declared.{fault.TrapKind.TrapKind, op.Op.TheVariants.Put, program.Parts.Parts}
-use Rattle.star_program.specs.Effects.{GoesOn, State, Updates, act, marked, trap_of, unless_trap, update_of}
-use Rattle.star_program.specs.{Faults.group_at, Values.Registers, World.World}
-use Rattle.star_group.specs.Stores.{HasRoom, group_declared}
-use Rattle.star_safety.specs.{Contexts.after_op, Moments.behind, Moments.moment}
+use Rattle.star_safety.proofs.Common.{GoesOn, HasRoom, Parts, Put, Registers, State, TrapKind, Updates, World, act, after_op, behind, eq-eqb, group_at, group_declared, marked, moment, nat_eq, trap_of, unless_trap, update_of}
 use Rattle.star_safety.proofs.law.each_put_has_room.Goals as goal
 
 -- what goes on did not trap

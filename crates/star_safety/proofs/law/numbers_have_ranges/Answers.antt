@@ -1,10 +1,6 @@
 -- Of what is known only a range is of a number's kind.
-use Rattle.std.specs.Option.{option_map}
+use Rattle.star_safety.proofs.Common.{ColumnId, IsTaken, Known, KnownFlag, KnownNumber, KnownPlace, KnownRow, KnownText, Range, Reach, is_number_kind, known_kind, option_map}
 use Rattle.std.proofs.Common.{◌≡◌, Option, Some, None, refl}
-use Rattle.star_schema.specs.declared.column.ColumnId.{ColumnId}
-use Rattle.star_interval.specs.Range.{Range}
-use Rattle.star_program.specs.{Faults.is_number_kind, Reads.IsTaken}
-use Rattle.star_safety.specs.Ranges.{Known, KnownFlag, KnownNumber, KnownPlace, KnownRow, KnownText, Reach, known_kind}
 use Rattle.star_safety.proofs.law.numbers_have_ranges.Goals as goal
 
 ranged : (known : Option Known) → IsTaken is_number_kind (option_map known_kind known) → (range : Range) × (reach : Reach) × (origin : Option ColumnId) × (known ≡ Some (KnownNumber range reach origin))

@@ -1,7 +1,6 @@
 -- What the columns so far print as.
 use Rattle.std.proofs.Common.{take}
-use Rattle.std.specs.Fmt.{HasWritten, IsPlainFormatter}
-use Rattle.star_safety.specs.ReasonTexts.{others_text}
+use Rattle.star_safety.proofs.Common.{HasWritten, IsPlainFormatter, others_text}
 use Rattle.star_safety.proofs.reason.write_others.Given as goal
 
 abbrev pub invariant-loop-reached : goal.invariant-loop-reached
