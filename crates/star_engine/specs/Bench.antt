@@ -1,5 +1,4 @@
--- What `bench` prints: of each query of the benchmark its quote, and then its report or why it is
--- refused.
+-- The text of `bench`: for each query of the benchmark its quote, then its report or its refusal.
 use Rattle.std.specs.Prelude.{◌≡◌, ◌++◌, ◌⊎◌, ℕ, List, [], ◌∷◌, codes}
 use Rattle.std.specs.List.{AllByRecursion}
 use Rattle.star_schema.specs.Database.{Database, TableTexts}
@@ -16,24 +15,24 @@ use Rattle.star_engine.specs.Thirteen.{query_name, query_text}
 abbrev pub refusal_line : Refusal → List ℕ
 refusal_line refusal = refusal_text refusal ++ codes "\n"
 
--- what is found of a query: its report where it fits, and else the line of its refusal
+-- the result of a query: its report if it fits, otherwise the line of its refusal
 abbrev pub IsFinding : (most : ℕ) → Database → (query text : List ℕ) → Type 0
 IsFinding most database query text =
     (FitsRows most database query × IsReport database query text)
     ⊎ ((refusal : Refusal) × IsUnfit most database query refusal × (text ≡ refusal_line refusal))
 
--- the quote of a query under its name
+-- the quote of a query with the query's name
 abbrev pub named_quote : BenchmarkQuery → ℕ → List ℕ
 named_quote q visits = query_name q ++ (codes " " ++ quote_line visits)
 
--- what is printed of a query
+-- the section of a query
 pub record IsSection (most : ℕ) (database : Database) (q : BenchmarkQuery)
     (section : List ℕ) : Type 0 where
   pub found : List ℕ
   pub finding : IsFinding most database (query_text q) found
   pub printed : section ≡ named_quote q (fact_rows database) ++ found
 
--- a text that is a section for each of some queries, one behind the other
+-- a text that consists of a section for each of some queries, in order
 abbrev pub AreSections : ℕ → Database → List BenchmarkQuery → List ℕ → Type 0
 AreSections most database [] text = text ≡ []
 AreSections most database (q ∷ qs) text =

@@ -1,4 +1,4 @@
--- What is told of a program that is checked and then run over five tables.
+-- The text of a program that is verified and then run over five tables.
 use Rattle.std.specs.Prelude.{◌≡◌, ◌≤◌, ℕ, List, Some}
 use Rattle.star_schema.specs.Database.{Database, TableTexts}
 use Rattle.star_program.specs.declared.outcome.Outcome.{Outcome}
@@ -18,20 +18,20 @@ use Rattle.star_engine.specs.Loads.{HoldsOfFile, HoldsOfRows, IsNoProgram, IsUnr
 use Rattle.star_engine.specs.Noted.{Telling}
 use Rattle.star_engine.specs.Notes.{counts_line, quote_line}
 
--- how many visits of a program over these tables are quoted
+-- the quote of a program over these tables
 abbrev pub quote_over : Database → Parts → ℕ
 quote_over database program = quote (world_of database).size program
 
--- the note of that
+-- the note of the quote
 abbrev pub IsQuote : Database → Parts → List ℕ → Type 0
 IsQuote database program text = text ≡ quote_line (quote_over database program)
 
--- nothing refuses a program over these tables where `most` visits are allowed
+-- a program is accepted over these tables if `most` visits are allowed
 pub record IsAcceptedWithin (database : Database) (most : ℕ) (program : Parts) : Type 0 where
   pub admissible : IsAdmissible (world_of database) program
   pub cheap : quote_over database program ≤ most
 
--- what refuses it first
+-- its first refusal
 pub record IsRefusal (database : Database) (most : ℕ) (program : Parts) (refusal : Refusal)
     : Type 0 where
   pub not_accepted : ¬ IsAcceptedWithin database most program
@@ -39,14 +39,14 @@ pub record IsRefusal (database : Database) (most : ℕ) (program : Parts) (refus
   pub first : first_refusal (world_of database) most program ≡ Some shown
   pub told : refusal_view refusal ≡ Some shown
 
--- the printed rows of a program's run over these tables
+-- the printed report of a program's run over these tables
 pub record IsRunReport (database : Database) (program : Parts) (report : List ℕ) : Type 0 where
   pub outcome : Outcome
   pub yields : Yields (world_of database) program (run_of (world_of database) program) outcome
   pub printed : report ≡ report_text outcome.names outcome.rows
 
--- what is told of an accepted program: its quote, the printed rows of its run, which visits no more
--- than that, and what the run did
+-- the text of an accepted program: its quote, the printed report of its run, which makes no more
+-- visits than that, and the run's counts
 pub record IsProgramTold (database : Database) (most : ℕ) (program : Parts) (telling : Telling)
     : Type 0 where
   pub accepted : IsAcceptedWithin database most program
@@ -63,12 +63,12 @@ pub record IsProgramTold (database : Database) (most : ℕ) (program : Parts) (t
 abbrev pub IsQuoteOver : Database → (file text : List ℕ) → Type 0
 IsQuoteOver database file text = HoldsOfFile file (λ program. IsQuote database program text)
 
--- the printed rows of its run
+-- the printed report of its run
 abbrev pub IsFileReportOver : Database → (file report : List ℕ) → Type 0
 IsFileReportOver database file report =
     HoldsOfFile file (λ program. IsRunReport database program report)
 
--- what is told of it
+-- the text of its run
 abbrev pub IsToldOver : (visits : ℕ) → Database → List ℕ → Telling → Type 0
 IsToldOver visits database file telling =
     HoldsOfFile file (λ program. IsProgramTold database visits program telling)
@@ -78,7 +78,7 @@ abbrev pub IsRefusalOver : (visits : ℕ) → Database → List ℕ → Refusal 
 IsRefusalOver visits database file refusal =
     HoldsOfFile file (λ program. IsRefusal database visits program refusal)
 
--- why nothing is told of it: the file is read first, and then it is checked
+-- why there is no such text: the file is read first, then checked
 abbrev pub IsUntoldOver : (visits : ℕ) → Database → List ℕ → EngineFault → Type 0
 IsUntoldOver visits database file (Refused refusal) = IsRefusalOver visits database file refusal
 IsUntoldOver visits database file fault = IsNoProgram file fault
@@ -90,17 +90,17 @@ abbrev pub IsQuoteOf : ℕ → TableTexts → (file text : List ℕ) → Type 0
 IsQuoteOf most texts file text =
     HoldsOfRows most texts (λ database. IsQuoteOver database file text)
 
--- the printed rows of its run
+-- the printed report of its run
 abbrev pub IsFileReport : (most : ℕ) → TableTexts → (file report : List ℕ) → Type 0
 IsFileReport most texts file report =
     HoldsOfRows most texts (λ database. IsFileReportOver database file report)
 
--- what is told of it
+-- the text of its run
 abbrev pub IsToldOf : (most visits : ℕ) → TableTexts → List ℕ → Telling → Type 0
 IsToldOf most visits texts file telling =
     HoldsOfRows most texts (λ database. IsToldOver visits database file telling)
 
--- why nothing is told of it: the file is read first, then the tables, and then it is checked
+-- why there is no such text: the file is read first, then the tables, then the program is checked
 abbrev pub IsUntold : (most visits : ℕ) → TableTexts → List ℕ → EngineFault → Type 0
 IsUntold most visits texts file (Refused refusal) =
     HoldsOfRows most texts (λ database. IsRefusalOver visits database file refusal)

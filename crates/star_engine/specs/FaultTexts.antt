@@ -1,4 +1,4 @@
--- The words of the faults of an answer.
+-- The printed form of errors.
 use Rattle.std.specs.Prelude.{◌++◌, ℕ, List, codes, decimal}
 use Rattle.star_query.specs.FaultTexts.{query_fault_text}
 use Rattle.star_plan.specs.FaultTexts.{plan_fault_text}

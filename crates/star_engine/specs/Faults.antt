@@ -1,4 +1,4 @@
--- The faults of the steps of an answer.
+-- The errors of the steps of a call.
 use Rattle.star_query.specs.declared.fault.QueryFault.{QueryFault}
 use Rattle.star_query.specs.declared.fault.QueryFault.TheVariants as query
 use Rattle.star_plan.specs.declared.fault.PlanFault.{PlanFault}

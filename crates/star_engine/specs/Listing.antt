@@ -1,5 +1,4 @@
--- What `check` prints of five tables: how many rows each has, and the bounds of its columns of
--- numbers.
+-- The text of `check`: the row count of each of five tables, and the bounds of its numeric columns.
 use Rattle.std.specs.Prelude.{◌≡◌, ◌++◌, ℕ, ℤ, List, [], codes, decimal, length}
 use Rattle.std.specs.Fmt.{signed_decimal}
 use Rattle.std.specs.List.{flat_map}
@@ -23,7 +22,7 @@ bounds_line c low high =
     column_name c
     ++ (codes " " ++ (signed_decimal low ++ (codes ".." ++ (signed_decimal high ++ codes "\n"))))
 
--- the line of a column of numbers, and none of a column of texts
+-- the line of a numeric column; a text column has none
 abbrev pub column_text : List (List Value) → ColumnId → Kind → List ℕ
 column_text rows c kind.Number =
     bounds_line c (least (numbers_of c rows)) (greatest (numbers_of c rows))
@@ -33,7 +32,7 @@ unfoldable pub table_text : TableId → List (List Value) → List ℕ
 table_text t rows =
     table_line t (length rows) ++ flat_map (λ c. column_text rows c (kind_of c)) (columns_of t)
 
--- the listing of five tables by their rows
+-- the listing of five tables, from their rows
 unfoldable pub listing_of : (TableId → List (List Value)) → List ℕ
 listing_of rows = flat_map (λ t. table_text t (rows t)) TABLES
 

@@ -1,5 +1,5 @@
--- What is read before any run, a program's file and five texts, and why an answer stops there: the
--- file spells no program, or the texts can't be loaded. And what holds of all rows that are loaded.
+-- What is read before a run, a program's file and five texts, and the errors of reading them. Also
+-- what holds of all loaded rows.
 use Rattle.std.specs.Prelude.{◌≡◌, ℕ, List, All, Some}
 use Rattle.star_schema.specs.declared.table.TableId.{TableId}
 use Rattle.star_schema.specs.Database.{Database, TableTexts, rows_in}
@@ -15,15 +15,15 @@ use Rattle.star_program.specs.Text.Spelling.{Spells}
 use Rattle.star_engine.specs.declared.fault.EngineFault.{EngineFault}
 use Rattle.star_engine.specs.declared.fault.EngineFault.TheVariants.{Load, Program}
 
--- the first fault of five texts, which can't be loaded
+-- the first error of five texts that cannot be loaded
 pub record IsLoadFault (most : ℕ) (texts : TableTexts) (fault : LoadFault)
     : Type 0 where
   pub first : load_fault most texts ≡ Some fault
   pub not_loadable : ¬ IsLoadable most texts
 
--- the rows of five tables as a load leaves them: keys tell the rows of each table apart and each
--- foreign key is found; each row has a value for each column, of the column's kind; and the bounds of
--- the columns of numbers lie in 64 bits
+-- the rows of five tables as a load leaves them: the keys of each table are distinct and each
+-- foreign key refers to a row; each row has a value of the right type for each column; and the
+-- bounds of the numeric columns have 64 bits
 pub record AreLoadedRows (database : Database) : Type 0 where
   pub sound : IsSound database
   pub rows : (t : TableId) → All (IsRowOf t) (rows_in database t)
@@ -34,18 +34,18 @@ abbrev pub AreOfLoadableTexts : (most : ℕ) → Database → Type 0
 AreOfLoadableTexts most database =
     ∥ ((texts : TableTexts) × IsLoadable most texts × (database ≡ database_of texts)) ∥₁
 
--- the rows that are loaded, the limit on rows under which they were, and the limit on visits
+-- the loaded rows, the limit on rows of their load, and the limit on visits
 pub record Loaded : Type 0 where
   pub database : Database
   pub rows : ℕ
   pub visits : ℕ
 
--- what is loaded of five texts
+-- the result of loading five texts
 abbrev pub loaded_of : (rows visits : ℕ) → TableTexts → Loaded
 loaded_of rows visits texts =
     record { database = database_of texts; rows = rows; visits = visits }
 
--- the texts can be loaded, and this holds of the rows that they hold
+-- the texts can be loaded, and this holds of their rows
 pub record HoldsOfRows (most : ℕ) (texts : TableTexts) (Holds : Database → Type 0)
     : Type 0 where
   pub loadable : IsLoadable most texts
@@ -66,12 +66,12 @@ pub record HoldsOfFile (file : List ℕ) (Holds : Parts → Type 0) : Type 0 whe
   pub of_file : IsProgramOf file program
   pub holds : Holds program
 
--- why there is no loaded table
+-- why there are no loaded tables
 abbrev pub IsUnloaded : ℕ → TableTexts → EngineFault → Type 0
 IsUnloaded most texts (Load fault) = IsLoadFault most texts fault
 IsUnloaded most texts _ = ⊥
 
--- why a file spells no program
+-- why a file is not a program
 abbrev pub IsNoProgram : List ℕ → EngineFault → Type 0
 IsNoProgram file (Program fault) = FirstTextFault file fault
 IsNoProgram file _ = ⊥

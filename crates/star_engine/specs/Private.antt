@@ -1,4 +1,4 @@
--- What the contracts of functions that are not public cite.
+-- Definitions that only private contracts cite.
 pub mod Steps
 pub mod QuerySteps
 pub mod BenchSteps

@@ -1,6 +1,6 @@
--- What is answered to a query's text over the rows of five tables, and over their texts, and which
--- faults are due. The query's program is named here by its text, by its look-ups and by the instruction
--- that a refusal tells, and no run of it.
+-- The result of a query over the rows of five tables, and over their texts, and its errors. The
+-- query's program occurs here by its text, by its look-ups and by the number of a refused
+-- instruction; no run of it occurs.
 use Rattle.std.specs.Prelude.{◌≡◌, ◌≢◌, ◌≤◌, ◌<◌, ℕ, List, Some, length, option_map}
 use Rattle.star_schema.specs.declared.table.TableId.TheVariants.{Lineorder}
 use Rattle.star_schema.specs.Database.{Database, TableTexts, rows_in}
@@ -34,43 +34,43 @@ use Rattle.star_engine.specs.Notes.{counts_line, quote_line}
 
 -- ---- queries
 
--- the text means a well named query, and this is the query with its names resolved
+-- the text means a well-named query, and this is the query with its names resolved
 pub record IsPlanOf (query : List ℕ) (p : Plan) : Type 0 where
   pub tree : Tree
   pub means : Means query tree
   pub named : IsWellNamed tree
   pub resolved : IsResolved tree p
 
--- a text that means a well named query
+-- a text that means a well-named query
 abbrev pub IsQuery : List ℕ → Type 0
 IsQuery query = (p : Plan) × IsPlanOf query p
 
--- how many rows lineorder has; a query visits each once
+-- the number of lineorder's rows; a query visits each once
 abbrev pub fact_rows : Database → ℕ
 fact_rows database = length (rows_in database Lineorder)
 
--- the text means a well named query, which fits the rows of five tables, where at most this many of
--- them may be visited
+-- the text means a well-named query that fits the rows of five tables, if at most this many of them
+-- may be visited
 pub record FitsRows (most : ℕ) (database : Database) (query : List ℕ) : Type 0 where
   pub tree : Tree
   pub means : Means query tree
   pub named : IsWellNamed tree
   pub fits : FitsTables most (rows_in database) tree
 
--- ---- faults
+-- ---- errors
 
--- the first fault of a text that means no query
+-- the first error of a text that means no query
 pub record IsQueryFault (query : List ℕ) (fault : QueryFault) : Type 0 where
   pub not_memory : fault ≢ parsing.OutOfMemory
   pub first : IsFirstQueryFault query fault
 
--- the first fault of the names of a query that a text means
+-- the first error of the names of a query
 pub record IsPlanFault (query : List ℕ) (fault : PlanFault) : Type 0 where
   pub tree : Tree
   pub means : Means query tree
   pub first : plan_fault tree ≡ Some fault
 
--- why a text is no well named query
+-- why a text is not a well-named query
 abbrev pub IsNoQuery : List ℕ → EngineFault → Type 0
 IsNoQuery query (engine.Query fault) = IsQueryFault query fault
 IsNoQuery query (engine.Plan fault) = IsPlanFault query fault
@@ -81,8 +81,8 @@ abbrev pub IsUnasked : ℕ → TableTexts → (query : List ℕ) → EngineFault
 IsUnasked rows texts query (engine.Load fault) = IsQuery query × IsLoadFault rows texts fault
 IsUnasked rows texts query fault = IsNoQuery query fault
 
--- why a query that doesn't fit is refused: lineorder's rows are over the limit on visits; or else a
--- range leaves 64 bits, and the first number of its program with such a range is told
+-- why a query that does not fit is refused: lineorder's rows exceed the limit on visits; otherwise
+-- a range leaves 64 bits, and the first number of its program with such a range is reported
 pub record IsUnfit (most : ℕ) (database : Database) (query : List ℕ) (refusal : Refusal)
     : Type 0 where
   pub p : Plan
@@ -94,13 +94,13 @@ pub record IsUnfit (most : ℕ) (database : Database) (query : List ℕ) (refusa
   pub first : fact_rows database ≤ most
       → refusal_view refusal ≡ option_map Refused (turn_wide (bounds_in (rows_in database)) p)
 
--- why a query has no report over these rows: it is read first, and then it is judged
+-- why a query has no report over these rows: it is read first, then checked
 abbrev pub IsUnansweredOver : (visits : ℕ) → Database → (query : List ℕ) → EngineFault → Type 0
 IsUnansweredOver visits database query (engine.Refused refusal) =
     IsUnfit visits database query refusal
 IsUnansweredOver visits database query fault = IsNoQuery query fault
 
--- why it has none over five texts: it is read first, then the tables, and then it is judged
+-- why it has none over five texts: it is read first, then the tables, then it is checked
 abbrev pub IsUnanswered : (rows visits : ℕ) → TableTexts → (query : List ℕ) → EngineFault
     → Type 0
 IsUnanswered rows visits texts query (engine.Refused refusal) =
@@ -119,9 +119,9 @@ abbrev pub IsQueryQuote : (rows : ℕ) → TableTexts → (query text : List ℕ
 IsQueryQuote rows texts query text =
     HoldsOfRows rows texts (λ database. IsQueryQuoteOver database query text)
 
--- what is told of a query that fits the rows of five tables: its quote, its report, and what the run
--- of its program does: it visits each row of lineorder once, and makes an update of each row that the
--- query selects
+-- the text of the run of a query that fits the rows of five tables: its quote, its report, and the
+-- counts of the run of its program, which visits each row of lineorder once and makes one update
+-- for each row that the query selects
 pub record IsQueryToldOver (visits : ℕ) (database : Database) (query : List ℕ)
     (telling : Telling) : Type 0 where
   pub fitting : FitsRows visits database query
@@ -138,12 +138,12 @@ abbrev pub IsReportOf : (rows : ℕ) → TableTexts → (query report : List ℕ
 IsReportOf rows texts query report =
     HoldsOfRows rows texts (λ database. IsReport database query report)
 
--- what is told of a query, over five texts
+-- the text of a query's run over five texts
 abbrev pub IsQueryTold : (rows visits : ℕ) → TableTexts → (query : List ℕ) → Telling → Type 0
 IsQueryTold rows visits texts query telling =
     HoldsOfRows rows texts (λ database. IsQueryToldOver visits database query telling)
 
--- the text of a query's program: it spells the program, as the program's own text
+-- the text of a query's program: it spells the program, in the program's own format
 pub record IsExplained (query text : List ℕ) : Type 0 where
   pub p : Plan
   pub meant : IsPlanOf query p

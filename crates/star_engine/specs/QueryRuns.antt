@@ -1,4 +1,4 @@
--- What the run of a query's program comes to.
+-- The run of a query's program.
 use Rattle.std.specs.Prelude.{◌≤◌, ℕ, List}
 use Rattle.star_schema.specs.Database.{Database}
 use Rattle.star_plan.specs.Meaning.{Plan}
@@ -11,7 +11,7 @@ use Rattle.star_query_meaning.specs.Reports.{IsReport}
 use Rattle.star_compile_laws.specs.Compiled.{compiled}
 use Rattle.star_engine.specs.Queries.{fact_rows}
 
--- what is printed of a run that came to its end is the report of the query's text
+-- the printed form of a run that ended is the report of the query's text
 abbrev pub PrintsTheReport : Database → (query : List ℕ) → Plan → State → Type 0
 PrintsTheReport database query p s =
     (outcome : Outcome) → IsOutcome (world_of database) (compiled p) s outcome

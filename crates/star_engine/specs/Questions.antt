@@ -1,4 +1,4 @@
--- What a question asks: for the program of the query that a text means, or for the program that a file
+-- The program of a question: that of the query that a text means, or the program that a file
 -- spells.
 use Rattle.std.specs.Prelude.{◌≡◌, ℕ, List, Bool, true, false}
 use Rattle.star_plan.specs.Meaning.{Plan}
@@ -14,7 +14,7 @@ pub record IsProgramOfQuery (text : List ℕ) (program : Parts) : Type 0 where
   pub meant : IsPlanOf text p
   pub made : program ≡ compiled p
 
--- the program of a file that is taken for a program, or for a query
+-- the program of a file that is taken for a program or for a query
 abbrev pub IsProgramOfKind : (is_program : Bool) → (file : List ℕ) → Parts → Type 0
 IsProgramOfKind true file program = IsProgramOf file program
 IsProgramOfKind false file program = IsProgramOfQuery file program

@@ -1,4 +1,4 @@
--- What is quoted of a file: how many visits of its program, or of the program of its query.
+-- The quote of a file: that of its program, or of the program of its query.
 use Rattle.std.specs.Prelude.{ℕ, nat_eq, Bool, true, false, List, codes}
 use Rattle.std.specs.List.{starts_with}
 use Rattle.star_schema.specs.Database.{Database, TableTexts}
@@ -7,7 +7,7 @@ use Rattle.star_engine.specs.Executions.{IsQuoteOver}
 use Rattle.star_engine.specs.Loads.{HoldsOfRows, IsNoProgram, IsUnread}
 use Rattle.star_engine.specs.Queries.{IsNoQuery, IsQueryQuoteOver, IsUnasked}
 
--- a file that begins so is taken for a program, and any other for a query
+-- a file that begins in this way is taken for a program, any other for a query
 abbrev pub is_program_file : List ℕ → Bool
 is_program_file file = starts_with nat_eq file (codes "star program ")
 
@@ -25,7 +25,7 @@ IsNoneOfKind false file fault = IsNoQuery file fault
 abbrev pub IsQuoteTextOver : Database → (file text : List ℕ) → Type 0
 IsQuoteTextOver database file text = IsQuoteOfKindOver (is_program_file file) database file text
 
--- why nothing is quoted of a file
+-- why a file has no quote
 abbrev pub IsUnquotedOver : (file : List ℕ) → EngineFault → Type 0
 IsUnquotedOver file fault = IsNoneOfKind (is_program_file file) file fault
 
@@ -41,6 +41,6 @@ abbrev pub IsQuoteText : ℕ → TableTexts → (file text : List ℕ) → Type 
 IsQuoteText rows texts file text =
     HoldsOfRows rows texts (λ database. IsQuoteTextOver database file text)
 
--- why nothing is quoted of a file: it is read first, and then the tables
+-- why a file has no quote: it is read first, then the tables
 abbrev pub IsUnquoted : ℕ → TableTexts → (file : List ℕ) → EngineFault → Type 0
 IsUnquoted rows texts file fault = IsUnquotedOfKind (is_program_file file) rows texts file fault

@@ -1,5 +1,5 @@
--- What is told of a file, be it a program or a query, over the rows of five tables: what is known of its
--- run before it, and its report with its notes.
+-- The texts of a file, a program or a query, over the rows of five tables: its forecast, and its
+-- report with its notes.
 use Rattle.std.specs.Prelude.{◌≡◌, ℕ, Bool, true, false, List, string_bytes}
 use Rattle.star_schema.specs.Database.{Database}
 use Rattle.star_safety.specs.MostRows.{most_report_rows}
@@ -16,20 +16,19 @@ use Rattle.star_engine.specs.Queries.{FitsRows, IsPlanOf, IsQueryToldOver, IsUna
 use Rattle.star_engine.specs.QuoteTexts.{is_program_file}
 use Rattle.star_world.specs.WorldOf.{world_of}
 
--- how many rows the report of a program over these tables can have at most
+-- the maximum number of rows of the report of a program over these tables
 abbrev pub most_rows_over : Database → Parts → ℕ
 most_rows_over database program = most_report_rows (world_of database) program
 
--- what is told before a run of a program that nothing refuses: how many visits are quoted, and how many
--- rows its report can have
+-- the forecast of an accepted program: its quote, and the maximum number of rows of its report
 pub record IsProgramForecast (database : Database) (most : ℕ) (program : Parts) (text : List ℕ)
     : Type 0 where
   pub accepted : IsAcceptedWithin database most program
   pub foretold : text
       ≡ forecast_line (quote_over database program) (most_rows_over database program)
 
--- the same of a query that fits: each row of lineorder is visited once, and the rows are those that the
--- report of its program can have
+-- the same for a query that fits: each row of lineorder is visited once, and the rows are those
+-- that the report of its program can have
 pub record IsQueryForecast (most : ℕ) (database : Database) (query text : List ℕ) : Type 0 where
   pub fitting : FitsRows most database query
   pub p : Plan
@@ -53,17 +52,17 @@ abbrev pub IsToldOfKind : (is_program : Bool) → (visits : ℕ) → Database �
 IsToldOfKind true visits database file telling = IsToldOver visits database file telling
 IsToldOfKind false visits database file telling = IsQueryToldOver visits database file telling
 
--- the line of a file that isn't refused and is not run
+-- the line of a file that is not refused and not run
 abbrev pub IsJudgedOver : (visits : ℕ) → Database → (file text : List ℕ) → Type 0
 IsJudgedOver visits database file text =
     IsJudgedOfKind (is_program_file file) visits database file text
 
--- what is told of its run
+-- the text of its run
 abbrev pub IsFileToldOver : (visits : ℕ) → Database → (file : List ℕ) → Telling → Type 0
 IsFileToldOver visits database file telling =
     IsToldOfKind (is_program_file file) visits database file telling
 
--- the telling whose three texts a call hands over
+-- the text whose three pieces a call returns
 abbrev pub telling_of : Told → Telling
 telling_of told = record {
   quoted = string_bytes told.quoted;
@@ -71,7 +70,7 @@ telling_of told = record {
   done = string_bytes told.done;
 }
 
--- why a file has no such line: it is read first, and then it is checked
+-- why a file has no such line: it is read first, then checked
 abbrev pub IsUnjudgedOver : (visits : ℕ) → Database → (file : List ℕ) → EngineFault → Type 0
 IsUnjudgedOver visits database file fault =
     IsUnjudgedOfKind (is_program_file file) visits database file fault

@@ -1,4 +1,4 @@
--- What `trial` prints of a program over five tables.
+-- The text of `trial` for a program over five tables.
 use Rattle.std.specs.Prelude.{◌≡◌, ℕ, List}
 use Rattle.star_schema.specs.Database.{Database, TableTexts}
 use Rattle.star_program.specs.declared.outcome.Outcome.{Outcome}
@@ -14,7 +14,7 @@ use Rattle.star_engine.specs.declared.fault.EngineFault.{EngineFault}
 use Rattle.star_engine.specs.declared.fault.EngineFault.TheVariants.{Trial}
 use Rattle.star_engine.specs.Loads.{HoldsOfFile, HoldsOfRows, IsNoProgram, IsProgramOf, IsUnread}
 
--- the printed rows of the program that a file spells, run over these tables with at most `visits`
+-- the printed report of the program that a file spells, run over these tables for at most `visits`
 -- visits
 pub record IsBoundedReport (database : Database) (file : List ℕ) (visits : ℕ)
     (report : List ℕ) : Type 0 where
@@ -25,12 +25,12 @@ pub record IsBoundedReport (database : Database) (file : List ℕ) (visits : ℕ
       (bounded_run_of (world_of database) visits program) outcome
   pub printed : report ≡ report_text outcome.names outcome.rows
 
--- how a run ends that does not come to its end: trapped, or at the limit on visits
+-- how a run ends that does not run to its end: trapped, or at the limit on visits
 abbrev pub IsStop : End → TrialFault → Type 0
 IsStop end trial.OutOfMemory = ⊥
 IsStop end fault = IsFaultOfEnd end fault
 
--- why there is none: the file is read first
+-- why there is no report: the file is read first
 abbrev pub IsNoTrialOver : Database → (file : List ℕ) → (visits : ℕ) → EngineFault → Type 0
 IsNoTrialOver database file visits (Trial fault) =
     HoldsOfFile file
@@ -45,7 +45,7 @@ abbrev pub IsTrialReport : ℕ → TableTexts → (file : List ℕ) → (visits 
 IsTrialReport most texts file visits report =
     HoldsOfRows most texts (λ database. IsBoundedReport database file visits report)
 
--- why there is none: the file is read first, and then the tables
+-- why there is none: the file is read first, then the tables
 abbrev pub IsNoTrial : ℕ → TableTexts → (file : List ℕ) → (visits : ℕ) → EngineFault → Type 0
 IsNoTrial most texts file visits (Trial fault) =
     HoldsOfRows most texts (λ database. IsNoTrialOver database file visits (Trial fault))

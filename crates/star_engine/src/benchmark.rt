@@ -1,4 +1,4 @@
-// The thirteen queries of the benchmark, one after the other over one load.
+// The thirteen queries of the benchmark over one load.
 
 ghost use Rattle.std.specs.Prelude.{◌≡◌, ◌↔◌, IfOk, IsTrue, MatchResult, false};
 ghost use Rattle.star_engine.specs.Bench as spec;
@@ -20,14 +20,14 @@ use star_catalogue::Catalogue;
 use star_schema::Limits;
 use std::alloc::{AllocError, Global};
 
-// Some text of the benchmark, and whether each query in it fits.
+// A section of the benchmark's text, and whether each of its queries fits.
 #[derive(Drop)]
 pub(crate) struct Finding {
     pub(crate) text: Vec<u8>,
     pub(crate) fits: bool,
 }
 
-// A query of the benchmark, which was read.
+// Returns the question of a benchmark query.
 fn question_of(alloc: Global, query: BenchmarkQuery) -> Result<Question, EngineFault>
     ensures { MatchResult result (Asks false (query_text query)) IsMemory }
 {
@@ -35,7 +35,7 @@ fn question_of(alloc: Global, query: BenchmarkQuery) -> Result<Question, EngineF
     Question::query(alloc, query.text().as_bytes())
 }
 
-// What is found of a question over loaded tables. Its refusal is no fault here.
+// Answers a question over loaded tables. A refusal is a line here, not an error.
 fn find(
     alloc: Global,
     catalogue: &Catalogue,
@@ -60,7 +60,7 @@ fn find(
     }
 }
 
-// The quote of a query's program, under the query's name.
+// Returns the quote of a query's program, with the query's name.
 fn named_quote(
     alloc: Global,
     catalogue: &Catalogue,
@@ -76,7 +76,7 @@ fn named_quote(
     Ok(text.into_bytes())
 }
 
-// What is printed of a query, and whether it fits.
+// Returns the section of a query, and whether the query fits.
 fn section_of(
     alloc: Global,
     catalogue: &Catalogue,
@@ -99,7 +99,7 @@ fn section_of(
     })
 }
 
-// What is printed of the thirteen queries over loaded tables, and whether all fit.
+// Returns the text of the thirteen queries over loaded tables, and whether all of them fit.
 pub(crate) fn bench_of(
     alloc: Global,
     catalogue: &Catalogue,

@@ -1,4 +1,4 @@
-// The engine's calls over the tables of five texts.
+// The engine's calls over the texts of five tables.
 
 ghost use Rattle.std.specs.Prelude.{◌≡◌, ◌≤◌, ◌^◌, ◌↔◌, ℕ, Bool, List, Err, IfErr, IfOk, IsTrue, MatchResult, OnOk};
 ghost use Rattle.star_schema.specs.Loadable.{database_of};
@@ -24,7 +24,7 @@ use star_common::Sink;
 use star_schema::Limits;
 use std::alloc::Global;
 
-/// Writes how many rows each table has, and the bounds of its columns of numbers.
+/// Writes the row count of each table and the bounds of its numeric columns to `out`.
 pub fn check<S: Sink>(
     alloc: Global,
     texts: &Texts<'_>,
@@ -44,7 +44,7 @@ pub fn check<S: Sink>(
     engine.check(alloc, out)
 }
 
-// Answers a question that was read, or returns its fault, over the tables of five texts.
+// Answers a question, or returns its error, over the texts of five tables.
 fn answer<S: Sink, N: Sink>(
     alloc: Global,
     texts: &Texts<'_>,
@@ -66,11 +66,11 @@ fn answer<S: Sink, N: Sink>(
     engine.answer(alloc, question, out, notes)
 }
 
-/// Answers the query that a text means over the tables of five texts: writes its report on `out`.
+/// Answers a query over the texts of five tables: writes its report to `out`.
 ///
-/// A note of the quote, which is lineorder's row count, goes to `notes` before the query is judged,
-/// and one of what the run of its program did after the report. A query that doesn't fit is
-/// refused. The query is read first, and then the tables.
+/// The note of the quote, which is lineorder's row count, goes to `notes` before the query is
+/// checked. The note of the run's counts follows the report. A query that does not fit the tables
+/// is refused. The query's errors come before those of the tables.
 pub fn answer_query<S: Sink, N: Sink>(
     alloc: Global,
     texts: &Texts<'_>,
@@ -79,7 +79,7 @@ pub fn answer_query<S: Sink, N: Sink>(
     out: &mut S,
     notes: &mut N,
 ) -> Result<(), EngineFault>
-    // The report alone, and then with its notes.
+    // The report, then the report with its notes.
     ensures reported { OnOk result (HasWritten (change S.contents S.is_failed out.old out.new)
         (IsReportOf limits.rows (texts_view texts.now) query.now)) }
     ensures noted { OnOk result (HasTold (change S.contents S.is_failed out.old out.new)
@@ -108,10 +108,11 @@ pub fn answer_query<S: Sink, N: Sink>(
     )
 }
 
-/// Checks the program whose text a file holds over the tables, runs it, and writes its report on
-/// `out`. A note of how many visits are quoted goes to `notes` before the check, and one of what
-/// the run did after the report. A program is refused where it is not admissible over the tables,
-/// or more visits are quoted than the limits allow. The file is read first, and then the tables.
+/// Verifies and runs the program in a file over the tables, and writes its report to `out`.
+///
+/// The note of the quote goes to `notes` before the check. The note of the run's counts follows the
+/// report. A program is refused if it is not admissible over the tables, or if its quote exceeds
+/// the limit. The file's errors come before those of the tables.
 pub fn answer_program<S: Sink, N: Sink>(
     alloc: Global,
     texts: &Texts<'_>,
@@ -120,7 +121,7 @@ pub fn answer_program<S: Sink, N: Sink>(
     out: &mut S,
     notes: &mut N,
 ) -> Result<(), EngineFault>
-    // The report alone, and then with its notes.
+    // The report, then the report with its notes.
     ensures reported { OnOk result (HasWritten (change S.contents S.is_failed out.old out.new)
         (IsFileReport limits.rows (texts_view texts.now) file.now)) }
     ensures noted { OnOk result (HasTold (change S.contents S.is_failed out.old out.new)
@@ -149,10 +150,9 @@ pub fn answer_program<S: Sink, N: Sink>(
     )
 }
 
-/// Writes how many visits are quoted over the tables: of the program that a file spells, or of the
-/// program of the query that it means. A file that begins with `star program ` is taken for a
-/// program, and any other for a query. Nothing is checked against the tables. The file is read
-/// first, and then the tables.
+/// Writes the quote of a file over the tables to `out`. A file that begins with `star program ` is
+/// a program, any other a query, whose program is quoted. Nothing is checked against the tables.
+/// The file's errors come before those of the tables.
 pub fn quote_text<S: Sink>(
     alloc: Global,
     texts: &Texts<'_>,
@@ -174,8 +174,8 @@ pub fn quote_text<S: Sink>(
     engine.quote(alloc, &question, out)
 }
 
-/// Writes the text of the program of a query, as `answer_program` and `trial_program` read it. No
-/// table is asked for.
+/// Writes the program of a query to `out`, as text that `answer_program` and `trial_program` read.
+/// It needs no tables.
 pub fn explain_query<S: Sink>(alloc: Global, query: &[u8], out: &mut S) -> Result<(), EngineFault>
     ensures written { OnOk result (HasWritten (change S.contents S.is_failed out.old out.new)
         (IsExplained query.now)) }
@@ -191,8 +191,8 @@ pub fn explain_query<S: Sink>(alloc: Global, query: &[u8], out: &mut S) -> Resul
     write_text(out, text.as_slice())
 }
 
-/// Runs the program whose text a file holds over the tables, with at most `visits` turns of
-/// scans, and writes its report. The file is read first, and then the tables.
+/// Runs the program in a file over the tables without verifying it, for at most `visits` visits,
+/// and writes its report to `out`. The file's errors come before those of the tables.
 pub fn trial_program<S: Sink>(
     alloc: Global,
     texts: &Texts<'_>,
@@ -216,10 +216,10 @@ pub fn trial_program<S: Sink>(
     engine.trial(alloc, &question, visits, out)
 }
 
-/// Answers the thirteen queries of the benchmark over one load of the tables of five texts: writes
-/// of each its quote under its name, and then its report or one line that says why it is refused.
-/// The whole text is made before any of it is written. The answer is whether no query was refused.
-/// There is none for the faults of the tables, want of memory and a failed write alone.
+/// Answers the thirteen queries of the benchmark over one load of five texts. For each it writes
+/// the query's name with its quote, then its report or one line with its refusal. The whole text is
+/// made before any of it is written. Returns whether no query was refused. The only errors are
+/// those of the tables, out of memory and a failed write.
 pub fn bench<S: Sink>(
     alloc: Global,
     texts: &Texts<'_>,

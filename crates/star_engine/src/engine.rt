@@ -1,4 +1,4 @@
-// Five tables that are loaded once and asked often.
+// Five tables that are loaded once and queried often.
 
 ghost use Rattle.std.specs.Prelude.{◌≡◌, ◌≤◌, ◌^◌, ◌↔◌, ℕ, Bool, true, List, IfErr, IfOk, IsTrue, MatchResult, string_bytes};
 ghost use Rattle.star_schema.specs.Database.{TableTexts};
@@ -29,9 +29,9 @@ use star_verify::Verified;
 use std::alloc::Global;
 use std::marker::Model;
 
-/// The rows of five tables, loaded, and the limits under which they are asked. A contract sees the
-/// rows of each table, the limit on rows under which they were loaded, and the limit on visits. No
-/// call changes it: each borrows it and answers as every other would.
+/// The rows of five loaded tables, and the limits of their queries. A contract sees the rows of
+/// each table, the limit on rows of the load, and the limit on visits. No call changes an engine;
+/// equal calls return equal results.
 #[derive(Drop)]
 pub struct Engine {
     catalogue: Catalogue,
@@ -52,7 +52,7 @@ impl Model for Engine {
     ghost invariant = { λ engine. AreOfLoadableTexts engine.limits.rows engine.catalogue };
 }
 
-// The catalogue of the tables that five readers were given.
+// Returns the catalogue of the tables that five readers were given.
 fn load_read(alloc: Global, read: ReadTables) -> Result<Catalogue, EngineFault>
     requires { AreReadSome read }
     ensures { (most : ℕ) (texts : TableTexts) → AreRead read most texts → MatchResult result
@@ -63,8 +63,8 @@ fn load_read(alloc: Global, read: ReadTables) -> Result<Catalogue, EngineFault>
 }
 
 impl Engine {
-    /// Loads the tables of five texts, which may be let go afterwards, under `limits`; or answers
-    /// the first fault of the texts.
+    /// Loads the tables of five texts under `limits`, or returns their first error. The texts are
+    /// not needed afterwards.
     pub fn load(alloc: Global, texts: &Texts<'_>, limits: Limits) -> Result<Engine, EngineFault>
         ensures loadable { IfOk result (λ engine. IsLoadable limits.rows (texts_view texts.now)) }
         ensures loaded { IfOk result
@@ -75,9 +75,8 @@ impl Engine {
         Engine::of_read(alloc, read, limits)
     }
 
-    /// Loads the tables that five readers were given, which read them of files that came in pieces,
-    /// under `limits`, whose limit on rows the readers have; or answers the first fault of what they
-    /// were given, as `load` does.
+    /// Loads the tables that five readers were given in pieces, under `limits`. The readers have
+    /// the same limit on rows. Returns the first error, as `load` does.
     pub fn of_read(alloc: Global, read: ReadTables, limits: Limits) -> Result<Engine, EngineFault>
         requires { (texts : TableTexts) × AreRead read limits.rows texts }
         ensures loadable { (texts : TableTexts) → AreRead read limits.rows texts
@@ -94,9 +93,9 @@ impl Engine {
         })
     }
 
-    /// What holds of every engine: its rows are those of texts that can be loaded, so each row has a
-    /// value for each column, of the column's kind; keys tell the rows of each table apart, and each
-    /// foreign key is found; and the bounds of the columns of numbers lie in 64 bits.
+    /// States the properties of every engine: its rows are those of texts that can be loaded. Each
+    /// row has a value of the right type for each column. The keys of each table are distinct, and
+    /// each foreign key refers to a row. The bounds of the numeric columns have 64 bits.
     pub fn law(&self)
         ensures of_texts { AreOfLoadableTexts self.now.rows self.now.database }
         ensures loaded { AreLoadedRows self.now.database }
@@ -104,7 +103,7 @@ impl Engine {
         self.catalogue.law();
     }
 
-    /// Writes how many rows each table has, and the bounds of its columns of numbers.
+    /// Writes the row count of each table and the bounds of its numeric columns to `out`.
     pub fn check<S: Sink>(&self, alloc: Global, out: &mut S) -> Result<(), EngineFault>
         ensures { IsAnswered (change S.contents S.is_failed out.old out.new)
             (IsListingOver self.now.database) (λ fault. ⊥) result }
@@ -113,12 +112,12 @@ impl Engine {
         write_text(out, text.as_bytes())
     }
 
-    /// Answers a question: writes its report on `out`.
+    /// Answers a question: writes its report to `out`.
     ///
-    /// A note of how many visits are quoted, which of a query is lineorder's row count, goes to `notes`
-    /// before the question is checked, and one of what the run did after the report. A query that
-    /// doesn't fit is refused, and so is a program that is not admissible over the tables or of which
-    /// more visits are quoted than the limits allow.
+    /// The note of the quote goes to `notes` before the question is checked; a query's quote is
+    /// lineorder's row count. The note of the run's counts follows the report. A query that does
+    /// not fit the tables is refused. A program is refused if it is not admissible over the tables,
+    /// or if its quote exceeds the limit.
     pub fn answer<S: Sink, N: Sink>(
         &self,
         alloc: Global,
@@ -144,7 +143,7 @@ impl Engine {
         )
     }
 
-    /// Returns what `answer` writes: the report and its notes.
+    /// Returns the report and the notes that `answer` writes.
     pub fn report(&self, alloc: Global, question: Question) -> Result<Told, EngineFault>
         ensures { (is_program : Bool) (file : List ℕ) → Asks is_program file question
             → MatchResult result (λ told.
@@ -155,9 +154,8 @@ impl Engine {
         run_checked(alloc, &self.catalogue, question.program, self.limits)
     }
 
-    /// Returns the line of what is known before a question is run, once it is checked: how many visits
-    /// are quoted, and how many rows the report can have at most. Nothing is run. The question is
-    /// refused as `answer` does.
+    /// Returns the line of a question that is checked but not run: its quote, and the maximum
+    /// number of rows of its report. The question is refused as by `answer`.
     pub fn forecast(&self, alloc: Global, question: Question) -> Result<String, EngineFault>
         ensures { (is_program : Bool) (file : List ℕ) → Asks is_program file question
             → MatchResult result (λ line.
@@ -168,8 +166,8 @@ impl Engine {
         forecast(alloc, &self.catalogue, question.program, self.limits)
     }
 
-    /// Writes how many visits of a question are quoted over the loaded tables. Nothing is checked
-    /// against them.
+    /// Writes the quote of a question over the loaded tables to `out`. Nothing is checked against
+    /// the tables.
     pub fn quote<S: Sink>(
         &self,
         alloc: Global,
@@ -185,8 +183,8 @@ impl Engine {
         write_text(out, note.as_bytes())
     }
 
-    /// Runs a program over the loaded tables, with at most `visits` turns of scans, and writes its
-    /// report. The engine's own limit on visits has no part in it.
+    /// Runs a program over the loaded tables without verifying it, for at most `visits` visits, and
+    /// writes its report to `out`. The engine's own limit on visits is not used.
     pub fn trial<S: Sink>(
         &self,
         alloc: Global,
@@ -204,7 +202,7 @@ impl Engine {
         write_text(out, report.as_slice())
     }
 
-    /// Checks a question over the loaded tables, for runs of it that are measured.
+    /// Verifies a question over the loaded tables, for runs that are measured.
     pub fn verify(&self, alloc: Global, question: Question) -> Result<Verified<'_>, EngineFault>
         ensures { IfOk result (λ verified. (verified.database ≡ self.now.database)
             × (verified.program ≡ question.program)) }
@@ -212,10 +210,10 @@ impl Engine {
         checked(alloc, &self.catalogue, question.program, self.limits)
     }
 
-    /// Answers the thirteen queries of the benchmark over the loaded tables: writes of each its
-    /// quote under its name, and then its report or one line that says why it is refused. The whole
-    /// text is made before any of it is written. The answer is whether no query was refused. There
-    /// is none for want of memory and a failed write alone.
+    /// Answers the thirteen queries of the benchmark over the loaded tables. For each it writes the
+    /// query's name with its quote, then its report or one line with its refusal. The whole text is
+    /// made before any of it is written. Returns whether no query was refused. The only errors are
+    /// out of memory and a failed write.
     pub fn bench<S: Sink>(&self, alloc: Global, out: &mut S) -> Result<bool, EngineFault>
         ensures answered { IsAnswered (change S.contents S.is_failed out.old out.new)
             (IsBenchOver self.now.visits self.now.database) (λ fault. ⊥) result }

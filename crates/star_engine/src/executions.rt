@@ -1,4 +1,4 @@
-// Programs that are checked and then run, with what is printed of them.
+// Programs that are verified and then run, with the text of their runs.
 
 ghost use Rattle.std.specs.Prelude.{◌≡◌, ◌<◌, ◌≤◌, ◌^◌, ℕ, List, IfOk, MatchResult, length, string_bytes};
 ghost use Rattle.star_engine.specs.Answered.{HasGained, IsWritten, OrMemory, change};
@@ -23,14 +23,14 @@ use star_schema::Limits;
 use star_verify::{Refused, Verified, verify};
 use std::alloc::{AllocError, Global};
 
-/// What is printed of a run.
+/// The text of a run.
 #[derive(Drop)]
 pub struct Told {
-    /// The line of how many visits are quoted.
+    /// The note of the quote.
     pub quoted: String,
     /// The report.
     pub report: Vec<u8>,
-    /// The line of what the run did.
+    /// The note of the run's counts.
     pub done: String,
 }
 
@@ -40,7 +40,7 @@ fn fault_of(refused: Refused) -> EngineFault
     EngineFault::from(refused.refusal)
 }
 
-// The program, where nothing refuses it.
+// Verifies a program.
 pub(crate) fn checked<'c>(
     alloc: Global,
     catalogue: &'c Catalogue,
@@ -59,7 +59,7 @@ pub(crate) fn checked<'c>(
     }
 }
 
-/// Runs a verified program, and returns what is printed of the run.
+/// Runs a verified program and returns the text of its run.
 pub fn run_text(alloc: Global, verified: &Verified<'_>) -> Result<Told, AllocError>
     ensures { (most : ℕ) → IsAcceptedWithin verified.now.database most verified.now.program
         → IfOk result (λ told.
@@ -76,7 +76,7 @@ pub fn run_text(alloc: Global, verified: &Verified<'_>) -> Result<Told, AllocErr
     })
 }
 
-// Runs a program over loaded tables, once it is checked.
+// Verifies a program over loaded tables and runs it.
 pub(crate) fn run_checked(
     alloc: Global,
     catalogue: &Catalogue,
@@ -91,7 +91,8 @@ pub(crate) fn run_checked(
     Ok(run_text(alloc, &verified)?)
 }
 
-// What is known before a run of a program over loaded tables, once it is checked.
+// Verifies a program over loaded tables, and returns its quote and the maximum number of rows of
+// its report.
 pub(crate) fn forecast(
     alloc: Global,
     catalogue: &Catalogue,
@@ -106,7 +107,8 @@ pub(crate) fn forecast(
     Ok(forecast_note(alloc, &verified)?)
 }
 
-// The report of a program over loaded tables, run for at most `visits` turns of scans.
+// Returns the report of a program over loaded tables, run without verifying it for at most `visits`
+// visits.
 pub(crate) fn report_of(
     alloc: Global,
     catalogue: &Catalogue,
@@ -123,7 +125,7 @@ pub(crate) fn report_of(
     Ok(report_text(alloc, &outcome)?)
 }
 
-// Writes a text that has a byte.
+// Writes a nonempty text.
 pub(crate) fn write_text<S: Sink>(out: &mut S, text: &[u8]) -> Result<(), EngineFault>
     requires { 0 < length text.now }
     ensures { IsWritten (change S.contents S.is_failed out.old out.new) text.now result }
@@ -131,7 +133,7 @@ pub(crate) fn write_text<S: Sink>(out: &mut S, text: &[u8]) -> Result<(), Engine
     Ok(write_whole(out, text)?)
 }
 
-// Writes a note, when `sent` bytes of the report have been sent.
+// Writes a note, after `sent` bytes of the report.
 fn write_note<N: Sink>(notes: &mut N, note: &[u8], sent: u64) -> Result<(), EngineFault>
     requires { 0 < length note.now }
     ensures { MatchResult result
@@ -145,7 +147,7 @@ fn write_note<N: Sink>(notes: &mut N, note: &[u8], sent: u64) -> Result<(), Engi
     }
 }
 
-// Writes the report of a run, and then the note of what it did.
+// Writes the report of a run, then the note of its counts.
 fn write_told<S: Sink, N: Sink>(told: &Told, out: &mut S, notes: &mut N) -> Result<(), EngineFault>
     requires report { 0 < length told.now.report.items }
     requires done { 0 < length (string_bytes told.now.done) }
@@ -157,8 +159,8 @@ fn write_told<S: Sink, N: Sink>(told: &Told, out: &mut S, notes: &mut N) -> Resu
     write_note(notes, told.done.as_bytes(), told.report.len() as u64)
 }
 
-// Writes the note of a program's quote, checks the program over loaded tables, runs it, and writes
-// its report and the note of what the run did. All is made before the report is written.
+// Writes the note of a program's quote, verifies the program over loaded tables, runs it, and
+// writes its report and the note of the run's counts. Both are made before the report is written.
 pub(crate) fn execute<S: Sink, N: Sink>(
     alloc: Global,
     catalogue: &Catalogue,

@@ -1,4 +1,4 @@
-// Why an answer was not given.
+// The errors of the engine's calls.
 
 ghost use Rattle.std.specs.Prelude.{◌≡◌, Some};
 ghost use Rattle.star_common.specs.Memory.{TellsMemory};
@@ -17,32 +17,32 @@ use std::alloc::AllocError;
 use std::fmt;
 use thiserror::Error;
 
-// A fault may hold the columns behind a range, so it is neither copied nor compared. The
-// conversions are written by hand, since clauses cite what each gives.
-/// Why an answer was not given. Shown, it is its `FaultLine`.
+// An error may hold the columns of a range; it is neither copied nor compared. The conversions are
+// written by hand, since clauses cite the result of each.
+/// Why a call failed. It is displayed as its `FaultLine`.
 #[derive(Debug, Drop, Error)]
 #[error("{line}", line = FaultLine(self))]
 pub enum EngineFault {
-    /// Memory was refused.
+    /// Out of memory.
     OutOfMemory,
-    /// The file is no query.
+    /// The text is not a query.
     Query(QueryFault),
     /// The query has no plan.
     Plan(PlanFault),
-    /// The file is no program.
+    /// The text is not a program.
     Program(TextFault),
-    /// The texts were not loaded.
+    /// The tables could not be loaded.
     Load(LoadFault),
     /// The program was refused before its run.
     Refused(Refusal),
-    /// The program did not come to its end.
+    /// The program did not run to its end.
     Trial(TrialFault),
-    /// A write did not go through, after `sent` bytes of the answer.
+    /// A write failed, after `sent` bytes of the report.
     Write { sent: u64 },
 }
 
-/// The line of a fault that the program prints, without its line end. No clause tells what a
-/// derived message shows, so the words stand here, and are proved.
+/// The line that the program prints for an error, without its line end. No clause says what a
+/// derived message shows; the texts are therefore written here and proved.
 #[derive(Clone, Copy)]
 pub struct FaultLine<'a>(pub &'a EngineFault);
 

@@ -1,4 +1,4 @@
-// What reads of a file, a pipe or a device come to.
+// Counted reads of a file, a pipe or a device.
 
 ghost use Rattle.std.specs.Prelude.{◌≡◌, ◌≤◌, ◌+◌, ◌-◌, ◌^◌, true, IfOk, IfErr, OnErr, OnOk, min};
 ghost use Rattle.std.specs.Io.{ReadsAtMost};
@@ -8,8 +8,8 @@ ghost use Rattle.star_engine.specs.Reading.{IsFresh, came_of, has_failed, reader
 use crate::reading::FileFault;
 use std::io::Read;
 
-/// A reader, and what its reads came to: how many there were, how many bytes they gave, and whether
-/// one failed. No other function than `read` changes what it tells.
+/// A reader with the number of its reads, the number of bytes that they returned, and whether one
+/// failed. Only `read` changes these.
 #[derive(Drop)]
 pub struct Input<R> {
     reader: R,
@@ -19,7 +19,7 @@ pub struct Input<R> {
 }
 
 impl<R: Read> Input<R> {
-    /// Begins to read from a reader.
+    /// Starts reading from a reader.
     pub fn new(reader: R) -> Input<R>
         ensures reader { reader_of result ≡ reader }
         ensures fresh { IsFresh result }
@@ -32,8 +32,8 @@ impl<R: Read> Input<R> {
         }
     }
 
-    // One read, with no second try where it fails.
-    // That it fails only where this call of the reader does, no clause can tell: of an error the
+    // Reads once. A failed read is not retried.
+    // No clause can say that it fails only if this call of the reader fails: of an error the
     // library's `Read` says only that no known byte was taken.
     pub(crate) fn read(&mut self, room: &mut [u8]) -> Result<usize, FileFault>
         ensures bound { ReadsAtMost result room.new }

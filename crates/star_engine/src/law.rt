@@ -1,4 +1,4 @@
-//! Laws of what is answered: functions with no body, whose clauses are the laws.
+//! Laws of reports: functions with empty bodies, whose clauses are the laws.
 
 ghost use Rattle.std.specs.Prelude.{◌≡◌, ℕ, List};
 ghost use Rattle.star_schema.specs.Database.{Database, TableTexts};
@@ -9,15 +9,15 @@ ghost use Rattle.star_engine.specs.Loads.{AreLoadedRows};
 ghost use Rattle.star_engine.specs.Noted.{Telling};
 ghost use Rattle.star_engine.specs.Trials.{IsBoundedReport};
 
-/// Of one file, run over the same tables with the same bound, no two texts are reports.
+/// States that no two texts are reports of one file, run over the same tables with the same bound.
 pub fn one_report()
     ensures { (database : Database) (file : List ℕ) (visits : ℕ) (report other : List ℕ)
         → IsBoundedReport database file visits report → IsBoundedReport database file visits other
         → report ≡ other }
 {}
 
-/// Where a report of the program of one file and its notes are due, over the same rows, or over the
-/// same texts, under the same limits, no fault is.
+/// States that no error is due if a report of a file's program and its notes are due, over the same
+/// rows or texts, under the same limits.
 pub fn reported_files_have_no_fault()
     ensures over_rows { (visits : ℕ) (database : Database) (file : List ℕ)
         (telling : Telling) (fault : EngineFault) → IsToldOver visits database file telling
@@ -27,7 +27,7 @@ pub fn reported_files_have_no_fault()
         → ¬ IsUntold most visits texts file fault }
 {}
 
-/// The rows of five texts that can be loaded are as a load leaves them.
+/// States that the rows of five texts that can be loaded are as a load leaves them.
 pub fn loadable_texts_hold_loaded_rows()
     ensures { (most : ℕ) (texts : TableTexts)
         → IsLoadable most texts → AreLoadedRows (database_of texts) }

@@ -1,4 +1,4 @@
-//! From the bytes of the table files to the bytes of an answer.
+//! The engine: from the bytes of table files and of a query or a program to the bytes of a report.
 #![tactic(auto)]
 
 mod benchmark;

@@ -1,4 +1,4 @@
-// The text that lists the loaded tables.
+// The listing of the loaded tables.
 
 ghost use Rattle.std.specs.Prelude.{◌≡◌, ◌++◌, IfOk, OnOk, string_bytes};
 ghost use Rattle.std.specs.List.{flat_map};
@@ -11,7 +11,7 @@ use star_schema::{ColumnId, Kind, TABLES, TableId, column_at, kind_of, width};
 use std::alloc::{AllocError, Global};
 use std::fmt::Write;
 
-// Adds the line of a column of numbers, and nothing for a column of texts.
+// Appends the line of a numeric column; a text column has none.
 #[tactic(auto, unfolding(crate::specs::Listing::bounds_line))]
 fn push_column(text: &mut String, catalogue: &Catalogue, column: ColumnId) -> Result<(), AllocError>
     ensures { OnOk result
@@ -54,7 +54,8 @@ fn push_table(text: &mut String, catalogue: &Catalogue, table: TableId) -> Resul
     push_columns(text, catalogue, table)
 }
 
-// How many rows each table has, and the bounds of its columns of numbers, a line each.
+// Returns the listing: the row count of each table and the bounds of its numeric columns, one line
+// each.
 pub(crate) fn list_tables(alloc: Global, catalogue: &Catalogue) -> Result<String, AllocError>
     ensures { IfOk result (λ text. IsListingOver catalogue.now (string_bytes text)) }
 {

@@ -10,7 +10,7 @@ use star_program::{Outcome, Program};
 use star_verify::{Verified, quote};
 use std::alloc::{AllocError, Global};
 
-// The note of how many visits are quoted.
+// Returns the note of a quote.
 #[tactic(auto, unfolding(crate::specs::Notes::quote_line))]
 pub(crate) fn quote_note(alloc: Global, visits: u128) -> Result<String, AllocError>
     ensures { IfOk result (λ note. string_bytes note ≡ quote_line visits) }
@@ -18,7 +18,7 @@ pub(crate) fn quote_note(alloc: Global, visits: u128) -> Result<String, AllocErr
     format!(in alloc; "quote {visits}\n")
 }
 
-// That of a program over loaded tables.
+// Returns the note of a program's quote over loaded tables.
 pub(crate) fn program_note(
     alloc: Global,
     catalogue: &Catalogue,
@@ -29,8 +29,7 @@ pub(crate) fn program_note(
     quote_note(alloc, quote(program, &catalogue.sizes()))
 }
 
-// The note of how many visits are quoted of a program that nothing refuses, and how many rows its
-// report can have at most.
+// Returns the line of an accepted program: its quote, and the maximum number of rows of its report.
 #[tactic(auto, unfolding(crate::specs::Notes::forecast_line))]
 pub(crate) fn forecast_note(alloc: Global, verified: &Verified<'_>) -> Result<String, AllocError>
     ensures { IfOk result (λ note. string_bytes note
@@ -42,7 +41,7 @@ pub(crate) fn forecast_note(alloc: Global, verified: &Verified<'_>) -> Result<St
     format!(in alloc; "quote {visits} rows {rows}\n")
 }
 
-// The note of what a run did.
+// Returns the note of a run's counts.
 #[tactic(auto, unfolding(crate::specs::Notes::counts_line))]
 pub(crate) fn counts_note(alloc: Global, outcome: &Outcome) -> Result<String, AllocError>
     ensures { IfOk result (λ note. string_bytes note

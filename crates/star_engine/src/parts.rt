@@ -1,4 +1,4 @@
-// Reading a file of a table, piece by piece, under a bound on its bytes.
+// Reading a table file in pieces, within a bound on its bytes.
 
 ghost use Rattle.std.specs.Prelude.{◌≡◌, ◌≤◌, ◌<◌, ◌+◌, ◌-◌, ◌^◌, ◌⊎◌, ℕ, List, true, Err, IfOk, OnOk, length, min};
 ghost use Rattle.std.specs.Io.KnownBytes.{Consumes, IsAtEnd};
@@ -10,15 +10,15 @@ use star_reader::TableReader;
 use std::alloc::Global;
 use std::io::Read;
 
-// The room for a piece is cleared for each file, and there may be a thousand small ones; it stays
+// The buffer of a piece is cleared for each file, and there may be a thousand small ones; it stays
 // in the processor's cache. It is smaller than the 128 KiB from which on the C library maps a block
-// by itself: once such a block was let go, it would keep the growing lists of the columns among
-// small blocks too, with holes between them.
-/// The most bytes of one read, and so of one piece of a table.
+// separately: after such a block is freed, growing column buffers would be placed among small
+// blocks too, with holes between them.
+/// The maximum size of a read, and of a piece of a table, in bytes.
 const MOST_OF_A_PIECE: usize = 122_880;
 
-// Gives a reader of a table the bytes of one more read, and says how many there were; no more than
-// are left of a limit.
+// Passes the bytes of one more read to a reader of a table, and returns their number; at most as
+// many as remain of a limit.
 fn feed_more<R: Read>(
     alloc: Global,
     input: &mut Input<R>,
@@ -50,7 +50,7 @@ fn feed_more<R: Read>(
     Ok(count)
 }
 
-// Gives a reader of a table all bytes of a file, each read into the same room.
+// Passes all bytes of a file to a reader of a table, through one buffer.
 fn feed_all<R: Read>(
     alloc: Global,
     input: &mut Input<R>,
@@ -81,9 +81,10 @@ fn feed_all<R: Read>(
     Err(FileFault::Failed)
 }
 
-/// Gives a reader of a table all bytes of a file as one more part, up to the first read that gives
-/// none; no more than `limit`. They come in pieces, as they are read, of at most 120 KiB: no more of
-/// them is in memory at once. No read is tried again, so there are at most `limit + 1`.
+/// Passes all bytes of a file to a reader of a table, as one more part, up to the first read that
+/// returns none. More than `limit` bytes are an error. They come in pieces of at most 120 KiB, as
+/// they are read; only one piece is in memory at a time. No read is retried: there are at most
+/// `limit + 1`.
 pub fn read_part<R: Read>(
     alloc: Global,
     input: &mut Input<R>,
@@ -92,14 +93,14 @@ pub fn read_part<R: Read>(
 ) -> Result<(), FileFault>
     requires { limit < 2 ^ 64 - 1 }
 
-    // The bytes of the part are those that came, in their order: all that the file had left, where
-    // that is known.
+    // The bytes of the part are the bytes that were read, in order: all the remaining bytes of the
+    // file, if these are known.
     ensures bytes { OnOk result ((came : List ℕ) × (length came ≤ limit)
         × Consumes (R.remaining (reader_of input.old)) (R.remaining (reader_of input.new)) came
         × GoesOnByPart reader.old reader.new came) }
     ensures end { OnOk result (IsAtEnd (R.remaining (reader_of input.new))) }
 
-    // Where a read failed, the answer is `Failed`; and it comes for nothing else than it says.
+    // `Failed` is returned if a read failed, and otherwise only in the cases stated here.
     ensures unfailed { OnOk result (has_failed input.new ≡ has_failed input.old) }
     ensures failed { result ≡ Err FileFault.Failed
         → (has_failed input.new ≡ true) ⊎ (limit < came_of input.new) }

@@ -1,4 +1,4 @@
-//! Laws of what queries are answered: functions with no body, whose clauses are the laws.
+//! Laws of queries and their reports: functions with empty bodies, whose clauses are the laws.
 
 ghost use Rattle.std.specs.Prelude.{◌≡◌, ◌≤◌, ◌<◌, ◌^◌, ◌↔◌, ℕ, List, Some};
 ghost use Rattle.std.specs.Option.{option_map};
@@ -39,12 +39,11 @@ use star_safety::law::{
 };
 use star_world::law::{sound_rows_are_loaded, sound_rows_have_a_world};
 
-/// Where a query fits the rows that are loaded, nothing refuses its program. Its run comes to its
-/// end with no trap, visits at most as many rows as lineorder has, and what is printed of it is the
-/// query's report.
+/// States that the program of a query that fits the loaded rows is accepted, runs to its end
+/// without a trap, visits at most as many rows as lineorder has, and prints the query's report.
 ///
-/// Where it doesn't fit it is refused: for its visits where lineorder has more rows than may be
-/// visited, and else since a range leaves 64 bits, that of the first such number of a turn.
+/// A query that does not fit is refused: for its visits if lineorder has more rows than may be
+/// visited, otherwise for the first number of its program whose range leaves 64 bits.
 pub fn queries_that_fit_are_answered()
     ensures accepted { (most : ℕ) (database : Database) (query : List ℕ) (p : Plan)
         → AreLoadedRows database → IsPlanOf query p
@@ -76,9 +75,9 @@ pub fn queries_that_fit_are_answered()
     sound_rows_are_loaded();
 }
 
-/// The program of a query is quoted lineorder's row count, some text spells it, and wherever its
-/// run comes to its end, what is printed of it is the query's report, each row of lineorder was visited
-/// once, and each row that the query selects is an update.
+/// States that the program of a query has lineorder's row count as its quote, and that some text
+/// spells it. If its run ends, it prints the query's report, has visited each row of lineorder
+/// once, and has made one update for each selected row.
 pub fn programs_of_queries_report_them()
     ensures quoted { (database : Database) (p : Plan)
         → quote_over database (compiled p) ≡ fact_rows database }
@@ -99,7 +98,7 @@ pub fn programs_of_queries_report_them()
     sound_rows_have_a_world();
 }
 
-// What the laws say of the program of each query over loaded tables.
+// Proves the laws for the program of each query over loaded tables.
 pub(crate) fn each_query_is_judged(catalogue: &Catalogue)
     ensures { (most : ℕ) (query : List ℕ) (p : Plan) → IsPlanOf query p
         → IsJudged most catalogue.now query p }
@@ -109,8 +108,8 @@ pub(crate) fn each_query_is_judged(catalogue: &Catalogue)
     catalogue.law();
 }
 
-/// Each of the thirteen texts of the benchmark means a query, and a query that is well named. So
-/// none of them is refused as it is read.
+/// States that each of the thirteen texts of the benchmark means a well-named query. None of them
+/// is therefore refused when it is read.
 pub fn the_thirteen_are_queries()
     ensures meant { (q : BenchmarkQuery) → (tree : Tree) × Means (query_text q) tree }
     ensures named { (q : BenchmarkQuery) (tree : Tree)
@@ -118,8 +117,8 @@ pub fn the_thirteen_are_queries()
     ensures read { (q : BenchmarkQuery) (fault : EngineFault) → ¬ IsNoQuery (query_text q) fault }
 {}
 
-/// Where a report of the query of one text and its notes are due, over the same rows, or over the
-/// same texts, under the same limits, no fault is.
+/// States that no error is due if a report of a query and its notes are due, over the same rows or
+/// texts, under the same limits.
 pub fn reported_queries_have_no_fault()
     ensures over_rows { (visits : ℕ) (database : Database) (query : List ℕ)
         (telling : Telling) (fault : EngineFault)

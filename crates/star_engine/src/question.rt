@@ -16,14 +16,13 @@ use star_program::Program;
 use star_query::Query;
 use std::alloc::Global;
 
-/// What an engine is asked: a query, which was parsed, planned and compiled, or a program. It is read
-/// before any table.
+/// A query that was parsed, planned and compiled, or a program. It is read before any table.
 #[derive(Drop)]
 pub struct Question {
     pub(crate) program: Program,
 }
 
-// Whether a file is taken for a program.
+// Tests whether a file is taken for a program.
 fn is_program(file: &[u8]) -> bool
     ensures { result ≡ is_program_file file.now }
 {
@@ -31,7 +30,7 @@ fn is_program(file: &[u8]) -> bool
 }
 
 impl Question {
-    /// Reads the query that a text means, or returns its first error.
+    /// Reads a query, or returns its first error.
     pub fn query(alloc: Global, text: &[u8]) -> Result<Question, EngineFault>
         ensures { MatchResult result (Asks false text.now) (OrMemory (IsNoQuery text.now)) }
     {
@@ -41,7 +40,7 @@ impl Question {
         Ok(Question { program })
     }
 
-    /// Reads the program that a file spells, or returns its first error.
+    /// Reads a program, or returns its first error.
     pub fn program(alloc: Global, file: &[u8]) -> Result<Question, EngineFault>
         ensures { MatchResult result (Asks true file.now) (OrMemory (IsNoProgram file.now)) }
     {
@@ -49,8 +48,8 @@ impl Question {
         Ok(Question { program })
     }
 
-    /// Reads a file as a program if it begins with `star program `, and else as a query; or returns its
-    /// first error.
+    /// Reads a file as a program if it begins with `star program `, otherwise as a query, or
+    /// returns its first error.
     pub fn of_file(alloc: Global, file: &[u8]) -> Result<Question, EngineFault>
         ensures { MatchResult result (Asks (is_program_file file.now) file.now)
             (OrMemory (IsUnquotedOver file.now)) }

@@ -1,4 +1,4 @@
-// Reading a file, a pipe or a device whole, under a bound on its bytes.
+// Reading a whole file, pipe or device within a bound on its bytes.
 
 ghost use Rattle.std.specs.Prelude.{◌≡◌, ◌≤◌, ◌<◌, ◌+◌, ◌++◌, ◌⊎◌, ℕ, List, [], true, Err, IfOk, IfSome, OnOk, length, vec_len};
 ghost use Rattle.std.specs.Io.KnownBytes.{Consumes, IsAtEnd};
@@ -10,18 +10,18 @@ use crate::input::Input;
 use std::alloc::{AllocError, Global};
 use std::io::Read;
 
-/// The most bytes of one read.
+/// The maximum size of a read in bytes.
 const MOST_OF_A_READ: usize = 131_072;
 
-/// The most bytes for which room is made before any is read.
+/// The maximum capacity in bytes that is reserved before the first read.
 const MOST_RESERVED: u64 = 1_073_741_824;
 
-/// Why a file was not read whole.
+/// Why a file was not read.
 #[derive(Clone, Copy, Debug, PartialEq, Eq)]
 pub enum FileFault {
-    /// Memory was refused.
+    /// Out of memory.
     Memory,
-    /// A read failed, or more bytes came than may.
+    /// A read failed, or there were more bytes than allowed.
     Failed,
 }
 
@@ -33,7 +33,7 @@ impl From<AllocError> for FileFault {
     }
 }
 
-// Adds the bytes of one more read, and gives how many there were.
+// Appends the bytes of one more read, and returns their number.
 fn read_more<R: Read>(
     input: &mut Input<R>,
     bytes: &mut Vec<u8>,
@@ -64,14 +64,14 @@ fn read_more<R: Read>(
     Ok(count)
 }
 
-/// Makes room for `count` bytes.
+/// Returns a buffer with room for `count` bytes.
 pub(crate) fn room_of(alloc: Global, count: usize) -> Result<Vec<u8>, AllocError>
     ensures { IfOk result (λ room. vec_len room ≡ count) }
 {
     vec![in alloc; 0u8; count]
 }
 
-// No bytes yet, and room for the expected ones, as far as that is sensible.
+// Returns an empty buffer, with room for the expected bytes within bounds.
 fn reserve(alloc: Global, limit: u64, expected: u64) -> Result<Vec<u8>, AllocError>
     ensures { IfOk result (λ bytes. bytes.items ≡ []) }
 {
@@ -79,7 +79,7 @@ fn reserve(alloc: Global, limit: u64, expected: u64) -> Result<Vec<u8>, AllocErr
     Vec::with_capacity(alloc, reserved as usize)
 }
 
-// All bytes of a reader, each read into the same room.
+// Returns all bytes of a reader, read through one buffer.
 fn read_all<R: Read>(
     input: &mut Input<R>,
     bytes: &mut Vec<u8>,
@@ -106,9 +106,9 @@ fn read_all<R: Read>(
     Err(FileFault::Failed)
 }
 
-/// All bytes of a reader, up to the first read that gives none; no more than `limit`. Room for the
-/// `expected` ones is made before any is read, as far as that is sensible: they are a hint alone.
-/// No read is tried again, so there are at most `limit + 1`.
+/// Returns all bytes of a reader, up to the first read that returns none. More than `limit` bytes
+/// are an error. Room for `expected` bytes, a hint, is reserved within bounds before the first
+/// read. No read is retried: there are at most `limit + 1`.
 pub fn read_expected<R: Read>(
     alloc: Global,
     input: &mut Input<R>,
@@ -120,7 +120,7 @@ pub fn read_expected<R: Read>(
     ensures end { OnOk result (IsAtEnd (R.remaining (reader_of input.new))) }
     ensures within { IfOk result (λ bytes. vec_len bytes ≤ limit) }
 
-    // Where a read failed, the answer is `Failed`; and it comes for nothing else than it says.
+    // `Failed` is returned if a read failed, and otherwise only in the cases stated here.
     ensures unfailed { OnOk result (has_failed input.new ≡ has_failed input.old) }
     ensures failed { result ≡ Err FileFault.Failed
         → (has_failed input.new ≡ true) ⊎ (limit < came_of input.new) }
@@ -133,7 +133,7 @@ pub fn read_expected<R: Read>(
     Ok(bytes)
 }
 
-/// All bytes of a reader, as `read_expected` with no bytes that are expected.
+/// Returns all bytes of a reader, as `read_expected` without expected bytes.
 pub fn read_whole<R: Read>(
     alloc: Global,
     input: &mut Input<R>,

@@ -4,7 +4,7 @@ ghost use Rattle.std.specs.Prelude.{◌≡◌};
 ghost use Rattle.star_engine.specs.Thirteen as spec;
 
 /// A query of the Star Schema Benchmark (revision 3, section 3), by its flight and its number in
-/// it.
+/// the flight.
 #[derive(Clone, Copy, Debug, PartialEq, Eq)]
 pub enum BenchmarkQuery {
     Q11,
@@ -22,7 +22,7 @@ pub enum BenchmarkQuery {
     Q43,
 }
 
-/// The thirteen queries of the benchmark, in their order.
+/// The thirteen queries of the benchmark in order.
 pub const THIRTEEN: [BenchmarkQuery; 13] = [
     BenchmarkQuery::Q11,
     BenchmarkQuery::Q12,
@@ -40,7 +40,7 @@ pub const THIRTEEN: [BenchmarkQuery; 13] = [
 ];
 
 impl BenchmarkQuery {
-    /// Its name, as `Q1.1`.
+    /// Returns its name, such as `Q1.1`.
     #[tactic(auto, unfolding(crate::specs::Thirteen::query_name))]
     pub fn name(self) -> &'static str
         ensures { result.now ≡ spec.query_name self }
@@ -62,7 +62,7 @@ impl BenchmarkQuery {
         }
     }
 
-    /// Its text, on one line, in this project's words.
+    /// Returns its text on one line, in this project's dialect.
     #[tactic(auto, unfolding(crate::specs::Thirteen::query_text))]
     pub fn text(self) -> &'static str
         ensures { result.now ≡ spec.query_text self }

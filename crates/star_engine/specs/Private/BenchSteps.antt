@@ -1,4 +1,4 @@
--- What is found of a program over loaded tables.
+-- The result of a program over loaded tables.
 use Rattle.std.specs.Prelude.{◌≡◌, ℕ, Bool, true, false, List}
 use Rattle.star_schema.specs.Database.{Database}
 use Rattle.star_program.specs.declared.program.Parts.{Parts}
@@ -7,7 +7,7 @@ use Rattle.star_engine.specs.Bench.{refusal_line}
 use Rattle.star_engine.specs.Executions.{IsProgramTold, IsRefusal}
 use Rattle.star_engine.specs.Noted.{Telling}
 
--- the report of its run, or what refuses it
+-- the report of its run, or its refusal
 abbrev pub IsRunFound : Database → ℕ → Parts → (fits : Bool) → List ℕ → Type 0
 IsRunFound database most program true text =
     (telling : Telling) × IsProgramTold database most program telling × (text ≡ telling.report)

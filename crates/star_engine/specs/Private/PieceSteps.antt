@@ -1,11 +1,12 @@
--- How far a file of a table has been read.
+-- The progress of reading a table file.
 use Rattle.std.specs.Prelude.{◌≡◌, ◌≤◌, ◌+◌, ℕ, List, Option, length}
 use Rattle.std.specs.Io.KnownBytes.{Consumes}
 use Rattle.star_reader.specs.Partway.{Reading}
 use Rattle.star_engine.specs.declared.input.Input.{Input}
 use Rattle.star_engine.specs.Reading.{ReadingGoesOn, came_of, has_failed, reader_of, reads_of}
 
--- `reads` reads gave `taken` bytes, none failed, and the table's reader has gone on by these bytes
+-- `reads` reads returned `taken` bytes, none failed, and the table's reader has continued by these
+-- bytes
 pub record HasFed {R : Type 0} (remaining : R → Option (List ℕ)) (first now : Input R)
     (before after : Reading) (reads taken : ℕ) : Type 0 where
   pub bytes : List ℕ

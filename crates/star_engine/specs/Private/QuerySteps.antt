@@ -1,4 +1,4 @@
--- What the laws say of the program of a query.
+-- The laws about the program of a query.
 use Rattle.std.specs.Prelude.{◌≡◌, ◌≤◌, ◌<◌, ◌↔◌, ℕ, List, Some}
 use Rattle.std.specs.Option.{option_map}
 use Rattle.star_schema.specs.Database.{Database, rows_in}
@@ -16,7 +16,7 @@ use Rattle.star_engine.specs.Executions.{IsAcceptedWithin, quote_over}
 use Rattle.star_engine.specs.Queries.{FitsRows, IsPlanOf, fact_rows}
 use Rattle.star_engine.specs.QueryRuns.{PrintsTheReport}
 
--- what the laws say of the program of a query over the rows of five tables
+-- the laws about the program of a query over the rows of five tables
 pub record IsJudged (most : ℕ) (database : Database) (query : List ℕ) (p : Plan) : Type 0 where
   pub accepted : FitsRows most database query
       ↔ IsAcceptedWithin database most (compiled p)

@@ -1,4 +1,4 @@
--- The faults of the steps before anything is written.
+-- The errors of the steps before anything is written.
 use Rattle.std.specs.Prelude.{◌≡◌, ◌⊎◌, ℕ, List, Result, Ok, Err, length}
 use Rattle.star_program.specs.declared.program.Parts.{Parts}
 use Rattle.star_schema.specs.Database.{Database}
@@ -7,12 +7,12 @@ use Rattle.star_engine.specs.declared.fault.EngineFault.TheVariants.{OutOfMemory
 use Rattle.star_engine.specs.Answered.{Change, HasGained, HasGainedPart, IsUntouched}
 use Rattle.star_engine.specs.Executions.{IsRefusal}
 
--- want of memory alone
+-- only out of memory
 abbrev pub IsMemory : EngineFault → Type 0
 IsMemory OutOfMemory = Unit {0}
 IsMemory fault = ⊥
 
--- of the check of a program over loaded tables
+-- the error of the check of a program over loaded tables
 abbrev pub IsNotVerified : Database → ℕ → Parts → EngineFault → Type 0
 IsNotVerified database most program (Refused refusal) = IsRefusal database most program refusal
 IsNotVerified database most program _ = ⊥
@@ -23,7 +23,8 @@ IsNotVerified database most program _ = ⊥
 abbrev pub IsPart : {N : Type 0} → Change N → List ℕ → Type 0
 IsPart notes note = (noted : ℕ) × HasGainedPart notes note noted
 
--- of making a report and a note and writing one after the other: which write failed, if one did
+-- the result of making a report and a note and writing one after the other: which write failed, if
+-- one did
 abbrev pub AreBothWritten : {S N : Type 0} → Change S → Change N → List ℕ → List ℕ
     → Result (Unit {0}) EngineFault → Type 0
 AreBothWritten out notes report done (Ok answer) = HasGained out report × HasGained notes done

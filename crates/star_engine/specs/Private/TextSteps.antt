@@ -1,4 +1,4 @@
--- What is answered to a question of one kind or the other over five texts.
+-- The result of a question of either kind over five texts.
 use Rattle.std.specs.Prelude.{ℕ, List, Bool, true, false}
 use Rattle.star_schema.specs.Database.{TableTexts}
 use Rattle.star_engine.specs.declared.fault.EngineFault.{EngineFault}
@@ -14,13 +14,13 @@ abbrev pub IsQuoteOfTexts : (is_program : Bool) → (rows : ℕ) → TableTexts 
 IsQuoteOfTexts is_program rows texts file text =
     HoldsOfRows rows texts (λ database. IsQuoteOfKindOver is_program database file text)
 
--- what is told of it
+-- the text of its run
 abbrev pub IsToldOfTexts : (is_program : Bool) → (rows visits : ℕ) → TableTexts → (file : List ℕ)
     → Telling → Type 0
 IsToldOfTexts is_program rows visits texts file telling =
     HoldsOfRows rows texts (λ database. IsToldOfKind is_program visits database file telling)
 
--- why nothing is told of it
+-- why there is no such text
 abbrev pub IsUntoldOfTexts : (is_program : Bool) → (rows visits : ℕ) → TableTexts → (file : List ℕ)
     → EngineFault → Type 0
 IsUntoldOfTexts true rows visits texts file fault = IsUntold rows visits texts file fault
