@@ -1,4 +1,4 @@
--- The words of the faults of a load.
+-- The printed form of load errors.
 use Rattle.std.specs.Prelude.{◌++◌, ℕ, List, codes, decimal}
 use Rattle.star_schema.specs.declared.table.TableId.{TableId}
 use Rattle.star_schema.specs.declared.table.TableId.TheVariants.{Lineorder}
@@ -6,23 +6,23 @@ use Rattle.star_schema.specs.Schema.{column_name, table_name}
 use Rattle.star_catalogue.specs.declared.fault.LoadFault.{LoadFault}
 use Rattle.star_catalogue.specs.declared.fault.LoadFault.TheVariants.{OutOfMemory, ByteOrderMark, TooManyRows, FieldCount, CellTooLong, BadByte, BadNumber, DuplicateKey, AbsentKey}
 
--- a fault of a whole table
+-- an error of a whole table
 unfoldable pub table_fault_text : List ℕ → TableId → List ℕ
 table_fault_text fault t = fault ++ (codes " table " ++ table_name t)
 
--- a fault of a record
+-- an error of a record
 unfoldable pub record_fault_text : List ℕ → TableId → ℕ → List ℕ
 record_fault_text fault t at_row =
     fault ++ (codes " table " ++ (table_name t ++ (codes " record " ++ decimal at_row)))
 
--- a fault of a cell
+-- an error of a cell
 unfoldable pub cell_fault_text : List ℕ → TableId → ℕ → ℕ → List ℕ
 cell_fault_text fault t at_row field =
     fault ++ (codes " table "
     ++ (table_name t
     ++ (codes " record " ++ (decimal at_row ++ (codes " field " ++ decimal field)))))
 
--- the number and name of a fault, and its place
+-- the number and name of an error, with its place
 abbrev pub load_fault_text : LoadFault → List ℕ
 load_fault_text OutOfMemory = codes "1 OutOfMemory"
 load_fault_text (ByteOrderMark t) = table_fault_text (codes "2 ByteOrderMark") t

@@ -1,4 +1,4 @@
--- Five tables whose texts came in pieces.
+-- Five tables that are read in pieces.
 use Rattle.std.specs.Prelude.{ℕ}
 use Rattle.star_schema.specs.declared.table.TableId.TheVariants.{Date, Customer, Supplier, Part, Lineorder}
 use Rattle.star_schema.specs.Database.{TableTexts}

@@ -1,4 +1,4 @@
-// The catalogue of the five tables.
+// The catalogue: five loaded tables.
 
 ghost use Rattle.std.specs.Prelude.{◌≡◌, ◌↔◌, ◌≤◌, ◌<◌, ◌∷◌, [], ℕ, ℤ, All, Some, IfErr, IfOk, IsSome, length, slice_get};
 ghost use Rattle.star_common.specs.Memory.{UnlessMemory};
@@ -29,7 +29,7 @@ use star_schema::{ColumnId, Kind, Limits, Sizes, TableId, kind_of};
 use std::alloc::Global;
 use std::marker::Model;
 
-/// Five sound tables. A contract sees the rows of each. No look-up takes memory.
+/// Five sound tables. A contract sees the rows of each. No look-up allocates.
 #[derive(Drop)]
 pub struct Catalogue {
     tables: Box<Tables>,
@@ -56,8 +56,8 @@ impl Model for Catalogue {
 }
 
 impl Catalogue {
-    /// The tables that five texts are, or the first fault: of the tables in their order, and then
-    /// of the foreign keys by record and then by column.
+    /// Loads the tables of five texts, or returns the first error: of the tables in order, then of
+    /// the foreign keys by record and column.
     pub fn load(alloc: Global, texts: &Texts<'_>, limits: Limits) -> Result<Catalogue, LoadFault>
         ensures loadable { IfOk result (λ catalogue. IsLoadable limits.rows (texts_view texts.now)) }
         ensures rows { IfOk result (λ catalogue. catalogue ≡ database_of (texts_view texts.now)) }
@@ -70,8 +70,8 @@ impl Catalogue {
         Catalogue::finish(alloc, read)
     }
 
-    /// The tables that five readers were given, which read them of texts that came in pieces, or the
-    /// first fault of the texts, as `load` has it.
+    /// Loads the tables that five readers were given in pieces, or returns the first error, as
+    /// `load` does.
     pub fn finish(alloc: Global, read: ReadTables) -> Result<Catalogue, LoadFault>
         requires { AreReadSome read }
         ensures loadable { (most : ℕ) (texts : TableTexts) → AreRead read most texts
@@ -93,10 +93,9 @@ impl Catalogue {
         }
     }
 
-    /// What holds of every catalogue: each row of a table has a value for each column, of the
-    /// column's kind; keys tell the rows of each table apart, and each foreign key is found; and
-    /// the bounds of each column of numbers, which are 0 and 0 where there is no row, lie in 64
-    /// bits.
+    /// States the properties of every catalogue: each row has a value of the right type for each
+    /// column of its table, the keys of each table are distinct, and each foreign key refers to a
+    /// row. The bounds of each numeric column, 0 and 0 without rows, have 64 bits.
     pub fn law(&self)
         ensures sound { IsSound self.now }
         ensures rows { (table : TableId) → All (IsRowOf table) (rows_in self.now table) }
@@ -105,14 +104,14 @@ impl Catalogue {
         let _tables = &self.tables;
     }
 
-    /// How many rows a table has.
+    /// Returns the number of rows of a table.
     pub fn rows(&self, table: TableId) -> u32
         ensures { result ≡ length (rows_in self.now table) }
     {
         self.tables.table(table).rows()
     }
 
-    /// How many rows each table has.
+    /// Returns the number of rows of each table.
     pub fn sizes(&self) -> Sizes
         ensures { (table : TableId) → size_of result table ≡ length (rows_in self.now table) }
     {
@@ -125,7 +124,7 @@ impl Catalogue {
         }
     }
 
-    /// The number of a row, from 0, in a column of numbers.
+    /// Returns the number of a row, from 0, in a numeric column.
     pub fn number(&self, column: ColumnId, row: u32) -> i64
         requires kind { kind_of column ≡ Kind.Number }
         requires row { row < length (rows_in self.now (table_of column)) }
@@ -135,7 +134,7 @@ impl Catalogue {
         self.tables.numbers(column).at(row)
     }
 
-    /// The code of the text of a row, from 0, in a column of texts: its place in the column's
+    /// Returns the code of a row, from 0, in a text column: the index of its text in the
     /// dictionary.
     pub fn code(&self, column: ColumnId, row: u32) -> u32
         requires kind { kind_of column ≡ Kind.Text }
@@ -149,7 +148,7 @@ impl Catalogue {
         self.tables.texts(column).code_at(row)
     }
 
-    /// The text that a code stands for in a column of texts.
+    /// Returns the text with a code in a text column.
     pub fn text(&self, column: ColumnId, code: u32) -> &[u8]
         requires kind { kind_of column ≡ Kind.Text }
         requires code { code
@@ -159,7 +158,7 @@ impl Catalogue {
         self.tables.texts(column).text_of(code)
     }
 
-    /// How many texts of a column's dictionary are less than this one.
+    /// Returns the number of smaller texts in a column's dictionary.
     pub fn low(&self, column: ColumnId, text: &[u8]) -> u32
         requires { kind_of column ≡ Kind.Text }
         ensures { result
@@ -169,7 +168,7 @@ impl Catalogue {
         self.tables.texts(column).low(text)
     }
 
-    /// How many texts of a column's dictionary are less than this one or equal to it.
+    /// Returns the number of smaller and equal texts in a column's dictionary.
     pub fn high(&self, column: ColumnId, text: &[u8]) -> u32
         requires { kind_of column ≡ Kind.Text }
         ensures { result
@@ -179,7 +178,7 @@ impl Catalogue {
         self.tables.texts(column).high(text)
     }
 
-    /// How many texts a column's dictionary has: those of the column, each counted once.
+    /// Returns the number of texts in a column's dictionary, the distinct texts of the column.
     pub fn entries(&self, column: ColumnId) -> u32
         requires { kind_of column ≡ Kind.Text }
         ensures { result
@@ -188,8 +187,7 @@ impl Catalogue {
         self.tables.texts(column).entries()
     }
 
-    /// The least and the greatest number of a column of numbers, 0 and 0 where its table has no
-    /// rows.
+    /// Returns the least and the greatest number of a numeric column, 0 and 0 without rows.
     pub fn bounds(&self, column: ColumnId) -> Interval
         requires { kind_of column ≡ Kind.Number }
         ensures low { result.low ≡ least (column_numbers self.now column) }
@@ -199,9 +197,8 @@ impl Catalogue {
         self.tables.numbers(column).bounds()
     }
 
-    /// How many bits the word of a value has in a column: of a number, or of a text's code. It is
-    /// the least of 8, 16, 32 and 64 in which the difference of the bounds of the column's numbers,
-    /// or codes, fits, and 8 where its table has no rows.
+    /// Returns the width of a column's words in bits, for numbers or for codes: the least of 8, 16,
+    /// 32 and 64 in which the difference of the bounds fits, 8 without rows.
     pub fn bits(&self, column: ColumnId) -> u32
         ensures numbers { kind_of column ≡ Kind.Number
             → result ≡ bits_of (column_numbers self.now column) }
@@ -214,7 +211,7 @@ impl Catalogue {
         }
     }
 
-    /// A column, to read many rows of: its numbers, or the codes of its texts, row by row.
+    /// Borrows a column from which many rows are read: its numbers, or the codes of its texts.
     pub fn column(&self, column: ColumnId) -> ColumnView<'_>
         ensures numbers { kind_of column ≡ Kind.Number
             → result ≡ column_numbers self.now column }
@@ -227,9 +224,9 @@ impl Catalogue {
         }
     }
 
-    /// Tells which of 64 rows of a column have a value, its number or the code of its text, that
-    /// lies from `low` to `high`: bit i is set exactly where the column has a row that is i after
-    /// `first`, and its value lies there.
+    /// Returns which of 64 rows of a column have a number, or a code, between `low` and `high`,
+    /// both included: bit i is set exactly if the column has the row `first + i` and its value lies
+    /// there.
     pub fn mask(&self, column: ColumnId, first: u32, low: i64, high: i64) -> u64
         requires { first ≤ length (rows_in self.now (table_of column)) }
         ensures numbers { kind_of column ≡ Kind.Number
@@ -244,8 +241,8 @@ impl Catalogue {
         self.column(column).mask(first, low, high)
     }
 
-    /// The row of a table, from 0, whose key is this number, if there is one. The keys of lineorder
-    /// are pairs, so there is none in it.
+    /// Returns the row of a table, from 0, with this key, if there is one. The keys of lineorder
+    /// are pairs; it has no such row.
     pub fn find(&self, table: TableId, key: i64) -> Option<u32>
         ensures { (row : ℕ) → (result ≡ Some row)
             ↔ (slice_get (keys_of table (rows_in self.now table)) row ≡ Some (key ∷ [])) }
@@ -253,8 +250,8 @@ impl Catalogue {
         self.tables.table(table).find(key)
     }
 
-    /// The row, from 0, of the table that a column refers to whose key is the number of a row, from
-    /// 0, of the column. It was found at the load.
+    /// Returns the row, from 0, that a foreign key refers to in a row, from 0, of its column. It
+    /// was found at the load.
     pub fn referred(&self, column: ColumnId, row: u32) -> u32
         requires refers { IsSome (references column) }
         requires row { row < length (rows_in self.now (table_of column)) }
@@ -265,8 +262,8 @@ impl Catalogue {
         self.referred_rows(column).row(row)
     }
 
-    /// Lends the join index of a column that refers to a table, which was made at the load: for
-    /// each row of the column the row of that table, from 0, whose key is the column's number.
+    /// Borrows the join index of a foreign key, made at the load: for each row of the column the
+    /// row, from 0, of the table that it refers to.
     pub fn referred_rows(&self, column: ColumnId) -> &JoinIndex
         requires { IsSome (references column) }
         ensures { AreReferredRows self.now column result.now }

@@ -16,8 +16,8 @@ pub enum Column {
 }
 
 impl Column {
-    /// Packs the values that were read, at most 4,294,967,295, into a column, and lets their
-    /// buffers go.
+    /// Packs the values that were read, at most 4,294,967,295, into a column, and frees their
+    /// buffers.
     pub(crate) fn build(alloc: Global, raw: RawColumn) -> Result<Column, AllocError>
         requires { length (values raw) < 2 ^ 32 }
         ensures { IfOk result (λ column. as_read column ≡ raw) }
@@ -31,8 +31,8 @@ impl Column {
     }
 }
 
-/// The columns of the values that were read. The buffers of each are let go before the next is
-/// built.
+/// Makes the columns of the values that were read. The buffers of each are freed before the next is
+/// made.
 pub(crate) fn build_columns(alloc: Global, raw: Vec<RawColumn>) -> Result<Vec<Column>, AllocError>
     requires { All (λ raw. length (values raw) < 2 ^ 32) raw.items }
     ensures { IfOk result (λ columns. map as_read columns.items ≡ raw.items) }

@@ -15,11 +15,11 @@ use crate::fault::LoadFault;
 use star_schema::TableId;
 use std::alloc::Global;
 
-/// What stands where no row has the key: one more than any row's place.
+/// The entry of a number that is not a key: one more than any row number.
 const NO_ROW: u32 = u32::MAX;
 
-/// The numbers for each key, and those besides, that may lie between the least key and the greatest
-/// for a row to be kept for each number.
+/// An array of rows may have this many entries for each key, and as many more, between the least
+/// and the greatest key.
 const NUMBERS_FOR_EACH: u64 = 4;
 
 const NUMBERS_FREE: u64 = 131_072;
@@ -36,8 +36,8 @@ fn greatest_of(keys: &[i64]) -> Option<i64>
     keys.iter().copied().max()
 }
 
-/// Gives the least key, and how many numbers there are from it to the greatest, where these are few
-/// beside the count of `keys`.
+/// Returns the least key, and the number of entries from it to the greatest, if these are few
+/// compared with the number of `keys`.
 fn dense_range(keys: &[i64]) -> Option<(i64, usize)>
     requires { length keys.now < 2 ^ 32 }
     ensures least { IfSome result (λ range. All (λ key. range.0 ≤ℤ key) keys.now) }
@@ -55,8 +55,8 @@ fn dense_range(keys: &[i64]) -> Option<(i64, usize)>
     }
 }
 
-/// Makes, for each of the `span` numbers from the least key on, its place among the keys, or answers
-/// the first record whose key an earlier one has.
+/// Returns, for each of the `span` numbers from the least key on, its index among the keys, or the
+/// first record whose key an earlier one has.
 fn rows_from(
     alloc: Global,
     table: TableId,
@@ -87,7 +87,7 @@ fn rows_from(
     Ok(rows)
 }
 
-/// Finds the row with a key, if there is one, in the rows from the least key on.
+/// Finds the row with a key, if there is one, in the array that begins with the least key.
 fn find_from(least: i64, rows: &[u32], key: i64) -> Option<u32>
     ensures { result ≡ dense_at least rows.now key }
 {
@@ -106,18 +106,18 @@ fn row_in_slot(row: u32) -> Option<u32>
     if row == NO_ROW { None } else { Some(row) }
 }
 
-// A load looks up five foreign keys a line by it. A hash for each would cost more than the rest of
-// the look-up.
-/// A short way to the rows of keys that lie close together: for each number from the least key on
-/// the row with that key, or `NO_ROW`.
+// A load looks up five foreign keys for each line in it. A hash for each would cost more than the
+// rest of the look-up.
+/// An array of rows for dense keys: for each number from the least key on the row with that key, or
+/// `NO_ROW`.
 #[derive(Drop)]
 pub struct NearKeys {
     least: i64,
     rows: Vec<u32>,
 }
 
-/// The rows of a dimension by their keys, which all differ. Keys that lie close together need no
-/// hash, which would take more memory than the rest of a table of short texts.
+/// The rows of a dimension by key. Dense keys need no hash, which would take more memory than the
+/// rest of a table of short texts.
 #[derive(Drop)]
 pub enum DimensionKeys {
     Near(NearKeys),
@@ -125,8 +125,8 @@ pub enum DimensionKeys {
 }
 
 impl DimensionKeys {
-    /// Builds the index of the keys of a dimension, or answers the first record whose key an
-    /// earlier one has.
+    /// Builds the index of a dimension's keys, or returns the first record whose key an earlier one
+    /// has.
     pub(crate) fn build(
         alloc: Global,
         table: TableId,
@@ -151,7 +151,7 @@ impl DimensionKeys {
         }
     }
 
-    /// The rows by their keys, lent.
+    /// Borrows the rows by key.
     pub(crate) fn lend(&self) -> LentKeys<'_>
         ensures { (key : ℤ) → lent_row result key ≡ row_of_key self.now key }
     {
@@ -162,8 +162,8 @@ impl DimensionKeys {
     }
 }
 
-/// The rows of a table by their keys, lent. A loop over foreign keys has them by value, so that it
-/// looks once at what they are.
+/// The rows of a table by key, borrowed. A loop over foreign keys takes them by value; it then
+/// tests only once which kind of index this is.
 #[derive(Clone, Copy)]
 pub(crate) enum LentKeys<'a> {
     Dense(i64, &'a [u32]),
@@ -172,8 +172,8 @@ pub(crate) enum LentKeys<'a> {
 }
 
 impl<'a> LentKeys<'a> {
-    /// Finds the row with a key, if there is one. The short way is inlined into the loops over
-    /// foreign keys, and the index's is not.
+    /// Finds the row with a key, if there is one. The array's look-up is inlined into the loops
+    /// over foreign keys, the hash's is not.
     #[inline(always)]
     pub(crate) fn find(self, key: i64) -> Option<u32>
         ensures { result ≡ lent_row self.entry key }

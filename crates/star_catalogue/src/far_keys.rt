@@ -1,4 +1,4 @@
-// The rows of keys that lie far apart.
+// The rows of sparse keys.
 
 ghost use Rattle.std.specs.Prelude.{◌≡◌, ◌<◌, ◌^◌, MatchResult, Some, length, position};
 ghost use Rattle.std.specs.List.{IsDistinct};
@@ -13,8 +13,8 @@ use indexmap::IndexSet;
 use star_schema::TableId;
 use std::alloc::Global;
 
-/// Indexes the keys of a dimension, each in the place of its row, or answers the first record whose
-/// key an earlier one has.
+/// Indexes the keys of a dimension, each at the position of its row, or returns the first record
+/// whose key an earlier one has.
 fn indexed(alloc: Global, table: TableId, keys: &[i64]) -> Result<IndexSet<i64, Seeded>, LoadFault>
     requires { length keys.now < 2 ^ 32 }
     ensures { MatchResult result
@@ -35,8 +35,7 @@ fn indexed(alloc: Global, table: TableId, keys: &[i64]) -> Result<IndexSet<i64, 
     Ok(rows)
 }
 
-/// The rows of keys, which lie anywhere and all differ, by a hash. A contract sees the keys in the
-/// order of their rows.
+/// The rows of distinct keys, found by a hash. A contract sees the keys in the order of their rows.
 #[derive(Drop)]
 pub struct FarKeys {
     pub(crate) rows: IndexSet<i64, Seeded>,
@@ -44,7 +43,7 @@ pub struct FarKeys {
 }
 
 impl FarKeys {
-    /// Indexes the keys of a dimension, or answers the first record whose key an earlier one has.
+    /// Indexes the keys of a dimension, or returns the first record whose key an earlier one has.
     pub(crate) fn build(alloc: Global, table: TableId, keys: &[i64]) -> Result<FarKeys, LoadFault>
         requires { length keys.now < 2 ^ 32 }
         ensures { MatchResult result

@@ -1,4 +1,4 @@
-// Why five texts were not loaded.
+// The errors of a load.
 
 ghost use Rattle.std.specs.Prelude.{◌≡◌};
 ghost use Rattle.star_common.specs.Memory.{TellsMemory};
@@ -10,10 +10,10 @@ use star_schema::{ColumnId, TableId};
 use std::alloc::{AllocError, AllocFailed};
 use std::fmt;
 
-/// Why five texts were not loaded. Records and fields count from 1.
+/// Why five texts could not be loaded. Records and fields count from 1.
 #[derive(Clone, Copy, Debug, PartialEq, Eq)]
 pub enum LoadFault {
-    /// Memory was refused.
+    /// Out of memory.
     OutOfMemory,
     /// A text begins with a byte order mark.
     ByteOrderMark {
@@ -28,7 +28,7 @@ pub enum LoadFault {
         table: TableId,
         at_row: u32,
     },
-    /// A cell has more than 255 bytes.
+    /// A cell is longer than 255 bytes.
     CellTooLong {
         table: TableId,
         at_row: u32,
@@ -40,18 +40,18 @@ pub enum LoadFault {
         at_row: u32,
         field: usize,
     },
-    /// A cell of a column of numbers is not an optional minus and 1 to 18 digits.
+    /// A cell of a numeric column is not an optional minus and 1 to 18 digits.
     BadNumber {
         table: TableId,
         at_row: u32,
         field: usize,
     },
-    /// A record has a key that an earlier one of its table has.
+    /// A record's key occurs in an earlier record of its table.
     DuplicateKey {
         table: TableId,
         at_row: u32,
     },
-    /// A record of lineorder has a foreign key that no row of the other table has.
+    /// A record of lineorder has a foreign key that refers to no row.
     AbsentKey {
         at_row: u32,
         column: ColumnId,
@@ -59,7 +59,7 @@ pub enum LoadFault {
 }
 
 impl LoadFault {
-    /// What a load answers where a text is no table within the limit.
+    /// Returns the load error of a text that is not a table within the limit.
     pub(crate) fn of_read(table: TableId, fault: ReadFault) -> LoadFault
         ensures { result ≡ fault_of_read table fault }
     {

@@ -1,4 +1,4 @@
-// The keys of tables, which no two rows share.
+// The keys of tables, which are distinct.
 
 ghost use Rattle.std.specs.Prelude.{◌≡◌, ◌≢◌, ◌↔◌, ◌<◌, ◌^◌, ℤ, AllPairs, IfOk, IsTrue, MatchResult, Some, length, slice_get};
 ghost use Rattle.std.specs.List.{IsDistinct, zip};
@@ -20,8 +20,8 @@ use star_schema::{Key, TableId, key_of, place_of};
 use std::alloc::{AllocError, Global};
 use std::collections::BTreeMap;
 
-/// The place of each key of a table, from 0, or the first record whose key an earlier one has. A
-/// tree, so that no keys are slow to find.
+/// Returns the index of each key of a table, from 0, or the first record whose key an earlier one
+/// has. It is a tree; no keys are slow to find.
 fn places_of<K: Copy + Ord + Drop>(
     alloc: Global,
     table: TableId,
@@ -46,17 +46,18 @@ fn places_of<K: Copy + Ord + Drop>(
     Ok(places)
 }
 
-/// The rows of a table by their keys.
+/// The rows of a table by key.
 #[derive(Drop)]
 pub enum KeyIndex {
     /// Keys of one number.
     Dimension(DimensionKeys),
-    /// Keys of two numbers, by which no row is looked for.
+    /// Keys of two numbers, which are never looked up.
     Pairs,
 }
 
 impl KeyIndex {
-    /// The index of the keys of a table, or the first record whose key an earlier one has.
+    /// Builds the index of a table's keys, or returns the first record whose key an earlier one
+    /// has.
     pub(crate) fn build(alloc: Global, raw: &RawTable) -> Result<KeyIndex, LoadFault>
         requires { length raw.now.rows < 2 ^ 32 }
         ensures { MatchResult result
@@ -82,7 +83,7 @@ impl KeyIndex {
         }
     }
 
-    /// The rows by their keys, lent.
+    /// Borrows the rows by key.
     pub(crate) fn lend(&self) -> LentKeys<'_>
         ensures { (key : ℤ) → lent_row result key ≡ row_in self.now key }
     {
@@ -93,7 +94,7 @@ impl KeyIndex {
     }
 }
 
-/// The pair of numbers at a place.
+/// Returns the pair of numbers at an index.
 fn pair_at(firsts: &FlatNumbers, seconds: &FlatNumbers, place: usize) -> (i64, i64)
     requires first { place < length firsts.now }
     requires second { place < length seconds.now }
@@ -102,14 +103,14 @@ fn pair_at(firsts: &FlatNumbers, seconds: &FlatNumbers, place: usize) -> (i64, i
     (firsts.get(place), seconds.get(place))
 }
 
-/// Whether a pair is less than another.
+/// Tests whether a pair is less than another.
 fn rises(before: (i64, i64), after: (i64, i64)) -> bool
     ensures { IsTrue result ↔ (pair_cmp before after ≡ Less) }
 {
     before.cmp(&after).is_lt()
 }
 
-/// Whether each pair of numbers at one place is greater than the pair before.
+/// Tests whether each pair of numbers is greater than the pair before.
 fn is_rising(firsts: &FlatNumbers, seconds: &FlatNumbers) -> bool
     requires { length firsts.now ≡ length seconds.now }
     ensures { IsTrue result → AllPairs (λ a b. a ≢ b) (zip firsts.now seconds.now) }
@@ -125,7 +126,7 @@ fn is_rising(firsts: &FlatNumbers, seconds: &FlatNumbers) -> bool
     true
 }
 
-/// These numbers in pairs.
+/// Returns these numbers in pairs.
 fn pairs_of(
     alloc: Global,
     firsts: &FlatNumbers,
@@ -141,7 +142,7 @@ fn pairs_of(
     Ok(pairs)
 }
 
-/// These numbers, each in 64 bits.
+/// Returns these numbers in 64 bits each.
 fn wide(alloc: Global, numbers: &FlatNumbers) -> Result<Vec<i64>, AllocError>
     ensures { IfOk result (λ wide. wide.items ≡ numbers.now) }
 {
@@ -152,8 +153,7 @@ fn wide(alloc: Global, numbers: &FlatNumbers) -> Result<Vec<i64>, AllocError>
     Ok(wide)
 }
 
-/// Checks that no two of the pairs of numbers at one place are equal. Pairs that rise take no
-/// memory.
+/// Checks that the pairs of numbers are distinct. Sorted pairs need no memory.
 fn check_pairs(
     alloc: Global,
     table: TableId,

@@ -1,5 +1,5 @@
-//! The five tables in memory: sound ones, whose keys tell their rows apart and whose foreign keys
-//! are all found.
+//! The five tables in memory, sound: the keys of each table are distinct, and each foreign key
+//! refers to a row.
 #![tactic(auto)]
 
 mod catalogue;

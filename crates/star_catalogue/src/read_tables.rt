@@ -1,4 +1,4 @@
-// The five tables, whose texts came in pieces.
+// Five tables that are read in pieces.
 
 ghost use Rattle.std.specs.Prelude.{IfOk, map};
 ghost use Rattle.star_reader.specs.Partway.{HasReadText};
@@ -10,7 +10,7 @@ use star_reader::TableReader;
 use star_schema::{Limits, TableId};
 use std::alloc::{AllocError, Global};
 
-/// The readers of the five tables, in their order, once each has been given its text.
+/// The readers of the five tables in order, each of which has been given its text.
 #[derive(Drop)]
 pub struct ReadTables {
     pub date: Box<TableReader>,
@@ -20,7 +20,7 @@ pub struct ReadTables {
     pub lineorder: Box<TableReader>,
 }
 
-/// A reader that has been given some parts.
+/// Returns a reader that has been given some parts.
 fn given(
     alloc: Global,
     parts: &[&[u8]],
@@ -35,7 +35,7 @@ fn given(
 }
 
 impl ReadTables {
-    /// The readers that have been given five texts.
+    /// Returns the readers that have been given five texts.
     pub fn of_texts(
         alloc: Global,
         texts: &Texts<'_>,

@@ -13,7 +13,7 @@ use crate::tables::Tables;
 use star_column::ColumnData;
 use star_schema::{ColumnId, TableId, references};
 
-/// The columns that refer to a table, in the order of columns.
+/// The foreign keys, in the order of columns.
 static FOREIGN_KEYS: [ColumnId; 5] = [
     ColumnId::LoCustkey,
     ColumnId::LoPartkey,
@@ -29,7 +29,7 @@ fn foreign_key_columns() -> &'static [ColumnId]
     &FOREIGN_KEYS
 }
 
-/// Checks that a row of lineorder has in a column a key of the table that the column refers to.
+/// Checks that the foreign key of a row of lineorder, in a column, refers to a row.
 fn check_cell(tables: &Tables, row: u32, column: ColumnId) -> Result<(), LoadFault>
     requires row { row < length (rows_in tables.now TableId.Lineorder) }
     requires few { row + 1 < 2 ^ 32 }
@@ -78,10 +78,9 @@ fn check_references(tables: &Tables) -> Result<(), LoadFault>
     Ok(())
 }
 
-// A load finds the rows of foreign keys column by column. Only where a key is absent are the
-// records gone through again.
-/// The first foreign key that is no key of its table, by record and then by column, where one is
-/// none.
+// A load finds the rows of foreign keys column by column. The records are only checked again if a
+// key is absent.
+/// Returns the first foreign key that refers to no row, by record and column, if there is one.
 pub(crate) fn absent_key(tables: &Tables) -> LoadFault
     requires { ¬ ((column : ColumnId) (table : TableId) → references column ≡ Some table
         → RefersTo tables.now column table) }

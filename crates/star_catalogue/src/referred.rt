@@ -13,26 +13,25 @@ use star_column::{ColumnData, JoinIndex, PackedColumn};
 use star_schema::{COLUMNS, ColumnId, references};
 use std::alloc::{AllocError, Global};
 
-/// For each column, in their order, its join index, which has no rows where the column refers to
-/// no table.
+/// The join index of each column, in order. A column that is not a foreign key has an empty one.
 #[derive(Drop)]
 pub struct Referred {
     rows: Vec<JoinIndex>,
 }
 
-/// Keeps the number of a row in a word of some width.
+/// A word of some width that holds a row number.
 trait RowWord: Copy + Drop {
     // Every row below it fits.
     ghost limit: { ℕ };
 
     ghost number: { Self → ℕ };
 
-    /// The word of the number of a row that fits.
+    /// Returns the word of a row number that fits.
     fn of(row: u32) -> Self
         requires { row < limit }
         ensures { number result ≡ row };
 
-    /// The join index that these rows are.
+    /// Makes a join index of these rows.
     fn index(rows: Vec<Self>) -> JoinIndex
         ensures { result ≡ map number rows.items };
 }
@@ -85,8 +84,8 @@ impl RowWord for u32 {
     }
 }
 
-/// The rows of a table that have these numbers as their keys, in words in which each row of the
-/// table fits, if each number is the key of one.
+/// Returns the rows of a table that have these numbers as their keys, in words that fit each row of
+/// the table, if each number is a key.
 fn find_all<W: RowWord>(
     alloc: Global,
     table: &LoadedTable,
@@ -110,8 +109,8 @@ fn find_all<W: RowWord>(
     Ok(Some(rows))
 }
 
-/// The join index of numbers, in words in which each row of a table fits, if each number is the key
-/// of a row of it.
+/// Returns the join index of numbers, in words that fit each row of a table, if each number is a
+/// key of the table.
 fn index_in<W: RowWord>(
     alloc: Global,
     table: &LoadedTable,
@@ -129,8 +128,8 @@ fn index_in<W: RowWord>(
     }
 }
 
-/// The join index of numbers, if each is the key of a row of a table. Its words are of the least
-/// width in which each row of the table fits.
+/// Returns the join index of numbers, if each is a key of a table, in words of the least width that
+/// fits each row of the table.
 fn join_index(
     alloc: Global,
     table: &LoadedTable,
@@ -151,8 +150,8 @@ fn join_index(
     }
 }
 
-/// The join index of a column, if it refers to no table or each of its numbers is a key of the table
-/// that it refers to.
+/// Returns the join index of a column, if it is not a foreign key or each of its numbers is a key
+/// of the table that it refers to.
 fn rows_of(
     alloc: Global,
     tables: &Tables,
@@ -171,9 +170,8 @@ fn rows_of(
 }
 
 impl Referred {
-    /// The rows that the foreign keys of lineorder refer to, if each of their numbers is a key of
-    /// its table. Column by column, so that which column and which table is settled once for all
-    /// rows.
+    /// Finds the rows that the foreign keys of lineorder refer to, if all of them are keys. It goes
+    /// column by column, so that column and table are determined once for all rows.
     pub(crate) fn build(alloc: Global, tables: &Tables) -> Result<Option<Referred>, AllocError>
         ensures { IfOk result
             (λ found. MatchOption found
@@ -191,7 +189,7 @@ impl Referred {
         Ok(Some(Referred { rows }))
     }
 
-    /// The join index of a column.
+    /// Returns the join index of a column.
     pub(crate) fn rows(&self, column: ColumnId) -> &JoinIndex
         requires { index_of column < length self.now.rows.items }
         ensures { result.now ≡ rows_view self.now column }

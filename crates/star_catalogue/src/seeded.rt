@@ -1,18 +1,18 @@
-// A hash that begins with a seed.
+// A hash with a seed.
 
 use sha2::{Digest, Sha256};
 use std::hash::{BuildHasher, DefaultHasher, Hasher};
 
-/// Begins each hash with a seed that is made of the very keys that are hashed: keys that collide
-/// under a seed can't be picked, since other keys make another seed. No contract speaks of the
-/// seed.
+/// Begins each hash with a seed that is a digest of the very keys that are hashed. Keys that
+/// collide under a seed cannot be chosen, since other keys have another seed. No contract mentions
+/// the seed.
 #[derive(Clone, Copy)]
 pub struct Seeded {
     begun: DefaultHasher,
 }
 
-/// Takes keys into a digest, 4 bytes each, up to the first that wants more, and tells whether there
-/// is none.
+/// Adds keys to a digest, 4 bytes each, up to the first that needs more. Returns whether there is
+/// none.
 fn take_narrow(digest: &mut Sha256, keys: &[i64]) -> bool {
     for key in keys {
         match i32::try_from(*key) {
@@ -23,7 +23,7 @@ fn take_narrow(digest: &mut Sha256, keys: &[i64]) -> bool {
     true
 }
 
-/// Takes keys into a digest, 8 bytes each.
+/// Adds keys to a digest, 8 bytes each.
 fn take_wide(digest: &mut Sha256, keys: &[i64]) {
     for key in keys {
         digest.update(&key.to_le_bytes()[..]);
@@ -31,8 +31,8 @@ fn take_wide(digest: &mut Sha256, keys: &[i64]) {
 }
 
 impl Seeded {
-    /// One whose seed is the digest of these keys. Its time is that of the bytes which are taken in,
-    /// so keys of few digits are taken in by half as many.
+    /// Makes a hash whose seed is the digest of these keys. Its time is that of the digested bytes,
+    /// and keys of few digits are digested in half as many.
     pub(crate) fn of_keys(keys: &[i64]) -> Seeded {
         let mut digest = Sha256::new();
         if !take_narrow(&mut digest, keys) {

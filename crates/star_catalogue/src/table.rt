@@ -45,7 +45,7 @@ impl Model for LoadedTable {
     ghost invariant = { IsKept };
 }
 
-/// The table that a reader was given, or its first fault.
+/// Returns the table that a reader was given, or its first error.
 fn answer_of(alloc: Global, reader: Box<TableReader>, table: TableId) -> Result<RawTable, LoadFault>
     ensures { (most : ℕ) (text : List (List ℕ)) → HasReadText reader.value table most text
         → MatchResult result
@@ -59,8 +59,8 @@ fn answer_of(alloc: Global, reader: Box<TableReader>, table: TableId) -> Result<
     }
 }
 
-/// The table that was read, whose keys all differ, or the first record whose key an earlier one
-/// has.
+/// Makes a table of the values that were read, if its keys are distinct, otherwise returns the
+/// first record whose key an earlier one has.
 fn keep(alloc: Global, raw: RawTable) -> Result<LoadedTable, LoadFault>
     ensures { MatchResult result
         (λ loaded. (loaded ≡ raw) × HasDistinctKeys raw.table raw.rows)
@@ -80,8 +80,8 @@ fn keep(alloc: Global, raw: RawTable) -> Result<LoadedTable, LoadFault>
 }
 
 impl LoadedTable {
-    /// The table that a reader was given, or its first fault: as a table, and then in its keys. It
-    /// is boxed, so that letting go of it is one call.
+    /// Returns the table that a reader was given, or its first error: of its text, then of its
+    /// keys. The reader is boxed, which makes dropping it one call.
     pub(crate) fn finish(
         alloc: Global,
         reader: Box<TableReader>,
@@ -100,14 +100,14 @@ impl LoadedTable {
         Ok(Box::new(alloc, loaded)?)
     }
 
-    /// How many rows there are.
+    /// Returns the number of rows.
     pub(crate) fn rows(&self) -> u32
         ensures { result ≡ length self.now.rows }
     {
         self.rows
     }
 
-    /// A column of numbers.
+    /// Returns a numeric column.
     pub(crate) fn numbers(&self, column: ColumnId) -> &PackedColumn
         requires table { table_of column ≡ self.now.table }
         requires kind { kind_of column ≡ Kind.Number }
@@ -119,7 +119,7 @@ impl LoadedTable {
         }
     }
 
-    /// A column of texts.
+    /// Returns a text column.
     pub(crate) fn texts(&self, column: ColumnId) -> &TextColumn
         requires table { table_of column ≡ self.now.table }
         requires kind { kind_of column ≡ Kind.Text }
@@ -131,7 +131,7 @@ impl LoadedTable {
         }
     }
 
-    /// The rows by their keys of one number, lent.
+    /// Borrows the rows by their keys of one number.
     pub(crate) fn lend_keys(&self) -> LentKeys<'_>
         ensures { (key : ℤ) (row : ℕ) → (lent_row result key ≡ Some row)
             ↔ (slice_get (keys_of self.now.table self.now.rows) row ≡ Some (key ∷ [])) }
@@ -139,7 +139,7 @@ impl LoadedTable {
         self.keys.lend()
     }
 
-    /// The row with a key of one number, if there is one.
+    /// Returns the row with a key of one number, if there is one.
     pub(crate) fn find(&self, key: i64) -> Option<u32>
         ensures { (row : ℕ) → (result ≡ Some row)
             ↔ (slice_get (keys_of self.now.table self.now.rows) row ≡ Some (key ∷ [])) }

@@ -1,6 +1,6 @@
 // The texts of five table files.
 
-/// The texts of the five tables, in their order. That of lineorder is in parts.
+/// The texts of the five tables in order; that of lineorder is in parts.
 #[derive(Clone, Copy)]
 pub struct Texts<'a> {
     pub date: &'a [u8],

@@ -1,4 +1,4 @@
--- The width of the words that a column is packed in.
+-- The width of a packed column's words.
 use Rattle.std.specs.Prelude.{◌^◌, if◌then◌else◌, ℕ, ℤ, ◌-ℤ◌, List, nat_lt}
 use Rattle.std.specs.Int.RustNames.{unsigned_abs}
 use Rattle.star_schema.specs.Bounds.{least, greatest}
@@ -9,7 +9,7 @@ least_width n =
     if nat_lt n (2 ^ 8) then 8
     else if nat_lt n (2 ^ 16) then 16 else if nat_lt n (2 ^ 32) then 32 else 64
 
--- numbers of 64 bits are kept as how far they lie above the least: in the least width in which the
--- difference of the bounds fits, which is 0 where there is no number
+-- numbers of 64 bits are kept as differences from the least, in the least width in which the
+-- difference of the bounds fits; that difference is 0 without numbers
 unfoldable pub bits_of : List ℤ → ℕ
 bits_of numbers = least_width (unsigned_abs (greatest numbers -ℤ least numbers))

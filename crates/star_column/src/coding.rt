@@ -1,5 +1,5 @@
-// From the texts of rows to their codes: each different text of those that are kept becomes the next
-// text of the dictionary, and its place there is the code of all that equal it.
+// From the texts of rows to their codes. The distinct retained texts become the dictionary in
+// order; the index of a text there is its code.
 
 ghost use Rattle.std.specs.Prelude.{◌≡◌, ◌-◌, ◌<◌, ◌^◌, All, IfOk, length, map, slice_index};
 ghost use Rattle.std.specs.Int.RustNames.{unsigned_abs};
@@ -14,7 +14,7 @@ use crate::words::{Word, Words};
 use star_flat::{FlatNumbers, RepeatedTexts, SignedWord, SignedWords, release};
 use std::alloc::{AllocError, Global};
 
-/// The dictionary of these texts, and the code of each. Only texts that are kept are put in order.
+/// Returns the dictionary of these texts, and the code of each. Only retained texts are sorted.
 pub(crate) fn code_each(
     alloc: Global,
     texts: &RepeatedTexts,
@@ -35,7 +35,7 @@ pub(crate) fn code_each(
     Ok((dictionary, each))
 }
 
-/// What stands at each of these places, in the least width that holds each code of a dictionary with
+/// Returns the codes of the rows, in the least width that fits each code of a dictionary with
 /// `entries` entries.
 fn words_at(
     alloc: Global,
@@ -59,7 +59,7 @@ fn words_at(
     }
 }
 
-/// What stands at each of these places, in words in which it fits.
+/// Returns the codes of the rows, in words of a width in which they fit.
 fn codes_at<W: Word>(alloc: Global, rows: &FlatNumbers, codes: &[u32]) -> Result<Vec<W>, AllocError>
     requires places { All (λ place. place < length codes.now) (places_in rows.now) }
     requires fit { All (λ code. code < W.limit) codes.now }
@@ -74,7 +74,7 @@ fn codes_at<W: Word>(alloc: Global, rows: &FlatNumbers, codes: &[u32]) -> Result
     }
 }
 
-/// What stands at each of these places, which are kept as signed words.
+/// Returns the codes of the rows, whose texts are given by signed words.
 fn read_at<S: SignedWord, W: Word>(
     alloc: Global,
     words: &[S],

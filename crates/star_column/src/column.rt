@@ -1,4 +1,4 @@
-// What every column gives of its values, whatever form they are kept in.
+// What every column offers, whatever its encoding.
 
 ghost use Rattle.std.specs.Prelude.{◌≡◌, ◌<◌, ℤ, List, All, Some, length, slice_get};
 ghost use Rattle.star_schema.specs.Bounds.{least, greatest};
@@ -7,22 +7,21 @@ ghost use Rattle.star_interval.specs.Interval.{range_of};
 
 use star_interval::Interval;
 
-/// A column of 64-bit values, one for each row of its table. Rows count from 0. No call takes
-/// memory.
+/// A column of 64-bit values, one for each row of its table. Rows count from 0. No call allocates.
 pub trait ColumnData {
     // The values, in the order of the rows.
     ghost values: { Self → List ℤ };
 
-    /// How many rows there are.
+    /// Returns the number of rows.
     fn len(&self) -> u32
         ensures { result ≡ length (values self.now) };
 
-    /// The value of a row.
+    /// Returns the value of a row.
     fn at(&self, row: u32) -> i64
         requires { row < length (values self.now) }
         ensures { slice_get (values self.now) row ≡ Some result };
 
-    /// The least and the greatest value, 0 and 0 where there is no row. Each value lies between
+    /// Returns the least and the greatest value, 0 and 0 without rows. Each value lies between
     /// them.
     fn bounds(&self) -> Interval
         ensures low { result.low ≡ least (values self.now) }

@@ -1,4 +1,4 @@
-// The dictionary of a column: its texts, each once, in the order of their bytes.
+// The dictionary of a column: its distinct texts in byte order.
 
 ghost use Rattle.std.specs.Prelude.{◌≡◌, ◌<◌, ◌^◌, Some, count_by, length, slice_get};
 ghost use Rattle.std.specs.List.Sorted.{IsStrictlySortedBy};
@@ -9,7 +9,7 @@ use star_flat::FlatTexts;
 use std::cmp::Ordering;
 use std::marker::Model;
 
-/// Texts in the order of their bytes, each once.
+/// Distinct texts in byte order.
 #[derive(Drop)]
 pub(crate) struct Dictionary {
     texts: FlatTexts,
@@ -28,17 +28,17 @@ impl Model for Dictionary {
         × IsStrictlySortedBy text_cmp dictionary.texts };
 }
 
-/// The two edges of the place of a text among texts in order.
+/// The two edges of a text's range among sorted texts.
 #[derive(Clone, Copy)]
 enum Edge {
-    /// After the texts that are less.
+    /// After the smaller texts.
     Low,
-    /// After the texts that are less or equal.
+    /// After the smaller and the equal texts.
     High,
 }
 
 impl Edge {
-    /// Whether this edge of a text lies after one that compares so with it.
+    /// Tests whether this edge of a text comes after another text that compares so with it.
     fn is_after(self, ordering: Ordering) -> bool
         ensures { result ≡ is_after self ordering }
     {
@@ -50,14 +50,14 @@ impl Edge {
 }
 
 impl Dictionary {
-    /// How many texts there are.
+    /// Returns the number of texts.
     pub(crate) fn entries(&self) -> u32
         ensures { result ≡ length self.now }
     {
         self.texts.len() as u32
     }
 
-    /// The text at a place, from 0.
+    /// Returns the text with a code, from 0.
     pub(crate) fn text_of(&self, code: u32) -> &[u8]
         requires { code < length self.now }
         ensures { slice_get self.now code ≡ Some result.now }
@@ -65,21 +65,21 @@ impl Dictionary {
         self.texts.get(code as usize)
     }
 
-    /// How many texts are less than this one.
+    /// Returns the number of smaller texts.
     pub(crate) fn low(&self, text: &[u8]) -> u32
         ensures { result ≡ low_in self.now text.now }
     {
         self.edge(Edge::Low, text)
     }
 
-    /// How many texts are less than this one or equal to it.
+    /// Returns the number of smaller and equal texts.
     pub(crate) fn high(&self, text: &[u8]) -> u32
         ensures { result ≡ high_in self.now text.now }
     {
         self.edge(Edge::High, text)
     }
 
-    /// How many texts stand before an edge of this one.
+    /// Returns the number of texts before an edge of this one.
     fn edge(&self, edge: Edge, text: &[u8]) -> u32
         ensures { result ≡ count_by (λ other. is_after edge (text_cmp other text.now)) self.now }
     {
@@ -96,7 +96,7 @@ impl Dictionary {
         low as u32
     }
 
-    /// The dictionary with these texts, which are in the order of their bytes, each once.
+    /// Makes a dictionary of distinct texts in byte order.
     pub(crate) fn of_ordered(texts: FlatTexts) -> Dictionary
         requires sorted { IsStrictlySortedBy text_cmp texts }
         requires few { length texts < 2 ^ 32 }

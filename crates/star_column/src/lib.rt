@@ -1,5 +1,5 @@
-//! Columns of a table in memory: the values of the rows, the bounds of numbers, and the dictionary
-//! of texts.
+//! Columns of a table in memory: packed values, bounds of numbers, dictionaries of texts, join
+//! indexes.
 #![tactic(auto)]
 
 mod coding;

@@ -1,4 +1,4 @@
-// Columns of numbers.
+// Columns of 64-bit numbers.
 
 ghost use Rattle.std.specs.Prelude.{◌≡◌, ◌<◌, ◌^◌, [], All, Contains, IfSome, IsOkAnd, MatchOption, false, length, map, vec_len};
 ghost use Rattle.std.specs.Ordering.{is_gt, is_lt};
@@ -10,7 +10,7 @@ use star_interval::Interval;
 use std::alloc::AllocError;
 use std::marker::Model;
 
-/// A column of numbers, which a contract sees as the list of them in the order of the rows.
+/// A column of numbers, seen in contracts as the list of them in the order of the rows.
 #[derive(Drop)]
 pub struct NumberColumn {
     numbers: Vec<i64>,
@@ -32,8 +32,8 @@ impl Model for NumberColumn {
 impl NumberColumn {
     /// Makes a column of these numbers, at most 4,294,967,295.
     ///
-    /// It keeps the vector, without the room that this has to spare, and takes no memory, so it is
-    /// always an `Ok`: a `Result` as for every other kind of column.
+    /// The column takes the vector, without its spare capacity, and allocates nothing. It always
+    /// returns `Ok`; the `Result` is that of every other kind of column.
     pub fn build(mut numbers: Vec<i64>) -> Result<NumberColumn, AllocError>
         requires { vec_len numbers < 2 ^ 32 }
         ensures { IsOkAnd result (λ column. column ≡ numbers.items) }
@@ -43,7 +43,7 @@ impl NumberColumn {
         Ok(NumberColumn { numbers, bounds })
     }
 
-    /// The numbers.
+    /// Returns the numbers.
     pub(crate) fn numbers(&self) -> &[i64]
         ensures numbers { result.now ≡ self.now }
         ensures few { length result.now < 2 ^ 32 }
@@ -68,7 +68,7 @@ impl ColumnData for NumberColumn {
     }
 }
 
-/// The least and the greatest of some numbers, 0 and 0 where there is none.
+/// Returns the least and the greatest of some numbers, 0 and 0 if there are none.
 pub(crate) fn bounds_of<S: SignedWord>(numbers: &[S]) -> Interval
     ensures { AreBounds result (map S.number numbers.now) }
 {

@@ -14,11 +14,11 @@ use star_interval::Interval;
 use std::alloc::{AllocError, Global};
 use std::marker::Model;
 
-/// A column of texts, which a contract sees as the list of them in the order of the rows.
+/// A column of texts, seen in contracts as the list of them in the order of the rows.
 ///
-/// It keeps each text once, in a dictionary in the order of bytes, and for each row a code, the
-/// place of its text there, in words of the least of 8, 16 and 32 bits in which every code fits.
-/// Rows, places and codes count from 0.
+/// Each distinct text is kept once, in a dictionary in byte order. Each row has a code, the index
+/// of its text there, in words of the least of 8, 16 and 32 bits in which every code fits. Rows,
+/// indexes and codes count from 0.
 #[derive(Drop)]
 pub struct TextColumn {
     codes: Words,
@@ -53,9 +53,9 @@ impl TextColumn {
         TextColumn::encode(alloc, &repeated)
     }
 
-    /// Encodes these texts, at most 4,294,967,295, as a column, and lets them go.
+    /// Encodes these texts, at most 4,294,967,295, as a column, and frees them.
     ///
-    /// Only texts that are kept are sorted, so that no texts are slow to find.
+    /// Only retained texts are sorted; no texts are slow to find.
     pub fn from_flat(alloc: Global, texts: RepeatedTexts) -> Result<TextColumn, AllocError>
         requires { length texts < 2 ^ 32 }
         ensures { IfOk result (λ column. column ≡ texts) }
@@ -65,7 +65,7 @@ impl TextColumn {
         Ok(column)
     }
 
-    // The column of these texts, which stay with the caller.
+    // Encodes these texts, which the caller keeps.
     fn encode(alloc: Global, texts: &RepeatedTexts) -> Result<TextColumn, AllocError>
         requires { length texts.now < 2 ^ 32 }
         ensures { IfOk result (λ column. column ≡ texts.now) }
@@ -74,8 +74,8 @@ impl TextColumn {
         Ok(TextColumn { codes, dictionary })
     }
 
-    /// The code of a row's text: its place in the dictionary, which is also the number of texts
-    /// there that are less.
+    /// Returns the code of a row's text: its index in the dictionary, which is the number of
+    /// smaller texts there.
     pub fn code_at(&self, row: u32) -> u32
         requires { row < length self.now }
         ensures stands { slice_get (dictionary_of self.now) result ≡ slice_get self.now row }
@@ -84,7 +84,7 @@ impl TextColumn {
         self.codes.at(row as usize) as u32
     }
 
-    /// The text that a code stands for.
+    /// Returns the text with a code.
     pub fn text_of(&self, code: u32) -> &[u8]
         requires { code < length (dictionary_of self.now) }
         ensures { HasCode self.now result.now code }
@@ -92,36 +92,36 @@ impl TextColumn {
         self.dictionary.text_of(code)
     }
 
-    /// How many texts the dictionary has: those of the column, each counted once.
+    /// Returns the number of texts in the dictionary, the distinct texts of the column.
     pub fn entries(&self) -> u32
         ensures { result ≡ length (dictionary_of self.now) }
     {
         self.dictionary.entries()
     }
 
-    /// How many bits the word of a row's code has: the least of 8, 16, 32 and 64 in which the
-    /// difference of the bounds of the codes fits, 8 where there is no row.
+    /// Returns the width of the codes' words in bits: the least of 8, 16, 32 and 64 in which the
+    /// difference of the bounds of the codes fits, 8 without rows.
     pub fn bits(&self) -> u32
         ensures { result ≡ bits_of (codes_of self.now) }
     {
         self.codes.bits()
     }
 
-    /// The codes of the rows, lent.
+    /// Borrows the codes of the rows.
     pub fn view(&self) -> ColumnView<'_>
         ensures { result ≡ codes_of self.now }
     {
         ColumnView::of(self.bounds(), &self.codes)
     }
 
-    /// How many texts of the dictionary are less than this one.
+    /// Returns the number of smaller texts in the dictionary.
     pub fn low(&self, text: &[u8]) -> u32
         ensures { result ≡ low_in (dictionary_of self.now) text.now }
     {
         self.dictionary.low(text)
     }
 
-    /// How many texts of the dictionary are less than this one or equal to it.
+    /// Returns the number of smaller and equal texts in the dictionary.
     pub fn high(&self, text: &[u8]) -> u32
         ensures { result ≡ high_in (dictionary_of self.now) text.now }
     {
@@ -129,7 +129,7 @@ impl TextColumn {
     }
 }
 
-/// These texts in flat storage.
+/// Copies these texts to flat storage.
 fn repeated(alloc: Global, texts: &[Vec<u8>]) -> Result<RepeatedTexts, AllocError>
     ensures { IfOk result (λ repeated. repeated ≡ map (λ text. text.items) texts.now) }
 {

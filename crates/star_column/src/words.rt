@@ -19,21 +19,21 @@ pub(crate) trait Word: Copy + Drop {
 
     ghost number: { Self → ℕ };
 
-    /// The word of a number that fits.
+    /// Returns the word of a number that fits.
     fn of(value: u64) -> Self
         requires { value < limit }
         ensures { number result ≡ value };
 
-    /// The number that it is.
+    /// Returns its number.
     fn value(self) -> u64
         ensures { result ≡ number self };
 
-    /// The greatest number that fits.
+    /// Returns the greatest number that fits.
     fn greatest() -> u64
         ensures limit { result + 1 ≡ limit }
         ensures above { 0 < result };
 
-    /// What holds of every word: its number fits.
+    /// States that the number of every word fits.
     fn law(words: &[Self])
         ensures { All (λ word. number word < limit) words.now };
 }
@@ -126,22 +126,22 @@ impl Word for u64 {
     }
 }
 
-/// A word that held a number, and can hold how far it lies above the least in its place.
+/// A word of a number that can hold, in place, the number's difference from the least.
 pub(crate) trait OffsetWord: SignedWord {
     ghost distance: { Self → ℕ };
 
     ghost width: { ℕ };
 
-    /// How far a number lies above another.
+    /// Returns the difference from another number.
     fn above(self, least: Self) -> Self
         requires { Self.number least ≤ℤ Self.number self }
         ensures { distance result ≡ unsigned_abs (Self.number self -ℤ Self.number least) };
 
-    /// Whether a difference needs words of this width.
+    /// Tests whether a difference needs words of this width.
     fn is_least_for(span: u64) -> bool
         ensures { result ≡ true → width ≡ least_width span };
 
-    /// The differences that these words are.
+    /// Makes words of these differences.
     fn into_words(words: Vec<Self>) -> Words
         ensures numbers { numbers_in result ≡ map distance words.items }
         ensures width { word_bits result ≡ width };
@@ -220,7 +220,7 @@ pub enum Words {
 }
 
 impl Words {
-    /// How many numbers there are.
+    /// Returns the number of numbers.
     pub(crate) fn len(&self) -> usize
         ensures { result ≡ length (numbers_in self.now) }
     {
@@ -232,7 +232,7 @@ impl Words {
         }
     }
 
-    /// How many bits each number takes.
+    /// Returns the width of each number in bits.
     pub(crate) fn bits(&self) -> u32
         ensures { result ≡ word_bits self.now }
     {
@@ -244,7 +244,7 @@ impl Words {
         }
     }
 
-    /// The number at a place, from 0.
+    /// Returns the number at an index, from 0.
     pub(crate) fn at(&self, place: usize) -> u64
         requires { place < length (numbers_in self.now) }
         ensures { slice_get (numbers_in self.now) place ≡ Some result }
@@ -252,8 +252,8 @@ impl Words {
         LentWords::of(self).at(place)
     }
 
-    /// How far each number lies above the lower bound, in the least width in which the difference
-    /// of the bounds fits.
+    /// Returns each number's difference from the lower bound, in the least width in which the
+    /// difference of the bounds fits.
     pub(crate) fn of_numbers<S: SignedWord>(
         alloc: Global,
         numbers: &[S],
@@ -278,7 +278,7 @@ impl Words {
         }
     }
 
-    /// The same of numbers that are taken: they stay where they are if their words are of the width
+    /// Does the same for numbers that it takes. They stay in place if their words have the width
     /// that the differences need.
     pub(crate) fn of_taken<S: OffsetWord>(
         alloc: Global,
@@ -305,7 +305,7 @@ impl Words {
     }
 }
 
-/// Puts how far each number lies above the least in its place.
+/// Replaces each number by its difference from the least.
 fn subtract<S: OffsetWord>(words: &mut [S], least: S)
     requires { All (λ word. S.number least ≤ℤ S.number word) words.old }
     ensures { numbers_above (S.number least) (map S.distance words.new) ≡ map S.number words.old }
@@ -315,7 +315,7 @@ fn subtract<S: OffsetWord>(words: &mut [S], least: S)
     }
 }
 
-/// How far each number lies above another.
+/// Returns the difference of each number from another.
 fn differences<S: SignedWord, W: Word>(
     alloc: Global,
     numbers: &[S],

@@ -1,4 +1,4 @@
--- What is kept of five tables.
+-- The five tables in memory.
 use Rattle.std.specs.Prelude.{◌≡◌}
 use Rattle.star_schema.specs.declared.table.TableId.TheVariants as id
 use Rattle.star_schema.specs.Database.{Database}
@@ -14,7 +14,7 @@ database_view kept =
       lineorder = kept.lineorder.rows;
     }
 
--- each is the table that it stands for
+-- each is its own table
 pub record AreInPlace (kept : Inside) : Type 0 where
   pub date : kept.date.table ≡ id.Date
   pub customer : kept.customer.table ≡ id.Customer

@@ -1,4 +1,4 @@
--- What is kept of the keys of a dimension.
+-- The index of a dimension's keys.
 use Rattle.std.specs.Prelude.{ℕ, ℤ, Option, None, position}
 use Rattle.std.specs.Ordering.{int_eq}
 use Rattle.star_catalogue.specs.declared.dimension.DimensionKeys.{DimensionKeys}
@@ -7,12 +7,12 @@ use Rattle.star_catalogue.specs.declared.dimension.LentKeys.{LentKeys}
 use Rattle.star_catalogue.specs.declared.dimension.LentKeys.TheVariants.{Dense, Hashed, Nowhere}
 use Rattle.star_catalogue.specs.Private.Places.{dense_at}
 
--- the row that a key leads to, if there is one
+-- the row of a key, if there is one
 abbrev pub row_of_key : DimensionKeys → ℤ → Option ℕ
 row_of_key (Near near) key = dense_at near.least near.rows.items key
 row_of_key (Far far) key = position (int_eq key) far.rows.keys
 
--- the same of lent keys
+-- the same for borrowed keys
 abbrev pub lent_row : LentKeys → ℤ → Option ℕ
 lent_row (Dense least rows) key = dense_at least rows.now key
 lent_row (Hashed far) key = position (int_eq key) far.now.rows.keys

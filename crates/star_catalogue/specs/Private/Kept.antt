@@ -1,4 +1,4 @@
--- What is kept of a table.
+-- A table in memory.
 use Rattle.std.specs.Prelude.{map}
 use Rattle.star_schema.specs.Loadable.{keys_of}
 use Rattle.star_reader.specs.Columns.{AreColumnsOf, Table, first_rows, values}
@@ -13,7 +13,7 @@ table_view kept =
       rows = first_rows kept.rows (map values (map as_read kept.columns.items));
     }
 
--- its columns, all of one length, and what is kept of its keys
+-- its columns, all of one length, and the index of its keys
 pub record IsKept (kept : Inside) : Type 0 where
   pub columns : AreColumnsOf kept.table kept.rows (map as_read kept.columns.items)
   pub keys : AreKept kept.keys

@@ -1,4 +1,4 @@
--- What is kept of the rows that foreign keys refer to.
+-- The rows that foreign keys refer to.
 use Rattle.std.specs.Prelude.{◌≡◌, ◌∷◌, [], ℕ, ℤ, List, Some, length, map, slice_get, slice_index_or}
 use Rattle.star_schema.specs.declared.column.ColumnId.{ColumnId}
 use Rattle.star_schema.specs.declared.column.TheConstants.{COLUMNS}
@@ -12,11 +12,11 @@ use Rattle.star_catalogue.specs.declared.referred.Referred.{Referred}
 abbrev pub rows_view : Referred → ColumnId → List ℕ
 rows_view kept c = slice_index_or kept.rows.items (index_of c) []
 
--- these are the rows whose keys some numbers are
+-- these are the rows whose keys are some numbers
 pub record AreFound (keys : List (List ℤ)) (numbers : List ℤ) (rows : List ℕ) : Type 0 where
   pub found : map (λ row. slice_get keys row) rows ≡ map (λ number. Some (number ∷ [])) numbers
 
--- if a column refers to a table, these are the rows of it whose keys the column's numbers are
+-- if a column is a foreign key, these are the rows that its numbers refer to
 abbrev pub AreRowsReferredTo : Database → ColumnId → List ℕ → Type 0
 AreRowsReferredTo database c rows =
     (t : TableId) → references c ≡ Some t
@@ -28,6 +28,6 @@ pub record AreOfFirst (database : Database) (n : ℕ) (lists : List (List ℕ)) 
   pub each : (i : ℕ) (c : ColumnId) (rows : List ℕ) → slice_get COLUMNS i ≡ Some c
       → slice_get lists i ≡ Some rows → AreRowsReferredTo database c rows
 
--- for each column its rows
+-- the rows of each column
 abbrev pub AreReferred : Database → Referred → Type 0
 AreReferred database kept = AreOfFirst database (length COLUMNS) kept.rows.items

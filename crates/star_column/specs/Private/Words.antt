@@ -1,4 +1,4 @@
--- Unsigned numbers in words of one width, and what a packed column keeps in them.
+-- Unsigned numbers in words of one width, and the encoding of a packed column.
 use Rattle.std.specs.Prelude.{◌≡◌, ◌<◌, ◌^◌, ℕ, ℤ, List, length, map, pos, ◌+ℤ◌}
 use Rattle.star_interval.specs.declared.Interval.{Interval}
 use Rattle.star_column.specs.Width.{bits_of}
@@ -18,11 +18,12 @@ word_bits (Bits16 words) = 16
 word_bits (Bits32 words) = 32
 word_bits (Bits64 words) = 64
 
--- the numbers that lie so far above another
+-- the numbers with these differences from another
 abbrev pub numbers_above : ℤ → List ℕ → List ℤ
 numbers_above low differences = map (λ difference. low +ℤ pos difference) differences
 
--- the bounds of a column, and words of the least width with how far its numbers lie above the least
+-- the bounds of a column, and the differences of its numbers from the least, in words of the least
+-- width
 pub record IsPacked (bounds : Interval) (words : Words) : Type 0 where
   pub few : length (numbers_in words) < 2 ^ 32
   pub bounds_are : AreBounds bounds (numbers_above bounds.low (numbers_in words))
