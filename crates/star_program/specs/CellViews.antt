@@ -1,4 +1,4 @@
--- The cell that is lent.
+-- Borrowed cells.
 use Rattle.star_program.specs.declared.outcome.{Cell.Cell, CellView.CellView, CellView.TheVariants.Number, CellView.TheVariants.Text, CellView.TheVariants.All, CellView.TheVariants.Null}
 use Rattle.star_program.specs.declared.outcome.Cell.TheVariants as cell
 

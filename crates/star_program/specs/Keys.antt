@@ -4,7 +4,7 @@ use Rattle.std.specs.{Ordering.int_cmp, Ordering.int_eq, Ordering.nat_cmp, Cmp.L
 use Rattle.std.specs.declared.cmp.Ordering.{Ordering, TheVariants.Less, TheVariants.Greater}
 use Rattle.star_program.specs.declared.key.KeyValue.{KeyValue, TheVariants.Number, TheVariants.Code}
 
--- by value or by code; the keys of one column are all of one kind
+-- by value or by code; the keys of one column all have one kind
 abbrev pub key_value_cmp : KeyValue → KeyValue → Ordering
 key_value_cmp (Number x) (Number y) = int_cmp x y
 key_value_cmp (Code m) (Code n) = nat_cmp m n
@@ -16,6 +16,6 @@ value_eq (Number x) (Number y) = int_eq x y
 value_eq (Code m) (Code n) = nat_eq m n
 value_eq _ _ = false
 
--- the same key list
+-- whether two key lists are equal
 abbrev pub same_keys : List KeyValue → List KeyValue → Bool
 same_keys = pointwise value_eq

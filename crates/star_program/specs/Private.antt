@@ -1,4 +1,4 @@
--- What no public clause speaks of.
+-- Definitions that no public clause cites.
 pub mod StoredCode
 pub mod Smaller
 pub mod Followed

@@ -1,8 +1,8 @@
--- What stands in a register.
+-- The value of a register.
 use Rattle.std.specs.Prelude.{◌≡◌, Bool, true, Option, Some, None}
 use Rattle.star_program.specs.declared.value.Kind.{Kind}
 
--- something stands in a register, of a kind that is taken
+-- a register has a value of an allowed kind
 abbrev pub IsTaken : (Kind → Bool) → Option Kind → Type 0
 IsTaken takes None = ⊥
 IsTaken takes (Some k) = takes k ≡ true

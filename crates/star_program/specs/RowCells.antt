@@ -1,4 +1,4 @@
--- The cells of a row of a group, of a program or of a query.
+-- The cells of a group's row, of a program or of a query.
 use Rattle.std.specs.Prelude.{ℤ, slice_index_or, Option, Some, None}
 use Rattle.star_schema.specs.declared.group.GroupColumn.{GroupColumn}
 use Rattle.star_schema.specs.declared.group.GroupColumn.TheVariants as column
@@ -6,7 +6,7 @@ use Rattle.star_schema.specs.{Groups.GroupRow, Tables.Value, Tables.Number, Tabl
 use Rattle.star_program.specs.declared.outcome.Cell.{Cell}
 use Rattle.star_program.specs.declared.outcome.Cell.TheVariants as cell
 
--- a key that is hidden is ALL
+-- a hidden key is ALL
 abbrev pub key_cell : Option Value → Cell
 key_cell None = cell.All
 key_cell (Some (Number z)) = cell.Number z
@@ -17,7 +17,7 @@ abbrev pub total_cell : Option ℤ → Cell
 total_cell None = cell.Null
 total_cell (Some z) = cell.Number z
 
--- what the row has in a column
+-- the cell of a row in a column
 abbrev pub cell_of : GroupRow Value → GroupColumn → Cell
 cell_of row (column.Key place) = key_cell (slice_index_or row.keys place None)
 cell_of row (column.Aggregate place) = total_cell (slice_index_or row.totals place None)

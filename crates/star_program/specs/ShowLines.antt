@@ -1,4 +1,4 @@
--- What a report names of its group.
+-- The columns that a report names.
 use Rattle.std.specs.Prelude.{ℕ, ◌+◌, Bool, ◌&&◌, nat_lt, List, [], ◌∷◌, ◌++◌, length, map, Option, Some, None, if◌then◌else◌}
 use Rattle.star_schema.specs.declared.group.GroupColumn.{GroupColumn, TheVariants.Key, TheVariants.Aggregate}
 use Rattle.star_program.specs.declared.{group.GroupDecl.GroupDecl, program.Parts.Parts}
@@ -9,19 +9,21 @@ abbrev pub has_column : GroupDecl → GroupColumn → Bool
 has_column d (Key place) = nat_lt place (length d.keys)
 has_column d (Aggregate place) = nat_lt place (length d.aggregates)
 
--- the columns that the show lines and then the sort lines name
+-- the columns that the show lines, then the sort lines name
 abbrev pub named_columns : Parts → List GroupColumn
 named_columns parts = map (λ show. show.column) parts.shows ++ map (λ sort. sort.column) parts.sorts
 
--- the first of some lines that names what the group doesn't have, where they are numbered from here on
+-- the first of some lines that names a column which the group does not have; lines are numbered
+-- from here on
 abbrev pub first_unshown : GroupDecl → ℕ → List GroupColumn → Option ℕ
 first_unshown d line [] = None
 first_unshown d line (c ∷ cs) = if has_column d c then first_unshown d (line + 1) cs else Some line
 
--- the reported group is there, and so is a show line
+-- the reported group is declared, and there is a show line
 abbrev pub reports : Parts → Bool
 reports parts = nat_lt parts.report (length parts.groups) && nat_lt 0 (length parts.shows)
 
--- where a report names what isn't there: 0 for its group or where it shows nothing, else the first such line, from 1
+-- the first line of a report that names something undeclared: 0 if the group is not declared or
+-- nothing is shown, otherwise the number of the line, from 1
 abbrev pub shown_fault : Parts → Option ℕ
 shown_fault parts = if reports parts then first_unshown (group_at parts parts.report) 1 (named_columns parts) else Some 0

@@ -1,4 +1,4 @@
--- What a text spells, and how a program is written.
+-- Which program a text spells, and the text of a program.
 pub mod Keywords
 pub mod Lines
 pub mod Numerals

@@ -1,4 +1,4 @@
--- The words of traps.
+-- The printed form of traps.
 use Rattle.std.specs.Prelude.{ℕ, List, codes}
 use Rattle.star_program.specs.declared.fault.{Fault.Fault, TrapKind.TrapKind, TrapKind.TheVariants.Wrong, TrapKind.TheVariants.AbsentKey, TrapKind.TheVariants.Overflow}
 use Rattle.star_program.specs.declared.fault.Fault.TheVariants.{BadRegister, WrittenTwice, Unset, WrongKind, BadColumn, BadGroup, Misplaced}

@@ -1,4 +1,4 @@
-// The instructions of a program, one after another, with scans around some.
+// The body of a program: steps in order, some of them scans with a body of their own.
 
 ghost use Rattle.std.specs.Prelude.{◌≡◌, ◌≤◌, ◌<◌, ◌+◌, ◌↔◌, IsTrue, IfSome, IfNone, OnOk};
 ghost use Rattle.star_program.specs.Code.{code_size, scan_depth};
@@ -10,14 +10,14 @@ use star_schema::TableId;
 use std::alloc::AllocError;
 use std::marker::Model;
 
-/// Steps, one after another.
+/// Steps in order.
 #[cycle(body)]
 #[derive(Drop)]
 pub struct Body {
     steps: Vec<Step>,
 }
 
-/// An instruction, or a scan: for each row of a table, in order, one turn of its body with the row
+/// An instruction, or a scan: for each row of a table, in order, its body is executed with the row
 /// in the register `target`.
 #[cycle(body)]
 #[derive(Drop)]
@@ -52,16 +52,16 @@ impl Model for Body {
 }
 
 impl Body {
-    // Whoever makes bodies by hand owes that they nest no deeper than a stack bears: `Program::new`
-    // refuses deep ones, but letting go of them goes as deep as they do.
-    /// The body of these steps.
+    // A caller that makes bodies must nest them no deeper than the stack allows: `Program::new`
+    // refuses deep bodies, but dropping them recurses as deep as they are.
+    /// Makes a body of these steps.
     pub fn from_vec(steps: Vec<Step>) -> Body
         ensures { result ≡ code_of_steps steps.items }
     {
         Body { steps }
     }
 
-    /// The steps.
+    /// Returns the steps.
     pub fn into_vec(self) -> Vec<Step>
         ensures { code_of_steps result.items ≡ self }
     {
@@ -69,7 +69,7 @@ impl Body {
         steps
     }
 
-    // Adds a step after the others.
+    // Appends a step.
     pub(crate) fn push(&mut self, step: Step) -> Result<(), AllocError>
         ensures { OnOk result (self.new ≡ followed self.old (code_of_step step)) }
     {
@@ -77,14 +77,14 @@ impl Body {
         Ok(())
     }
 
-    /// The steps, in order.
+    /// Returns the steps in order.
     pub fn as_slice(&self) -> &[Step]
         ensures { code_of_steps result.now ≡ self.now }
     {
         &self.steps
     }
 
-    // What is left of room for `room` instructions after those of the body, if there is enough.
+    // Returns the remaining room after the body's instructions, if there is enough.
     #[cycle(room)]
     pub(crate) fn room_left(&self, room: u16) -> Option<u16>
         ensures enough { IfSome result (λ left. left + code_size self.now ≡ room) }
@@ -97,7 +97,7 @@ impl Body {
         Some(left)
     }
 
-    // Whether at most `scans` scans stand one in another.
+    // Tests whether scans nest at most `scans` deep.
     #[cycle(nesting)]
     pub(crate) fn is_nested_within(&self, scans: u8) -> bool
         ensures { IsTrue result ↔ (scan_depth self.now ≤ scans) }

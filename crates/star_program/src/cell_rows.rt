@@ -1,4 +1,4 @@
-// The rows of a report, in flat storage.
+// The rows of a report in flat storage.
 
 ghost use Rattle.std.specs.Prelude.{◌≡◌, ◌*◌, [], length, slice_index_or};
 ghost use Rattle.star_program.specs.Rows.{cut};
@@ -6,8 +6,8 @@ ghost use Rattle.star_program.specs.Rows.{cut};
 use crate::outcome::KeptCell;
 use std::marker::Model;
 
-/// The rows of a report, of as many cells each, one after another. A contract sees the list of the
-/// rows.
+/// The rows of a report, with the same number of cells each, in one buffer. A contract sees the
+/// list of the rows.
 #[derive(Drop)]
 pub struct CellRows {
     width: usize,
@@ -27,8 +27,8 @@ impl Model for CellRows {
     ghost invariant = { λ rows. length rows.cells.items ≡ rows.len * rows.width };
 }
 
-/// Row `number`, from 0, of `len` rows of `width` items each, one after another; empty where there
-/// is no such row.
+/// Returns row `number`, from 0, of `len` rows of `width` items each in one buffer, or an empty
+/// slice if there is no such row.
 pub fn row_of<T>(items: &[T], width: usize, len: usize, number: usize) -> &[T]
     requires { length items.now ≡ len * width }
     ensures { result.now ≡ slice_index_or (cut width len items.now) number [] }
@@ -42,7 +42,7 @@ pub fn row_of<T>(items: &[T], width: usize, len: usize, number: usize) -> &[T]
 }
 
 impl CellRows {
-    /// Cuts these cells into `len` rows of `width` cells each, one after another.
+    /// Makes `len` rows of `width` cells each from one buffer.
     pub fn from_cells(width: usize, len: usize, cells: Vec<KeptCell>) -> CellRows
         requires { length cells.items ≡ len * width }
         ensures { result ≡ cut width len cells.items }
@@ -50,14 +50,15 @@ impl CellRows {
         CellRows { width, len, cells }
     }
 
-    /// How many rows there are.
+    /// Returns the number of rows.
     pub fn len(&self) -> usize
         ensures { result ≡ length self.now }
     {
         self.len
     }
 
-    /// The cells of the row of a number from 0; none where there is no such row.
+    /// Returns the cells of the row with a number, from 0, or an empty slice if there is no such
+    /// row.
     pub fn row(&self, number: usize) -> &[KeptCell]
         ensures { result.now ≡ slice_index_or self.now number [] }
     {

@@ -1,11 +1,11 @@
-// The test on columns that kinds of registers and keys of groups are compared by.
+// Equality of columns, by which kinds of registers and keys of groups are compared.
 
 ghost use Rattle.std.specs.Prelude.{◌≡◌};
 ghost use Rattle.star_program.specs.World as world;
 
 use star_schema::ColumnId;
 
-/// Whether two columns are one.
+/// Tests whether two columns are equal.
 pub fn is_column(column: ColumnId, other: ColumnId) -> bool
     ensures { result ≡ world.is_column column other }
 {

@@ -1,26 +1,26 @@
-// What is wrong with an instruction, and what a run is trapped by.
+// The faults of an instruction, and the traps of a run.
 
 ghost use Rattle.std.specs.Prelude.{Some};
 ghost use Rattle.star_program.specs.TrapTexts.{kind_text, wrong_text};
 
 use std::fmt;
 
-/// What is wrong with an instruction by its place, its registers and their kinds.
+/// A fault of an instruction by its position, its registers or their kinds.
 #[derive(Clone, Copy, Debug, PartialEq, Eq)]
 pub enum Fault {
-    /// A register that is not declared.
+    /// A register is not declared.
     BadRegister,
-    /// A target that an earlier instruction writes, which no run is trapped by.
+    /// The target is written by an earlier instruction. No run is trapped by this.
     WrittenTwice,
-    /// A register in which nothing stands.
+    /// A register has no value.
     Unset,
-    /// A kind of value that the instruction does not take.
+    /// The instruction does not take a value of this kind.
     WrongKind,
-    /// A column of another table, or a number column in place of a text column.
+    /// A column of another table, or a numeric column in place of a text column.
     BadColumn,
-    /// A group that is not there or is not so declared.
+    /// A group is not declared, or not as the instruction requires.
     BadGroup,
-    /// An instruction outside scans that belongs into one.
+    /// An instruction is outside scans but belongs inside one.
     Misplaced,
 }
 
@@ -41,14 +41,14 @@ impl fmt::Display for Fault {
     }
 }
 
-/// What an instruction can be trapped by.
+/// Why a run is trapped by an instruction.
 #[derive(Clone, Copy, Debug, PartialEq, Eq)]
 pub enum TrapKind {
-    /// Something is wrong with the instruction.
+    /// The instruction has a fault.
     Wrong(Fault),
     /// No row has the key.
     AbsentKey,
-    /// A number leaves 64 bits, or a SUM 128.
+    /// A number leaves 64 bits, or a SUM 128 bits.
     Overflow,
 }
 

@@ -1,9 +1,9 @@
-// What a program says of its groups.
+// The declarations of groups.
 
 use star_common::Items;
 use star_schema::{Aggregate, ColumnId, Shape};
 
-/// One key of a group: numbers, or the texts of one column.
+/// One key of a group: a number, or a text of one column.
 #[derive(Clone, Copy, Debug, PartialEq, Eq)]
 pub enum GroupKey {
     Number,
@@ -16,8 +16,7 @@ pub type GroupKeys = Items<GroupKey>;
 /// The aggregates of a group, in order.
 pub type Aggregates = Items<Aggregate>;
 
-/// A group of rows: which groupings of its keys it has, and what it computes over each group of
-/// rows.
+/// A declared group: the groupings of its keys, and the aggregates over each group of rows.
 #[derive(Drop)]
 pub struct GroupDecl {
     pub shape: Shape,

@@ -1,7 +1,7 @@
-//! Programs for the register machine: their types and limits, what they mean, and their text.
+//! Programs for the register machine: their types and limits, their meaning, and their text.
 //!
-//! The meaning of a program stands in `specs/`: every crate above cites it. What a text spells
-//! stands apart from it, in `specs/Text/`.
+//! `specs/` defines the meaning of a program; every crate above cites it. `specs/Text/` defines
+//! which program a text spells.
 #![tactic(auto)]
 
 mod body;

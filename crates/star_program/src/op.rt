@@ -1,21 +1,21 @@
-// The instructions of a program, but for scans.
+// The instructions of a program other than scans.
 
 use star_common::Items;
 use star_schema::{ColumnId, TableId};
 
-/// The numbers of registers, in order.
+/// Register numbers in order.
 pub type RegisterList = Items<u16>;
 
-/// A text, as its bytes.
+/// A text as its bytes.
 pub type Text = Items<u8>;
 
-/// Which end of the texts that equal a text.
+/// One of the two edges of the texts that equal a text.
 #[derive(Clone, Copy)]
 pub enum Edge {
-    /// Where the texts begin that are not less than it.
+    /// The start of the texts that are not less.
     Low,
 
-    /// Where the texts begin that are greater than it.
+    /// The start of the texts that are greater.
     High,
 }
 
@@ -31,23 +31,23 @@ pub enum Operator {
     /// The product of two numbers.
     Mul,
 
-    /// Whether the left is less than the right.
+    /// Whether the left operand is less than the right one.
     Less,
 
-    /// Whether the left is less than or equal to the right.
+    /// Whether the left operand is less than or equal to the right one.
     LessOrEqual,
 
-    /// Whether the two are equal.
+    /// Whether the operands are equal.
     Equal,
 
-    /// Whether both hold.
+    /// Whether both flags hold.
     And,
 
-    /// Whether either holds.
+    /// Whether one of the flags holds.
     Or,
 }
 
-/// What makes the value of a register, with its operands.
+/// An operation with its operands. Its result is written to a register.
 #[derive(Drop)]
 pub enum Operation {
     /// A number.
@@ -55,7 +55,7 @@ pub enum Operation {
         number: i64,
     },
 
-    /// The place of an edge of a text among the texts of a column.
+    /// The position of an edge of a text among the texts of a column.
     Edge {
         edge: Edge,
         column: ColumnId,
@@ -74,7 +74,7 @@ pub enum Operation {
         key: u16,
     },
 
-    /// An operator's answer on two registers.
+    /// The result of an operator on two registers.
     Binary {
         operator: Operator,
         left: u16,
@@ -88,12 +88,12 @@ pub enum Operation {
         below: u16,
     },
 
-    /// Whether the flag doesn't hold.
+    /// Whether the flag does not hold.
     Not {
         flag: u16,
     },
 
-    /// The total of an aggregate over all updates so far, or `default` where it is NULL.
+    /// The total of an aggregate over all updates so far, or `default` if it is NULL.
     Read {
         group: u16,
         aggregate: u16,
@@ -101,22 +101,22 @@ pub enum Operation {
     },
 }
 
-/// An instruction. Registers, groups and aggregates go by their numbers, from 0.
+/// An instruction. Registers, groups and aggregates are given by number, from 0.
 #[derive(Drop)]
 pub enum Op {
-    /// Writes what an operation makes into the register `target`.
+    /// Writes the result of an operation to the register `target`.
     Assign {
         target: u16,
         operation: Operation,
     },
 
-    /// Ends the turn of the innermost scan where the flag doesn't hold.
+    /// Filters: ends the body of the innermost scan for this row unless the flag holds.
     Keep {
         flag: u16,
     },
 
-    /// One update of a group: its keys as declared, and a number for each aggregate that isn't a
-    /// count.
+    /// Makes one update of a group: its keys as declared, and a number for each aggregate that is
+    /// not a count.
     Put {
         group: u16,
         keys: RegisterList,

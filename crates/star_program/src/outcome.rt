@@ -1,4 +1,4 @@
-// What a run gives: named columns, rows of cells, and how much was done.
+// The outcome of a run: named columns, rows of cells, and counts.
 
 ghost use Rattle.std.specs.Prelude.{◌≡◌, IfOk};
 ghost use Rattle.star_program.specs.CellViews.{cell_viewed};
@@ -11,7 +11,7 @@ use star_common::Items;
 use std::alloc::{AllocError, Global};
 use std::marker::Model;
 
-/// A text of a report, in a box, so that a cell of a number is small. A contract sees its bytes.
+/// A text of a report, boxed so that a cell of a number is small. A contract sees its bytes.
 #[derive(Drop)]
 pub struct CellText {
     text: Box<Text>,
@@ -26,7 +26,7 @@ impl Model for CellText {
 }
 
 impl CellText {
-    /// The cell of a text.
+    /// Makes the cell of a text.
     pub fn new(alloc: Global, text: Text) -> Result<CellText, AllocError>
         ensures { IfOk result (λ cell. cell ≡ text) }
     {
@@ -34,7 +34,7 @@ impl CellText {
         Ok(CellText { text })
     }
 
-    /// Its bytes.
+    /// Returns its bytes.
     pub fn as_slice(&self) -> &[u8]
         ensures { result.now ≡ self.now }
     {
@@ -49,13 +49,13 @@ pub enum Cell {
     Number(i128),
     /// A key that is a text.
     Text(CellText),
-    /// The value ALL: a key by which this row of a cube isn't grouped (Gray et al. 1997).
+    /// The value ALL: a key that this row of a cube does not group by (Gray et al. 1997).
     All,
-    /// An aggregate other than a count, over no rows.
+    /// NULL: an aggregate other than a count, over no rows.
     Null,
 }
 
-/// A cell of a report that is lent.
+/// A borrowed cell of a report.
 #[derive(Clone, Copy)]
 pub enum CellView<'a> {
     Number(i128),
@@ -64,7 +64,7 @@ pub enum CellView<'a> {
     Null,
 }
 
-// What is kept of a cell: a number of 64 bits as it is, and one of more in a box.
+// The storage of a cell: a number of 64 bits directly, a larger one in a box.
 #[derive(Drop)]
 enum Kept {
     Number(i64),
@@ -74,7 +74,7 @@ enum Kept {
     Null,
 }
 
-// What is kept of a number.
+// Returns the storage of a number.
 fn kept_number(alloc: Global, number: i128) -> Result<Kept, AllocError>
     ensures { IfOk result (λ kept. cell_view kept ≡ Cell.Number number) }
 {
@@ -84,8 +84,8 @@ fn kept_number(alloc: Global, number: i128) -> Result<Kept, AllocError>
     }
 }
 
-/// A cell of a report as it is kept: where its number has 64 bits it takes no more memory than a
-/// number of 64 bits and what tells a number from a text. A contract sees the cell.
+/// A cell of a report in storage. If its number has 64 bits it takes no more memory than such a
+/// number and a tag. A contract sees the cell.
 #[derive(Drop)]
 pub struct KeptCell {
     kept: Kept,
@@ -101,7 +101,7 @@ impl Model for KeptCell {
 }
 
 impl KeptCell {
-    /// Keeps a cell.
+    /// Stores a cell.
     pub fn new(alloc: Global, cell: Cell) -> Result<KeptCell, AllocError>
         ensures { IfOk result (λ kept. kept ≡ cell) }
     {
@@ -114,7 +114,7 @@ impl KeptCell {
         Ok(KeptCell { kept })
     }
 
-    /// The cell, lent.
+    /// Borrows the cell.
     pub fn as_view(&self) -> CellView<'_>
         ensures { cell_viewed result ≡ self.now }
     {
@@ -128,16 +128,16 @@ impl KeptCell {
     }
 }
 
-/// What a run gives: a name for each show line, the rows in order, each a cell for each name, and
-/// three counts.
+/// The outcome of a run: a name for each show line, the rows in order, each with a cell for each
+/// name, and three counts.
 #[derive(Drop)]
 pub struct Outcome {
     pub names: Items<Name>,
     pub rows: CellRows,
-    /// How many turns of scans were begun.
+    /// The number of visits.
     pub visits: u64,
-    /// How many finds were reached.
+    /// The number of look-ups.
     pub lookups: u64,
-    /// How many puts went through.
+    /// The number of updates.
     pub updates: u64,
 }

@@ -18,51 +18,51 @@ use star_schema::{GroupColumn, SortKey};
 use std::alloc::{AllocError, Global};
 use std::marker::Model;
 
-/// How many instructions a program has at most.
+/// The maximum number of instructions of a program.
 pub const MOST_INSTRUCTIONS: u16 = 4_096;
 
-/// How many registers a program declares at most.
+/// The maximum number of registers of a program.
 pub const MOST_REGISTERS: u16 = 4_096;
 
-/// How many groups a program has at most.
+/// The maximum number of groups of a program.
 pub const MOST_GROUPS: usize = 8;
 
-/// How many keys a group has at most.
+/// The maximum number of keys of a group.
 pub const MOST_KEYS: usize = 6;
 
-/// How many aggregates a group has at most.
+/// The maximum number of aggregates of a group.
 pub const MOST_AGGREGATES: usize = 8;
 
-/// How many scans stand one in another at most.
+/// The maximum nesting depth of scans.
 pub const MOST_SCANS: u8 = 3;
 
-/// How many show lines a program has at most.
+/// The maximum number of show lines of a program.
 pub const MOST_SHOWS: usize = 16;
 
-/// How many sort lines a program has at most.
+/// The maximum number of sort lines of a program.
 pub const MOST_SORTS: usize = 16;
 
-/// The name of a shown column, as its bytes.
+/// The name of a shown column as its bytes.
 pub type Name = Items<u8>;
 
-/// A column of the report: its name, and what of the reported group it shows.
+/// A column of the report: its name, and the column of the reported group that it shows.
 #[derive(Drop)]
 pub struct Show {
     pub name: Name,
     pub column: GroupColumn,
 }
 
-/// The groups of a program, by their numbers from 0.
+/// The groups of a program, by number from 0.
 pub type Groups = Items<GroupDecl>;
 
-/// The columns of the report, in order.
+/// The columns of the report in order.
 pub type Shows = Items<Show>;
 
-/// What the rows of the report are sorted by, the first key first.
+/// The sort keys of the report's rows, the first key first.
 pub type Sorts = Items<SortKey>;
 
-/// What a program is made of: how many registers it declares, its groups, its instructions, and
-/// which group it reports and how.
+/// The parts of a program: the number of its registers, its groups, its instructions, and which
+/// group it reports and how.
 #[derive(Drop)]
 pub struct Parts {
     pub registers: u16,
@@ -73,7 +73,7 @@ pub struct Parts {
     pub sorts: Sorts,
 }
 
-/// A program: parts within the limits, in clauses just these parts.
+/// A program: parts within the limits, seen in contracts as these parts.
 #[derive(Drop)]
 pub struct Program {
     parts: Parts,
@@ -95,7 +95,7 @@ impl Model for Program {
 }
 
 impl Program {
-    /// The program of these parts, or `None` where a limit is passed.
+    /// Makes a program of these parts, or returns `None` if a limit is exceeded.
     pub fn new(parts: Parts) -> Option<Program>
         ensures exactly { IsSome result ↔ IsWithinLimits parts }
         ensures given { IfSome result (λ program. program ≡ parts) }
@@ -107,7 +107,7 @@ impl Program {
         }
     }
 
-    /// What the program is made of.
+    /// Returns the parts of the program.
     pub fn parts(&self) -> &Parts
         ensures same { result.now ≡ self.now }
         ensures limits { IsWithinLimits self.now }
@@ -115,29 +115,31 @@ impl Program {
         &self.parts
     }
 
-    /// The program that a text spells, or its first fault: the first line that is refused decides,
-    /// at one line an open scan before a bad line and that before a limit. Want of memory may come
-    /// before any fault.
+    /// Reads the program that a text spells, or returns its first error: that of the first bad
+    /// line, and within a line an open scan before a bad line, and a bad line before a limit. Out
+    /// of memory may come before any error.
     pub fn parse(alloc: Global, text: &[u8]) -> Result<Program, TextFault>
-        // What is read is what the text spells.
+        // The result is the program that the text spells.
         ensures spelled { IfOk result (λ program. Spells text.now program) }
-        // A text that spells a program within the limits is read as it, unless memory runs out.
+        // A text that spells a program within the limits is read as that program, unless memory
+        // runs out.
         ensures only { (parts : Parts) → Spells text.now parts → IsWithinLimits parts
             → IsRead parts result }
-        // A refusal is the first fault.
+        // An error is the first one of the text.
         ensures fault { IfErr result (λ fault. IsFirstTextFault text.now fault) }
     {
         let parts = read_parts(alloc, text)?;
         Ok(Program { parts })
     }
 
-    // A text is also written of a program that no text spells: `new` takes registers, places and
-    // names that no line can say, and keys of groups that are of a column of numbers.
-    /// The program's text: a line for each statement, one space between words, two before a line
-    /// for each scan around it, numbers without zeros in front, a line feed after each line.
+    // A program that no text spells is written too: `new` accepts registers, positions and names
+    // that no line can state, and keys of groups that are of a numeric column.
+    /// Returns the program's text: a line for each statement, one space between words, two more
+    /// spaces at the start of a line for each enclosing scan, numbers without leading zeros, a line
+    /// feed after each line.
     pub fn to_text(&self) -> Result<Vec<u8>, AllocError>
         ensures written { IfOk result (λ text. text.items ≡ program_text self.now) }
-        // Where some text spells the program, this one does, and is read back as it.
+        // If some text spells the program, this one does, and it is read back as the program.
         ensures spells { IfOk result (λ text. IsSpellable self.now → Spells text.items self.now) }
     {
         write_parts(self.parts.groups.allocator(), &self.parts)
@@ -145,7 +147,7 @@ impl Program {
 }
 
 impl Parts {
-    /// The group of a number, if it is there. Takes no memory.
+    /// Returns the group with a number, if it is declared. Allocates nothing.
     pub fn group(&self, number: u16) -> Option<&GroupDecl>
         ensures group { IfSome result (λ group. group.now ≡ group_at self.now number) }
         ensures there { IfSome result (λ _. number < length self.now.groups) }
@@ -154,7 +156,7 @@ impl Parts {
         self.groups.as_slice().get(number as usize)
     }
 
-    /// The group of a number that is there. Takes no memory.
+    /// Returns the group with a number that is declared. Allocates nothing.
     pub fn group_at(&self, number: u16) -> &GroupDecl
         requires { number < length self.now.groups }
         ensures { result.now ≡ group_at self.now number }
@@ -176,7 +178,7 @@ impl Parts {
     }
 }
 
-// Whether there are at most 8 groups, each with at most 6 keys and 8 aggregates.
+// Tests whether there are at most 8 groups, each with at most 6 keys and 8 aggregates.
 fn are_few(groups: &[GroupDecl]) -> bool
     ensures { IsTrue result ↔ ((length groups.now ≤ 8) × All IsSmall groups.now) }
 {

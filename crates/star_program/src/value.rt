@@ -1,14 +1,14 @@
-// What registers hold, and the kinds of it.
+// The values of registers, and their kinds.
 
 use star_schema::{ColumnId, TableId};
 
-/// What a register holds.
+/// The value of a register.
 #[derive(Clone, Copy)]
 pub enum Value {
     Number(i64),
-    /// A text of a column, by its code: its place in the column's dictionary.
+    /// A text of a column, by its code: its index in the column's dictionary.
     Text(ColumnId, u32),
-    /// A place among the texts of a column: how many of them stand before it.
+    /// A position among the texts of a column: the number of texts before it.
     Place(ColumnId, u32),
     /// A row of a table, from 0.
     Row(TableId, u32),

@@ -1,4 +1,4 @@
--- A program as far as its text was read, and what that much of the text says.
+-- A program whose text has been read in part, and the statements of that part.
 use Rattle.std.specs.Prelude.{◌≡◌, ℕ, ◌+◌, ◌≤◌, List, [], ◌∷◌, ◌++◌, All, Some, length, map}
 use Rattle.star_common.specs.Memory.{UnlessMemory}
 use Rattle.star_program.specs.Code.{Code, Stop, Then, Each, code_size, scan_depth}
@@ -8,7 +8,7 @@ use Rattle.star_program.specs.declared.spelling.fault.TextFault.TheVariants as f
 use Rattle.star_program.specs.declared.spelling.place.Stage.TheVariants as stage
 use Rattle.star_program.specs.declared.spelling.statement.Statement.TheVariants as says
 
--- ---- what the parts of a program say
+-- ---- the statements of a program's parts
 
 abbrev pub code_says : Code → List Statement
 code_says Stop = []
@@ -45,18 +45,18 @@ told stage.Body d = begun d
 told stage.Shows d = whole_draft d
 told stage.Sorts d = whole_draft d
 
--- ---- one statement more
+-- ---- one more statement
 
 unfoldable pub nothing_read : Draft
 nothing_read = record { registers = 0; groups = []; scans = []; body = Stop; report = 0; shows = []; sorts = [] }
 
--- the innermost scan is closed: it and its body go behind the steps before it
+-- the innermost scan is closed: it and its body follow the steps before it
 pub record IsClosed (d e : Draft) : Type 0 where
   pub scan : OpenScan
   pub scans : d.scans ≡ e.scans ++ scan ∷ []
   pub body : e ≡ record d { scans = e.scans; body = followed scan.before (Each scan.table scan.target d.body Stop) }
 
--- the draft with a statement more
+-- the draft with one more statement
 abbrev pub IsAdded : Draft → Statement → Draft → Type 0
 IsAdded d says.Header e = e ≡ d
 IsAdded d (says.Registers n) e = e ≡ record d { registers = n }
@@ -68,14 +68,14 @@ IsAdded d (says.Report g) e = e ≡ record d { report = g }
 IsAdded d (says.Show show) e = e ≡ record d { shows = d.shows ++ show ∷ [] }
 IsAdded d (says.Sort key) e = e ≡ record d { sorts = d.sorts ++ key ∷ [] }
 
--- ---- a draft at a place of its text
+-- ---- a draft in a state of its text
 
 -- the body, if every open scan ended here
 abbrev pub closed : List OpenScan → Code → Code
 closed [] body = body
 closed (scan ∷ scans) body = followed scan.before (Each scan.table scan.target (closed scans body) Stop)
 
--- what comes later in a text is still empty, and no scan is open behind the body
+-- what comes later in a text is still empty, and no scan is open after the body
 abbrev pub IsInOrder : Stage → Draft → Type 0
 IsInOrder stage.Header d = (d.groups ≡ []) × (d.scans ≡ []) × (d.body ≡ Stop) × (d.shows ≡ []) × (d.sorts ≡ [])
 IsInOrder stage.Registers d = (d.groups ≡ []) × (d.scans ≡ []) × (d.body ≡ Stop) × (d.shows ≡ []) × (d.sorts ≡ [])
@@ -89,13 +89,13 @@ pub record AreSmallGroups (count : ℕ) (groups : List GroupDecl) : Type 0 where
   pub many : length groups ≡ count
   pub each : All IsSmall groups
 
--- a body of `instructions` instructions in which `depth` scans are open
+-- a body of `instructions` instructions with `depth` open scans
 pub record IsBody (instructions depth : ℕ) (scans : List OpenScan) (body : Code) : Type 0 where
   pub open_scans : length scans ≡ depth
   pub many : code_size (closed scans body) ≡ instructions
   pub nested : scan_depth (closed scans body) ≤ 3
 
--- how many of each kind the draft has, and that they are small
+-- the numbers of each kind in the draft, within their limits
 abbrev pub Counts : ℕ → ℕ → ℕ → ℕ → ℕ → Draft → Type 0
 Counts groups instructions depth shows sorts d =
     (d.registers ≤ 4096) × AreSmallGroups groups d.groups × IsBody instructions depth d.scans d.body
@@ -106,17 +106,17 @@ pub record IsAt (p : Place) (d : Draft) : Type 0 where
   pub counts : Counts p.groups p.instructions p.depth p.shows p.sorts d
   pub order : IsInOrder p.stage d
 
--- a line was read: the place and the draft after it
+-- a line was read: the state and the draft after it
 pub record IsPassed (p : Place) (d : Draft) (line : ℕ) (text : List ℕ) (q : Place) (e : Draft) : Type 0 where
   pub at : IsAt q e
   pub faults : (texts : List (List ℕ)) → lines_fault p line (text ∷ texts) ≡ lines_fault q (line + 1) texts
   pub says : (texts : List (List ℕ)) → map Some (told p.stage d) ++ said_in (text ∷ texts) ≡ map Some (told q.stage e) ++ said_in texts
 
--- a line was refused: there was no memory, or whatever follows it, its fault is the first of the text
+-- a line was refused: memory ran out, or its error is the first of the text, whatever follows
 abbrev pub IsLineRefused : TextFault → Place → ℕ → List ℕ → Type 0
 IsLineRefused f p line text = UnlessMemory fault.OutOfMemory f ((texts : List (List ℕ)) → lines_fault p line (text ∷ texts) ≡ Some f)
 
--- the program that a draft is when its text has ended
+-- the program of a draft at the end of its text
 abbrev pub finished : Draft → Parts
 finished d = record {
   registers = d.registers;

@@ -1,4 +1,4 @@
-// The lines of a body, one after another.
+// Writing the lines of a body.
 
 ghost use Rattle.std.specs.Prelude.{◌≡◌, ◌≤◌, ◌+◌, ◌++◌, OnOk};
 ghost use Rattle.std.specs.List.{flat_map};
@@ -11,7 +11,7 @@ use crate::body::{Body, Step};
 use crate::spelling::program_lines::{push_end_line, push_op_line, push_scan_line};
 use std::alloc::AllocError;
 
-/// Adds the lines of a body that stands in `depth` scans.
+/// Appends the lines of a body inside `depth` scans.
 #[cycle(writing)]
 pub(crate) fn push_body(out: &mut Vec<u8>, depth: u8, body: &Body) -> Result<(), AllocError>
     requires { depth + scan_depth body.now ≤ 3 }

@@ -1,4 +1,4 @@
-// A program as far as its text was read.
+// A program whose text has been read in part.
 
 ghost use Rattle.std.specs.Prelude.{◌≡◌, ◌<◌, OnOk, length};
 ghost use Rattle.star_program.specs.Private.Drafts as spec;
@@ -12,7 +12,7 @@ use star_schema::TableId;
 use std::alloc::{AllocError, Global};
 use std::mem::replace;
 
-/// A scan whose end is still to come, and the steps before it.
+/// A scan whose end has not been read, and the steps before it.
 #[derive(Drop)]
 pub struct OpenScan {
     pub before: Body,
@@ -20,8 +20,8 @@ pub struct OpenScan {
     pub target: u16,
 }
 
-/// What was read of a program. `scans` are the open scans, the outermost first, and `body` the
-/// steps after the line of the innermost.
+/// The part of a program that has been read. `scans` are the open scans, outermost first, and
+/// `body` the steps after the line of the innermost.
 #[derive(Drop)]
 pub struct Draft {
     pub registers: u16,
@@ -34,7 +34,7 @@ pub struct Draft {
 }
 
 impl Draft {
-    /// The draft before the first line.
+    /// Returns the draft before the first line.
     #[tactic(auto, unfolding(crate::specs::Private::Drafts::nothing_read))]
     pub(crate) fn new(alloc: Global) -> Draft
         ensures { result ≡ spec.nothing_read }
@@ -84,7 +84,7 @@ impl Draft {
         Ok(())
     }
 
-    /// Adds a statement. Where it ends a scan, one is open.
+    /// Appends a statement. If it ends a scan, one is open.
     pub(crate) fn add(&mut self, statement: Statement) -> Result<(), AllocError>
         requires { statement ≡ says.End → 0 < length self.old.scans }
         ensures { OnOk result (spec.IsAdded self.old statement self.new) }
@@ -103,7 +103,7 @@ impl Draft {
         Ok(())
     }
 
-    /// The program, at the end of its text.
+    /// Returns the program at the end of its text.
     pub(crate) fn finish(self) -> Parts
         ensures { result ≡ spec.finished self }
     {

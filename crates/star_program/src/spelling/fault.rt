@@ -1,4 +1,4 @@
-// Why a line was not read.
+// The errors of a program's text.
 
 ghost use Rattle.star_common.specs.Memory.{TellsMemory};
 ghost use Rattle.star_program.specs.declared.spelling.fault.LineFault.TheVariants.{OutOfMemory};
@@ -7,7 +7,7 @@ ghost use Rattle.star_program.specs.declared.spelling.fault.TextFault.TheVariant
 use std::alloc::{AllocError, AllocFailed};
 use std::fmt;
 
-/// Why a line was not read: memory was refused, or it says nothing.
+/// Why a line was not read: out of memory, or it is not a statement.
 #[derive(Clone, Copy)]
 pub enum LineFault {
     OutOfMemory,
@@ -30,19 +30,19 @@ impl<T: Drop> From<AllocFailed<T>> for LineFault {
     }
 }
 
-/// Why a text is no program. Lines count from 1, blank ones too; a line that is missing at the end
-/// has the number after the last.
+/// Why a text is not a program. Lines count from 1, blank ones included; a line that is missing at
+/// the end has the number after the last.
 #[derive(Clone, Copy, Debug, PartialEq, Eq)]
 pub enum TextFault {
-    /// Memory was refused.
+    /// Out of memory.
     OutOfMemory,
-    /// The text doesn't begin with the line `star program 1`.
+    /// The text does not begin with the line `star program 1`.
     BadHeader,
-    /// A line says nothing, or may not stand where it does, or is missing.
+    /// A line is not a statement, is not allowed at its position, or is missing.
     BadLine { line: usize },
     /// A line in a scan begins with `report`, or the text ends in a scan.
     OpenScan,
-    /// A line passes a limit.
+    /// A line exceeds a limit.
     TooLarge { line: usize },
 }
 

@@ -1,4 +1,4 @@
-// The fixed words of a program.
+// The keywords of programs.
 
 ghost use Rattle.std.specs.Prelude.{Some};
 ghost use Rattle.star_program.specs.Text.Keywords as spec;
@@ -7,7 +7,7 @@ use crate::op::{Edge, Operator};
 use star_schema::Named;
 use std::fmt;
 
-/// The first word of a line, but for a register.
+/// The first word of a line that does not begin with a register.
 #[derive(Clone, Copy)]
 pub enum Keyword {
     Star,
@@ -35,7 +35,7 @@ pub static KEYWORDS: [Keyword; 10] = [
     Keyword::Sort,
 ];
 
-/// The word of an operation.
+/// The keyword of an operation.
 #[derive(Clone, Copy)]
 pub enum Mnemonic {
     Const,

@@ -5,7 +5,7 @@ ghost use Rattle.std.specs.List.{position};
 ghost use Rattle.star_program.specs.Private.Returns as returns;
 ghost use Rattle.star_program.specs.Text.Lines as spec;
 
-// The bytes from a place on.
+// Returns the bytes from an index on.
 fn from_place(bytes: &[u8], place: usize) -> &[u8]
     requires { place ≤ length bytes.now }
     ensures { result.now ≡ drop place bytes.now }
@@ -19,7 +19,7 @@ fn line_end(text: &[u8]) -> Option<usize>
     text.iter().position(|&b| b == b'\n')
 }
 
-// A line without the carriage return of its end.
+// Returns a line without the carriage return at its end.
 fn without_return(line: &[u8]) -> &[u8]
     ensures { result.now ≡ returns.without_return line.now }
 {
@@ -29,7 +29,7 @@ fn without_return(line: &[u8]) -> &[u8]
     }
 }
 
-/// The first line of a text, and the text after it.
+/// Returns the first line of a text, and the text after it.
 pub(crate) fn split_line(text: &[u8]) -> Option<(&[u8], &[u8])>
     ensures line { MatchOption result (spec.lines_of text.now ≡ [])
         (λ parts. spec.lines_of text.now ≡ parts.0.now ∷ spec.lines_of parts.1.now) }
@@ -50,14 +50,14 @@ fn word_start(line: &[u8]) -> Option<usize>
     line.iter().position(|&b| b != b' ')
 }
 
-// Where the first space or quote stands.
+// Returns the index of the first space or quote.
 fn word_end(line: &[u8]) -> Option<usize>
     ensures { result ≡ position (λ b. (b == 32) || (b == 39)) line.now }
 {
     line.iter().position(|&b| b == b' ' || b == b'\'')
 }
 
-/// The first word of a line, and the line after it.
+/// Returns the first word of a line, and the line after it.
 pub(crate) fn split_word(line: &[u8]) -> Option<(&[u8], &[u8])>
     ensures word { MatchOption result (spec.words_of line.now ≡ [])
         (λ parts. spec.words_of line.now ≡ parts.0.now ∷ spec.words_of parts.1.now) }
@@ -75,7 +75,7 @@ pub(crate) fn split_word(line: &[u8]) -> Option<(&[u8], &[u8])>
     }
 }
 
-/// Whether a line has nothing but spaces.
+/// Tests whether a line has only spaces.
 pub(crate) fn is_blank(line: &[u8]) -> bool
     ensures { result ≡ spec.is_blank_line line.now }
 {

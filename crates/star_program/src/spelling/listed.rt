@@ -1,4 +1,4 @@
-// Lists of words, and texts in quotes.
+// Lists of words, and quoted texts.
 
 ghost use Rattle.std.specs.Prelude.{◌≡◌, ◌∷◌, ◌<◌, ℕ, List, Option, Some, None, [], IfSome, MatchOption, MatchResult, length, if◌then◌else◌};
 ghost use Rattle.std.specs.Option.{option_map};
@@ -19,16 +19,16 @@ use star_schema::{
 };
 use std::alloc::Global;
 
-/// What stands in lists of words.
+/// An item of a list of words.
 pub trait Listed: Copy + Drop {
     ghost meaning: { List ℕ → Option Self };
 
-    /// What a word means.
+    /// Reads the item of a word.
     fn read(word: &[u8]) -> Option<Self>
         ensures { result ≡ meaning word.now };
 }
 
-/// The number of a register.
+/// A register number.
 impl Listed for u16 {
     ghost meaning = { register_of };
 
@@ -77,7 +77,7 @@ pub(crate) fn read_table(word: &[u8]) -> Option<TableId>
     table_named(word)
 }
 
-// The words up to a colon, and the line after it.
+// Reads the words up to a colon, and returns the line after it.
 fn read_until_colon<T: Listed>(alloc: Global, line: &[u8]) -> Result<(Items<T>, &[u8]), LineFault>
     ensures { MatchResult result
         (λ parts. spec.until_colon T.meaning (words_of line.now)
@@ -99,7 +99,7 @@ fn read_until_colon<T: Listed>(alloc: Global, line: &[u8]) -> Result<(Items<T>, 
     Err(LineFault::Unreadable)
 }
 
-// The words up to the end of a line.
+// Reads the words up to the end of a line.
 fn read_each<T: Listed>(alloc: Global, line: &[u8]) -> Result<Items<T>, LineFault>
     ensures { reading.Reads result (spec.each T.meaning (words_of line.now)) }
 {
@@ -115,7 +115,7 @@ fn read_each<T: Listed>(alloc: Global, line: &[u8]) -> Result<Items<T>, LineFaul
     Ok(Items::from_vec(items))
 }
 
-/// Two lists parted by a colon.
+/// Reads two lists separated by a colon.
 pub(crate) fn read_lists<A: Listed, B: Listed>(
     alloc: Global,
     line: &[u8],
@@ -127,7 +127,7 @@ pub(crate) fn read_lists<A: Listed, B: Listed>(
     Ok((front, back))
 }
 
-// The next byte of a text in quotes, and what follows it.
+// Returns the next byte of a quoted text, and the text after it.
 fn text_byte(quoted: &[u8]) -> Option<(u8, &[u8])>
     ensures byte { MatchOption result
         (spec.unquoted quoted.now ≡ (if reading.closes quoted.now then Some [] else None))
@@ -147,7 +147,7 @@ fn text_byte(quoted: &[u8]) -> Option<(u8, &[u8])>
     }
 }
 
-// Whether a text ends here, at a quote after which only spaces follow.
+// Tests whether a text ends here, at a quote that only spaces follow.
 fn closes(quoted: &[u8]) -> bool
     ensures { result ≡ reading.closes quoted.now }
 {
@@ -157,7 +157,7 @@ fn closes(quoted: &[u8]) -> bool
     }
 }
 
-// The text after its opening quote.
+// Reads the text after its opening quote.
 fn read_unquoted(alloc: Global, quoted: &[u8]) -> Result<Text, LineFault>
     ensures { reading.Reads result (spec.unquoted quoted.now) }
 {
@@ -174,7 +174,7 @@ fn read_unquoted(alloc: Global, quoted: &[u8]) -> Result<Text, LineFault>
     }
 }
 
-/// A text in quotes.
+/// Reads a quoted text.
 pub(crate) fn read_quoted(alloc: Global, word: &[u8]) -> Result<Text, LineFault>
     ensures { reading.Reads result (spec.quoted_text_of word.now) }
 {

@@ -1,4 +1,4 @@
-// The words that write numbers, registers and names.
+// The words of numbers, registers and names.
 
 ghost use Rattle.std.specs.Prelude.{◌≡◌, ◌<◌, ◌≤◌, ◌^◌, Some, IfSome, neg_ℤ, pos};
 ghost use Rattle.std.specs.Option.{option_map};
@@ -8,7 +8,7 @@ ghost use Rattle.star_program.specs.Text.Numerals as spec;
 
 use star_common::numeral_value;
 
-// The number that 1 to `places` digits write.
+// Returns the number that 1 to `places` digits write.
 fn numeral(places: usize, word: &[u8]) -> Option<u64>
     requires { places ≤ 19 }
     ensures value { result ≡ numeral_of places word.now }
@@ -20,7 +20,7 @@ fn numeral(places: usize, word: &[u8]) -> Option<u64>
     numeral_value(word)
 }
 
-/// The count or the place that a word of 1 to 4 digits writes.
+/// Returns the count or index that a word of 1 to 4 digits writes.
 #[tactic(auto, unfolding(crate::specs::Text::Numerals::count_of))]
 pub(crate) fn read_count(word: &[u8]) -> Option<u16>
     ensures value { result ≡ spec.count_of word.now }
@@ -29,7 +29,7 @@ pub(crate) fn read_count(word: &[u8]) -> Option<u16>
     Some(count as u16)
 }
 
-// The number below zero of this magnitude.
+// Returns the negative number with this magnitude.
 fn negative(magnitude: u64) -> Option<i64>
     ensures { result ≡ option_map (λ n. neg_ℤ (pos n))
         (spec.up_to 9223372036854775808 (Some magnitude)) }
@@ -41,7 +41,7 @@ fn negative(magnitude: u64) -> Option<i64>
     }
 }
 
-// The number of this magnitude.
+// Returns the number with this magnitude.
 fn positive(magnitude: u64) -> Option<i64>
     ensures { result ≡ option_map pos (spec.up_to 9223372036854775807 (Some magnitude)) }
 {
@@ -52,7 +52,7 @@ fn positive(magnitude: u64) -> Option<i64>
     }
 }
 
-/// The number that a constant of 64 bits writes.
+/// Returns the number of a constant of 64 bits.
 #[tactic(auto, unfolding(crate::specs::Text::Numerals::constant_of))]
 pub(crate) fn read_constant(word: &[u8]) -> Option<i64>
     ensures { result ≡ spec.constant_of word.now }
@@ -69,7 +69,7 @@ pub(crate) fn read_constant(word: &[u8]) -> Option<i64>
     }
 }
 
-/// The number of the register that a word names.
+/// Returns the number of the register that a word names.
 #[tactic(auto, unfolding(crate::specs::Text::Numerals::register_of))]
 pub(crate) fn read_register(word: &[u8]) -> Option<u16>
     ensures { result ≡ spec.register_of word.now }
@@ -80,14 +80,14 @@ pub(crate) fn read_register(word: &[u8]) -> Option<u16>
     }
 }
 
-// Whether a word has only letters, digits and underscores.
+// Tests whether a word has only letters, digits and underscores.
 fn is_of_name_bytes(word: &[u8]) -> bool
     ensures { result ≡ list_all spec.is_name_byte word.now }
 {
     word.iter().all(|&b| b.is_ascii_alphanumeric() || b == b'_')
 }
 
-/// Whether a word is a name of 1 to 64 bytes.
+/// Tests whether a word is a name of 1 to 64 bytes.
 #[tactic(auto, unfolding(crate::specs::Text::Numerals::is_show_name))]
 pub(crate) fn is_name(word: &[u8]) -> bool
     ensures { result ≡ spec.is_show_name word.now }

@@ -1,4 +1,4 @@
-// Programs read from their texts.
+// Reading a program from its text.
 
 ghost use Rattle.std.specs.Prelude.{◌≡◌, None, MatchResult, false};
 ghost use Rattle.star_program.specs.Private.Drafts as spec;
@@ -14,7 +14,7 @@ use crate::spelling::lines::{is_blank, split_line};
 use crate::spelling::place::{Place, advance};
 use std::alloc::Global;
 
-// The place after a line that isn't blank, whose statement the draft takes.
+// Reads a line that is not blank: its statement is added to the draft. Returns the state after it.
 fn take_statement(
     alloc: Global,
     place: Place,
@@ -36,7 +36,7 @@ fn take_statement(
     }
 }
 
-// The place after a line. A blank one changes nothing.
+// Reads a line, and returns the state after it. A blank one changes nothing.
 fn take_line(
     alloc: Global,
     place: Place,
@@ -55,7 +55,7 @@ fn take_line(
     }
 }
 
-/// What a text spells, or its first fault.
+/// Reads the program that a text spells, or returns its first error.
 pub(crate) fn read_parts(alloc: Global, text: &[u8]) -> Result<Parts, TextFault>
     ensures { MatchResult result (λ parts. Spells text.now parts × IsWithinLimits parts)
         (λ fault. IsFirstTextFault text.now fault) }

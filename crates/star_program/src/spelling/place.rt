@@ -1,4 +1,4 @@
-// Where a text stands, and what may follow there.
+// The state of a text that is being read, and what may follow it.
 
 ghost use Rattle.std.specs.Prelude.{◌≡◌, Ok, Err, Some, MatchResult};
 ghost use Rattle.star_common.specs.Memory.{UnlessMemory};
@@ -18,8 +18,8 @@ use crate::spelling::reading::read_line;
 use crate::spelling::statement::Statement;
 use std::alloc::Global;
 
-/// The part of a program that a text is in: the header or the registers are still to come, or
-/// others go on.
+/// The part of a program that a text is in: the header or the registers are expected, or other
+/// statements follow.
 #[derive(Clone, Copy)]
 pub enum Stage {
     Header,
@@ -30,8 +30,8 @@ pub enum Stage {
     Sorts,
 }
 
-/// Where a text stands: its part, and how many of each kind stood before. `depth` counts the open
-/// scans.
+/// The state of a text: its part, and how many statements of each kind came before. `depth` counts
+/// the open scans.
 #[derive(Clone, Copy)]
 pub struct Place {
     pub stage: Stage,
@@ -43,7 +43,7 @@ pub struct Place {
 }
 
 impl Place {
-    /// Before the first line.
+    /// Returns the state before the first line.
     #[tactic(auto, unfolding(crate::specs::Text::FirstFaults::start))]
     pub(crate) fn start() -> Place
         ensures { result ≡ spec.start }
@@ -58,7 +58,7 @@ impl Place {
         }
     }
 
-    // The place after a line of the body.
+    // Returns the state after a line of the body.
     fn after_step(self, statement: &Statement) -> Option<Place>
         requires { IsWithinLargest self }
         ensures { result ≡ spec.place_after_step self statement.now }
@@ -87,7 +87,7 @@ impl Place {
         }
     }
 
-    // The place after a line, if it may stand here: groups are numbered in order.
+    // Returns the state after a line, if it is allowed here: groups are numbered in order.
     #[tactic(auto, unfolding(crate::specs::Text::FirstFaults::place_after))]
     fn after(self, statement: &Statement) -> Option<Place>
         requires { IsWithinLargest self }
@@ -137,7 +137,7 @@ impl Place {
             && self.sorts <= MOST_SORTS as u16
     }
 
-    // The fault of a line that may not stand here.
+    // Returns the error of a line that is not allowed here.
     fn bad_line(self, line: usize) -> TextFault
         ensures { result ≡ spec.bad_in self.stage line }
     {
@@ -147,7 +147,7 @@ impl Place {
         }
     }
 
-    /// The fault of a text that ends here, before a line of this number.
+    /// Returns the error of a text that ends here, before the line with this number.
     pub(crate) fn end_fault(self, line: usize) -> Option<TextFault>
         ensures { result ≡ spec.end_in self.stage self.depth line }
     {
@@ -166,7 +166,7 @@ impl Place {
     }
 }
 
-// Whether a statement by itself is within the limits.
+// Tests whether a statement by itself is within the limits.
 #[tactic(auto, unfolding(crate::specs::Text::FirstFaults::is_small))]
 fn is_small(statement: &Statement) -> bool
     ensures { result ≡ spec.is_small statement.now }
@@ -181,7 +181,7 @@ fn is_small(statement: &Statement) -> bool
     }
 }
 
-// Whether the first word of a line is `report`.
+// Tests whether the first word of a line is `report`.
 fn begins_report(line: &[u8]) -> bool
     ensures { result ≡ spec.begins_report (words_of line.now) }
 {
@@ -191,7 +191,7 @@ fn begins_report(line: &[u8]) -> bool
     }
 }
 
-// The place after a statement, or its fault.
+// Returns the state after a statement, or its error.
 fn reach(place: Place, line: usize, statement: &Statement) -> Result<Place, TextFault>
     requires { IsWithinLargest place }
     ensures { result ≡ spec.place_reached place line statement.now (spec.place_after place statement.now) }
@@ -208,7 +208,7 @@ fn reach(place: Place, line: usize, statement: &Statement) -> Result<Place, Text
     }
 }
 
-/// The place after a line that isn't blank, and what it says; or its fault.
+/// Returns the state after a line that is not blank, and its statement, or its error.
 #[tactic(auto, unfolding(crate::specs::Text::FirstFaults::advance))]
 pub(crate) fn advance(
     alloc: Global,

@@ -1,4 +1,4 @@
-// The lines of a program, one after another.
+// Writing the lines of a program.
 
 ghost use Rattle.std.specs.Prelude.{◌≡◌, ◌*◌, ◌≤◌, ◌<◌, ◌++◌, Some, OnOk, IfOk, length, replicate, slice_get};
 ghost use Rattle.std.specs.List.{flat_map};
@@ -17,7 +17,7 @@ use crate::spelling::writing::{
 use star_schema::{SortKey, TableId};
 use std::alloc::{AllocError, Global};
 
-// Adds two spaces for each scan around a line.
+// Appends two spaces for each scan around a line.
 fn push_indent(out: &mut Vec<u8>, depth: u8) -> Result<(), AllocError>
     ensures { OnOk result (out.new.items ≡ out.old.items ++ replicate (2 * depth) 32) }
 {
@@ -29,7 +29,7 @@ fn push_indent(out: &mut Vec<u8>, depth: u8) -> Result<(), AllocError>
     Ok(())
 }
 
-/// Adds the line of an instruction.
+/// Appends the line of an instruction.
 #[tactic(auto, unfolding(crate::specs::Text::Written::written_line))]
 pub(crate) fn push_op_line(out: &mut Vec<u8>, depth: u8, op: &Op) -> Result<(), AllocError>
     ensures { OnOk result (out.new.items ≡ out.old.items
@@ -41,7 +41,7 @@ pub(crate) fn push_op_line(out: &mut Vec<u8>, depth: u8, op: &Op) -> Result<(), 
     Ok(())
 }
 
-/// Adds the line that begins a scan.
+/// Appends the first line of a scan.
 #[tactic(auto, unfolding(crate::specs::Text::Written::written_line))]
 pub(crate) fn push_scan_line(
     out: &mut Vec<u8>,
@@ -60,7 +60,7 @@ pub(crate) fn push_scan_line(
     Ok(())
 }
 
-/// Adds the line that ends a scan.
+/// Appends the last line of a scan.
 #[tactic(auto, unfolding(crate::specs::Text::Written::written_line))]
 pub(crate) fn push_end_line(out: &mut Vec<u8>, depth: u8) -> Result<(), AllocError>
     ensures { OnOk result (out.new.items ≡ out.old.items
@@ -117,7 +117,7 @@ fn push_report(out: &mut Vec<u8>, group: u16) -> Result<(), AllocError>
     out.extend_from_slice(text.as_bytes())
 }
 
-/// The line of a column that is shown.
+/// The line of a shown column.
 impl Written for Show {
     ghost text = { λ show. spec.written_line (lines.show_line show) };
 
@@ -129,7 +129,7 @@ impl Written for Show {
     }
 }
 
-/// The line of a key that is sorted by.
+/// The line of a sort key.
 impl Written for SortKey {
     ghost text = { λ key. spec.written_line (lines.sort_line key) };
 
@@ -141,7 +141,7 @@ impl Written for SortKey {
     }
 }
 
-/// The text of a program's parts.
+/// Returns the text of a program's parts.
 pub(crate) fn write_parts(alloc: Global, parts: &Parts) -> Result<Vec<u8>, AllocError>
     requires { IsWithinLimits parts.now }
     ensures { IfOk result (λ text. text.items ≡ spec.program_text parts.now) }

@@ -1,4 +1,4 @@
-// What a line of a program says, read word by word.
+// Reading a statement from a line, word by word.
 
 ghost use Rattle.std.specs.Prelude.{◌≡◌, ◌≢◌, ◌∷◌, [], None, Some, MatchOption, MatchResult, length};
 ghost use Rattle.std.specs.Option.{option_copied, option_map};
@@ -24,7 +24,7 @@ use star_common::{Items, are_printable};
 use star_schema::{DIRECTIONS, GroupColumn, SHAPES, Shape, SortKey, first_named};
 use std::alloc::Global;
 
-// The only word of a line.
+// Returns the only word of a line.
 fn only_word(line: &[u8]) -> Option<&[u8]>
     ensures { MatchOption result (length (words_of line.now) ≢ 1)
         (λ word. words_of line.now ≡ word.now ∷ []) }
@@ -36,7 +36,7 @@ fn only_word(line: &[u8]) -> Option<&[u8]>
     }
 }
 
-// The words of a line that has two.
+// Returns the words of a line that has two.
 fn two_words(line: &[u8]) -> Option<(&[u8], &[u8])>
     ensures { MatchOption result (length (words_of line.now) ≢ 2)
         (λ words. words_of line.now ≡ words.0.now ∷ words.1.now ∷ []) }
@@ -45,7 +45,7 @@ fn two_words(line: &[u8]) -> Option<(&[u8], &[u8])>
     Some((first, only_word(rest)?))
 }
 
-// The words of a line that has three.
+// Returns the words of a line that has three.
 fn three_words(line: &[u8]) -> Option<(&[u8], &[u8], &[u8])>
     ensures { MatchOption result (length (words_of line.now) ≢ 3)
         (λ words. words_of line.now ≡ words.0.now ∷ words.1.now ∷ words.2.now ∷ []) }
@@ -131,7 +131,7 @@ fn read(operands: &[u8]) -> Option<Operation>
     })
 }
 
-// What was read, or else that there is nothing to read.
+// Returns what was read, or an error if there was nothing to read.
 fn readable<T>(option: Option<T>) -> Result<T, LineFault>
     ensures { Reads result option }
 {
@@ -181,7 +181,7 @@ fn read_operation(
     }
 }
 
-// What follows the register that an instruction writes.
+// Reads what follows the register that an instruction writes.
 #[tactic(auto, unfolding(crate::specs::Text::Keywords::mnemonic_of))]
 fn read_assigned(alloc: Global, target: u16, line: &[u8]) -> Result<Op, LineFault>
     ensures { Reads result (spec.assigned target (words_of line.now)) }
@@ -196,7 +196,7 @@ fn read_assigned(alloc: Global, target: u16, line: &[u8]) -> Result<Op, LineFaul
     Ok(Op::Assign { target, operation })
 }
 
-// The number of a group, its shape, and the line after them.
+// Reads the number of a group and its shape, and returns the line after them.
 // `group 00` is group 0: a group's number is compared as a number.
 #[tactic(auto, unfolding(crate::specs::Text::Keywords::shape_of_word))]
 fn group_head(line: &[u8]) -> Option<(u16, (Shape, &[u8]))>
@@ -221,7 +221,7 @@ fn read_group(alloc: Global, line: &[u8]) -> Result<Statement, LineFault>
     Ok(Statement::Group { place, group })
 }
 
-// The number of a group, and the line after it.
+// Reads the number of a group, and returns the line after it.
 fn put_head(line: &[u8]) -> Option<(u16, &[u8])>
     ensures { option_map (λ head. (head.0, words_of head.1.now)) result
         ≡ spec.put_head (words_of line.now) }
@@ -242,7 +242,7 @@ fn read_put(alloc: Global, line: &[u8]) -> Result<Op, LineFault>
     })
 }
 
-// A column of a group.
+// Reads a column of a group.
 #[tactic(auto, unfolding(crate::specs::Text::Said::group_column_of))]
 fn read_group_column(word: &[u8], place: &[u8]) -> Option<GroupColumn>
     ensures { result ≡ spec.group_column_of word.now place.now }
@@ -273,7 +273,7 @@ fn read_name(word: &[u8]) -> Option<&[u8]>
     if is_name(word) { Some(word) } else { None }
 }
 
-// A name and what it shows.
+// Reads a name and the column that it shows.
 fn show_parts(line: &[u8]) -> Option<(&[u8], GroupColumn)>
     ensures { option_map (λ parts. record { name = parts.0.now; column = parts.1 }) result
         ≡ spec.show_of (words_of line.now) }
@@ -347,7 +347,7 @@ fn read_sort_line(line: &[u8]) -> Option<Statement>
     Some(Statement::Sort(read_sort(line)?))
 }
 
-// What follows a keyword.
+// Reads what follows a keyword.
 #[tactic(auto, unfolding(crate::specs::Text::Said::by_keyword))]
 fn by_keyword(alloc: Global, keyword: Keyword, line: &[u8]) -> Result<Statement, LineFault>
     ensures { Reads result (spec.by_keyword keyword (words_of line.now)) }
@@ -366,7 +366,7 @@ fn by_keyword(alloc: Global, keyword: Keyword, line: &[u8]) -> Result<Statement,
     }
 }
 
-// What an instruction that writes a register says, by its first word and what follows it.
+// Reads an instruction that writes a register, from its first word and the line after it.
 fn read_instruction(alloc: Global, word: &[u8], line: &[u8]) -> Result<Statement, LineFault>
     ensures { Reads result (spec.by_first None word.now (words_of line.now)) }
 {
@@ -385,7 +385,7 @@ fn read_words(alloc: Global, line: &[u8]) -> Result<Statement, LineFault>
     }
 }
 
-/// What a line says, if it says something.
+/// Reads the statement of a line, if it is one.
 #[tactic(auto, unfolding(crate::specs::Text::Said::said))]
 pub(crate) fn read_line(alloc: Global, line: &[u8]) -> Result<Statement, LineFault>
     ensures { Reads result (spec.said line.now) }

@@ -1,11 +1,11 @@
-// What one line of a program's text says.
+// The statement of one line of a program's text.
 
 use crate::group::GroupDecl;
 use crate::op::Op;
 use crate::program::Show;
 use star_schema::{SortKey, TableId};
 
-/// What one line says. A scan's body stands between its line and its `End`.
+/// The statement of one line. A scan's body is between its line and its `End`.
 #[derive(Drop)]
 pub enum Statement {
     Header,

@@ -1,4 +1,4 @@
-// The lines of a program, written.
+// Writing the statements of a program.
 
 ghost use Rattle.std.specs.Prelude.{◌≡◌, ◌++◌, ℕ, List, OnOk, codes, decimal};
 ghost use Rattle.std.specs.Fmt.{signed_decimal};
@@ -24,16 +24,16 @@ pub(crate) fn push_register(out: &mut Vec<u8>, register: u16) -> Result<(), Allo
     out.extend_from_slice(text.as_bytes())
 }
 
-/// What is written one after another.
+/// An item that is written after others.
 pub(crate) trait Written {
     ghost text: { Self → List ℕ };
 
-    /// Adds its text.
+    /// Appends its text.
     fn push(&self, out: &mut Vec<u8>) -> Result<(), AllocError>
         ensures { OnOk result (out.new.items ≡ out.old.items ++ text self.now) };
 }
 
-/// Adds each of some, in order.
+/// Appends each of some items, in order.
 pub(crate) fn push_each<T: Written>(out: &mut Vec<u8>, items: &[T]) -> Result<(), AllocError>
     ensures { OnOk result (out.new.items ≡ out.old.items ++ flat_map T.text items.now) }
 {
@@ -52,7 +52,7 @@ impl Written for u16 {
     }
 }
 
-// Adds what begins an instruction that writes a register.
+// Appends the start of an instruction that writes a register.
 #[tactic(auto, unfolding(crate::specs::Text::Written::target_text))]
 fn push_target(out: &mut Vec<u8>, target: u16, mnemonic: Mnemonic) -> Result<(), AllocError>
     ensures { OnOk result (out.new.items ≡ out.old.items ++ spec.target_text target mnemonic) }
@@ -61,7 +61,7 @@ fn push_target(out: &mut Vec<u8>, target: u16, mnemonic: Mnemonic) -> Result<(),
     out.extend_from_slice(text.as_bytes())
 }
 
-// Adds an operator on two registers.
+// Appends an operator on two registers.
 fn push_binary(
     out: &mut Vec<u8>,
     target: u16,
@@ -85,7 +85,7 @@ fn push_column(out: &mut Vec<u8>, column: ColumnId) -> Result<(), AllocError>
     out.extend_from_slice(text.as_bytes())
 }
 
-// Adds an edge of a text.
+// Appends an edge of a text.
 fn push_edge(
     out: &mut Vec<u8>,
     target: u16,
@@ -103,7 +103,7 @@ fn push_edge(
     push_quoted(out, text)
 }
 
-// Adds a constant.
+// Appends a constant.
 fn push_constant(out: &mut Vec<u8>, target: u16, number: i64) -> Result<(), AllocError>
     ensures { OnOk result (out.new.items ≡ out.old.items
         ++ (spec.target_text target mnemonic.Const ++ (codes " " ++ signed_decimal number))) }
@@ -113,7 +113,7 @@ fn push_constant(out: &mut Vec<u8>, target: u16, number: i64) -> Result<(), Allo
     out.extend_from_slice(text.as_bytes())
 }
 
-// Adds the total of an aggregate.
+// Appends the total of an aggregate.
 fn push_read(
     out: &mut Vec<u8>,
     target: u16,
@@ -131,7 +131,7 @@ fn push_read(
     out.extend_from_slice(text.as_bytes())
 }
 
-// Adds a look-up of a row.
+// Appends a look-up of a row.
 fn push_find(out: &mut Vec<u8>, target: u16, table: TableId, key: u16) -> Result<(), AllocError>
     ensures { OnOk result (out.new.items ≡ out.old.items
         ++ (spec.target_text target mnemonic.Find
@@ -143,7 +143,7 @@ fn push_find(out: &mut Vec<u8>, target: u16, table: TableId, key: u16) -> Result
     push_register(out, key)
 }
 
-// Adds an update of a group.
+// Appends an update of a group.
 fn push_put(out: &mut Vec<u8>, group: u16, keys: &[u16], values: &[u16]) -> Result<(), AllocError>
     ensures { OnOk result (out.new.items ≡ out.old.items
         ++ (codes "put " ++ (decimal group ++
@@ -200,7 +200,7 @@ fn push_keep(out: &mut Vec<u8>, flag: u16) -> Result<(), AllocError>
     push_register(out, flag)
 }
 
-// Adds an instruction that writes a register.
+// Appends an instruction that writes a register.
 #[tactic(auto, unfolding(crate::specs::Text::Written::assigned_text))]
 fn push_assigned(out: &mut Vec<u8>, target: u16, source: &Operation) -> Result<(), AllocError>
     ensures { OnOk result (out.new.items ≡ out.old.items ++ spec.assigned_text target source.now) }
@@ -229,7 +229,7 @@ fn push_assigned(out: &mut Vec<u8>, target: u16, source: &Operation) -> Result<(
     }
 }
 
-// Adds an instruction.
+// Appends an instruction.
 #[tactic(auto, unfolding(crate::specs::Text::Written::op_text))]
 pub(crate) fn push_op(out: &mut Vec<u8>, op: &Op) -> Result<(), AllocError>
     ensures { OnOk result (out.new.items ≡ out.old.items ++ spec.op_text op.now) }
@@ -266,7 +266,7 @@ impl Written for Aggregate {
     }
 }
 
-// Adds a group by its number.
+// Appends a group by its number.
 #[tactic(auto, unfolding(crate::specs::Text::Written::group_text))]
 pub(crate) fn push_group(out: &mut Vec<u8>, place: u16, group: &GroupDecl) -> Result<(), AllocError>
     ensures { OnOk result (out.new.items ≡ out.old.items ++ spec.group_text place group.now) }
@@ -279,7 +279,7 @@ pub(crate) fn push_group(out: &mut Vec<u8>, place: u16, group: &GroupDecl) -> Re
     push_each(out, group.aggregates.as_slice())
 }
 
-// Adds which column of a group is meant.
+// Appends the column of a group.
 #[tactic(auto, unfolding(crate::specs::Text::Written::written_column))]
 fn push_place(out: &mut Vec<u8>, column: GroupColumn) -> Result<(), AllocError>
     ensures { OnOk result (out.new.items ≡ out.old.items ++ spec.written_column column) }
