@@ -23,7 +23,7 @@ HABITS = (
     habit("tell", r"\b(?:fore)?(?:tell|tells|told|telling)\b", 0),
     habit("stand", r"\b(?:stand|stands|stood)\b", 0),
     habit("so as a connective", r"(?:[,;] so|^so|\. So)\b(?! that)", 1),
-    habit("words for arguments", r"\bwords (?:of(?! (?:the least|one|this|some|a width|8))|that|for|ask)\b", 0.3),
+    habit("words for arguments", r"\bwords (?:of|that|for|ask)\b", 0.3),
     habit("behind", r"\bbehind\b", 0),
     habit("alone for only", r"\balone\b", 0.2),
     habit("want of memory", r"\bwant of memory\b", 0),
@@ -45,9 +45,10 @@ def prose_of(files: list[Path]) -> str:
 
 
 def comments_of(crates: Path) -> str:
-    """Returns the docstrings and comments of the crates' sources and definitions, without quoted code."""
+    """Returns the docstrings and comments of the crates' sources and definitions, without quoted code and machine words."""
     sources = (file for name in CRATES_IN_BOUNDS for part in ("src", "specs") for file in sorted((crates / name / part).rglob("*.*t")))
-    return NOT_PROSE.sub(" ", "\n".join(line for file in sources for line in COMMENT.findall(file.read_text(encoding="utf-8"))))
+    text = "\n".join(line for file in sources for line in COMMENT.findall(file.read_text(encoding="utf-8")))
+    return re.sub(r"\bwords\b", "numbers", NOT_PROSE.sub(" ", text))
 
 
 def habits_above(text: str, place: str) -> Iterator[str]:

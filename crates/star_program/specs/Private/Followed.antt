@@ -1,4 +1,4 @@
--- A step alone as code, and a code with another after it.
+-- A step by itself as code, and code with other code after it.
 use Rattle.star_program.specs.{Code.Code, Code.Stop, Code.Then, Code.Each, CodeOfSteps.before}
 use Rattle.star_program.specs.declared.body.Step.{Step}
 

@@ -1,4 +1,4 @@
--- The cell that something kept stands for.
+-- The cell in a storage.
 use Rattle.star_program.specs.declared.outcome.{Cell.Cell, Kept.Kept}
 use Rattle.star_program.specs.declared.outcome.Cell.TheVariants as cell
 use Rattle.star_program.specs.declared.outcome.Kept.TheVariants.{Number, Wide, Text, All, Null}

@@ -1,4 +1,4 @@
--- The limits of a program, as far as a place in its text tells them.
+-- The limits of a program, as far as the state of its text determines them.
 use Rattle.std.specs.Prelude.{◌≤◌}
 use Rattle.star_program.specs.declared.spelling.place.Place.{Place}
 

@@ -1,9 +1,9 @@
--- The words of the faults of a program's text.
+-- The printed form of text errors.
 use Rattle.std.specs.Prelude.{◌++◌, ℕ, List, codes, decimal}
 use Rattle.star_program.specs.declared.spelling.fault.TextFault.{TextFault}
 use Rattle.star_program.specs.declared.spelling.fault.TextFault.TheVariants.{OutOfMemory, BadHeader, BadLine, OpenScan, TooLarge}
 
--- the number and name of a fault, and its line
+-- the number and name of an error, with its line
 unfoldable pub text_fault_text : TextFault → List ℕ
 text_fault_text OutOfMemory = codes "1 OutOfMemory"
 text_fault_text BadHeader = codes "50 BadHeader"

@@ -1,4 +1,5 @@
--- The first fault of a text: its lines in order, how many of each kind there may be, and how deep scans lie in one another.
+-- The first error of a text: the order of its lines, the number of each kind, and the nesting depth
+-- of scans.
 use Rattle.std.specs.Prelude.{◌≡◌, ◌==◌, ◌+◌, ◌-◌, ◌&&◌, if◌then◌else◌, Bool, true, false, ℕ, List, [], ◌∷◌, Option, Some, None, Result, Ok, Err, codes, length, nat_le, nat_lt}
 use Rattle.star_common.specs.Memory.{UnlessMemory}
 use Rattle.star_program.specs.Text.{Keywords.same, Lines.is_blank_line, Lines.lines_of, Lines.words_of, Said.said}
@@ -11,7 +12,7 @@ use Rattle.star_program.specs.declared.spelling.statement.Statement.TheVariants 
 unfoldable pub start : Place
 start = record { stage = stage.Header; groups = 0; instructions = 0; depth = 0; shows = 0; sorts = 0 }
 
--- after an instruction, the line or the end of a scan, or the report after the last scan
+-- after an instruction, the first or last line of a scan, or the report after the last scan
 abbrev pub place_after_step : Place → Statement → Option Place
 place_after_step p (says.Act op) = Some (record p { stage = stage.Body; instructions = p.instructions + 1 })
 place_after_step p (says.Scan table t) = Some (record p { stage = stage.Body; instructions = p.instructions + 1; depth = p.depth + 1 })
@@ -19,7 +20,7 @@ place_after_step p says.End = if p.depth == 0 then None else Some (record p { de
 place_after_step p (says.Report g) = if p.depth == 0 then Some (record p { stage = stage.Shows }) else None
 place_after_step p s = None
 
--- after a statement in a part of the program, if it may stand there: groups are numbered in order
+-- after a statement in a part of the program, if it is allowed there: groups are numbered in order
 abbrev pub after_in : Stage → Place → Statement → Option Place
 after_in stage.Header p says.Header = Some (record p { stage = stage.Registers })
 after_in stage.Registers p (says.Registers n) = Some (record p { stage = stage.Groups })
@@ -34,17 +35,17 @@ after_in s p t = None
 unfoldable pub place_after : Place → Statement → Option Place
 place_after p s = after_in p.stage p s
 
--- the limits of a program, as far as a place tells them
+-- the limits of a program that the state determines
 unfoldable pub is_within : Place → Bool
 is_within p = nat_le p.groups 8 && (nat_le p.instructions 4096 && (nat_le p.depth 3 && (nat_le p.shows 16 && nat_le p.sorts 16)))
 
--- and as a statement tells them by itself
+-- and those that a statement by itself determines
 unfoldable pub is_small : Statement → Bool
 is_small (says.Registers n) = nat_le n 4096
 is_small (says.Group place group) = nat_le (length group.keys) 6 && nat_le (length group.aggregates) 8
 is_small s = true
 
--- a line that may not stand there
+-- a line that is not allowed there
 abbrev pub bad_in : Stage → ℕ → TextFault
 bad_in stage.Header line = fault.BadHeader
 bad_in s line = fault.BadLine line
@@ -61,11 +62,12 @@ abbrev pub reached_by : Place → ℕ → Option Statement → Result Place Text
 reached_by p line None = Err (bad_in p.stage line)
 reached_by p line (Some s) = place_reached p line s (place_after p s)
 
--- the place after a line of this number, or its fault: a report in a scan, then a line that may not stand there, then a limit
+-- the state after the line with a number, or its error: a report in a scan, then a line that is not
+-- allowed there, then a limit
 unfoldable pub advance : Place → ℕ → List ℕ → Result Place TextFault
 advance p line text = if nat_lt 0 p.depth && begins_report (words_of text) then Err fault.OpenScan else reached_by p line (said text)
 
--- the fault of a text that ends there, where the next line would have this number
+-- the error of a text that ends there, before the line with this number
 abbrev pub end_in : Stage → ℕ → ℕ → Option TextFault
 end_in stage.Header depth line = Some fault.BadHeader
 end_in stage.Registers depth line = Some (fault.BadLine line)
@@ -77,21 +79,21 @@ abbrev pub then_from : Result Place TextFault → (Place → Option TextFault) �
 then_from (Err f) go = Some f
 then_from (Ok p) go = go p
 
--- the first fault of lines that count from a number; blank ones count and are skipped
+-- the first error of lines that are numbered from a number on; blank ones count and are skipped
 unfoldable pub lines_fault : Place → ℕ → List (List ℕ) → Option TextFault
 lines_fault p line [] = end_in p.stage p.depth line
 lines_fault p line (text ∷ texts) =
     if is_blank_line text then lines_fault p (line + 1) texts
     else then_from (advance p line text) (λ q. lines_fault q (line + 1) texts)
 
--- the first fault of a text that spells no program within the limits
+-- the first error of a text that spells no program within the limits
 unfoldable pub program_text_fault : List ℕ → Option TextFault
 program_text_fault text = lines_fault start 1 (lines_of text)
 
--- this is the first fault of the text
+-- this is the first error of the text
 abbrev pub FirstTextFault : List ℕ → TextFault → Type 0
 FirstTextFault text f = program_text_fault text ≡ Some f
 
--- there was no memory, or this is the first fault of the text
+-- memory ran out, or this is the first error of the text
 abbrev pub IsFirstTextFault : List ℕ → TextFault → Type 0
 IsFirstTextFault text f = UnlessMemory fault.OutOfMemory f (FirstTextFault text f)

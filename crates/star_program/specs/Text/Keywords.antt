@@ -1,4 +1,4 @@
--- The fixed words of a program.
+-- The keywords of programs.
 use Rattle.std.specs.Prelude.{ℕ, List, Option, codes, nat_eq, Bool}
 use Rattle.std.specs.Cmp.Lexicographic.{pointwise}
 use Rattle.star_schema.specs.declared.{column.ColumnId.ColumnId, column.TheConstants.COLUMNS, table.TableId.TableId, table.TheConstants.TABLES, group.Shape.Shape, group.Aggregate.Aggregate, group.Direction.Direction, group.TheConstants.SHAPES, group.TheConstants.AGGREGATES, group.TheConstants.DIRECTIONS}
@@ -12,7 +12,7 @@ use Rattle.star_program.specs.declared.spelling.keyword.Mnemonic.TheVariants as 
 abbrev pub same : List ℕ → List ℕ → Bool
 same a b = pointwise nat_eq a b
 
--- the first word of a line, but for a register
+-- the first word of a line that does not begin with a register
 unfoldable pub keyword_name : Keyword → List ℕ
 keyword_name keyword.Star = codes "star"
 keyword_name keyword.Registers = codes "registers"
@@ -28,7 +28,7 @@ keyword_name keyword.Sort = codes "sort"
 unfoldable pub keyword_of : List ℕ → Option Keyword
 keyword_of word = named keyword_name KEYWORDS word
 
--- the word of an operation
+-- the keyword of an operation
 unfoldable pub mnemonic_name : Mnemonic → List ℕ
 mnemonic_name mnemonic.Const = codes "const"
 mnemonic_name (mnemonic.Edge edge.Low) = codes "low"

@@ -1,4 +1,4 @@
--- The words of a program that write numbers, registers and names.
+-- Numbers, registers and names in programs.
 use Rattle.std.specs.Prelude.{◌==◌, ◌&&◌, ◌||◌, if◌then◌else◌, Bool, ℕ, ℤ, List, Option, Some, None, drop, length, nat_le, neg_ℤ, pos}
 use Rattle.std.specs.{List.list_all, Option.option_map, Char.is_ascii_alphanumeric, Str.Parse.starts_with_minus}
 use Rattle.star_common.specs.Numerals.{numeral_of}
@@ -8,11 +8,11 @@ abbrev pub up_to : ℕ → Option ℕ → Option ℕ
 up_to most None = None
 up_to most (Some n) = if nat_le n most then Some n else None
 
--- counts and places: 1 to 4 digits
+-- a count or an index: 1 to 4 digits
 unfoldable pub count_of : List ℕ → Option ℕ
 count_of word = numeral_of 4 word
 
--- a constant: a minus or none, and 1 to 19 digits, within 64 bits
+-- a constant: an optional minus and 1 to 19 digits, within 64 bits
 unfoldable pub constant_of : List ℕ → Option ℤ
 constant_of word =
     if starts_with_minus word then option_map (λ n. neg_ℤ (pos n)) (up_to 9223372036854775808 (numeral_of 19 (drop 1 word)))

@@ -1,4 +1,4 @@
--- What a line of a program says, by its words.
+-- The statement of a line.
 use Rattle.std.specs.Prelude.{ℕ, ◌==◌, ◌&&◌, if◌then◌else◌, List, [], ◌∷◌, Option, Some, None, codes, filter, map, not}
 use Rattle.std.specs.{List.list_all, Option.option_and_then, Option.option_map}
 use Rattle.star_common.specs.Printable.{is_printable}
@@ -14,7 +14,7 @@ use Rattle.star_program.specs.declared.spelling.keyword.Keyword.TheVariants as k
 use Rattle.star_program.specs.declared.spelling.keyword.Mnemonic.TheVariants as mnemonic
 use Rattle.star_program.specs.declared.spelling.statement.Statement.TheVariants as says
 
--- ---- words read one after another, up to the end of the line
+-- ---- words in order, up to the end of the line
 
 abbrev pub both : {A B : Type 0} → Option A → Option B → Option (A × B)
 both None b = None
@@ -50,13 +50,13 @@ until_colon f (w ∷ ws) =
     if same w (codes ":") then Some ([], ws)
     else option_map (λ (x, (xs, rest)). (x ∷ xs, rest)) (both (f w) (until_colon f ws))
 
--- two lists parted by a colon
+-- two lists separated by a colon
 abbrev pub lists : {A B : Type 0} → (List ℕ → Option A) → (List ℕ → Option B) → List (List ℕ) → Option (List A × List B)
 lists f g ws = option_and_then (λ (xs, rest). option_map (λ ys. (xs, ys)) (each g rest)) (until_colon f ws)
 
 -- ---- quoted texts
 
--- what stands before the quote that closes a text; two quotes are one of the text's
+-- the text before the closing quote; two quotes are one
 unfoldable pub unquoted : List ℕ → Option (List ℕ)
 unquoted [] = None
 unquoted (b ∷ []) = if b == 39 then Some [] else option_map (λ text. b ∷ text) None
@@ -65,14 +65,14 @@ unquoted (b ∷ c ∷ rest) =
     else if b == 39 then (if is_blank_line (c ∷ rest) then Some [] else None)
     else option_map (λ text. b ∷ text) (unquoted (c ∷ rest))
 
--- a text in quotes, in which a quote is doubled
+-- a quoted text, in which a quote is doubled
 abbrev pub quoted_text_of : List ℕ → Option (List ℕ)
 quoted_text_of [] = None
 quoted_text_of (b ∷ rest) = if b == 39 then unquoted rest else None
 
 -- ---- statements
 
--- an operation, by the words behind its own
+-- an operation, from its keyword and the other words
 unfoldable pub operation_of : Mnemonic → List (List ℕ) → Option Operation
 operation_of mnemonic.Const ws = option_map operation.Const (from_one_word constant_of ws)
 operation_of (mnemonic.Edge e) ws = option_map (λ (c, text). operation.Edge e c text) (from_two_words column_of_word quoted_text_of ws)
@@ -83,13 +83,14 @@ operation_of mnemonic.Within ws = option_map (λ (x, (a, b)). operation.Within x
 operation_of mnemonic.Not ws = option_map operation.Not (from_one_word register_of ws)
 operation_of mnemonic.Read ws = option_map (λ (g, (a, n)). operation.Read g a n) (from_three_words count_of count_of constant_of ws)
 
--- what follows the register that an instruction writes: an equals sign, an operation's word, operands
+-- the words after the register that an instruction writes: an equals sign, an operation's keyword,
+-- operands
 abbrev pub assigned : ℕ → List (List ℕ) → Option Op
 assigned t [] = None
 assigned t (w ∷ []) = None
 assigned t (w ∷ name ∷ ws) = if same w (codes "=") then option_map (op.Assign t) (option_and_then (λ m. operation_of m ws) (mnemonic_of name)) else None
 
--- the key of a column, which has texts
+-- the key of a text column
 abbrev pub text_key : ColumnId → Option GroupKey
 text_key c = if is_text c then Some (key.Text c) else None
 
@@ -118,7 +119,7 @@ put_of ws = option_and_then (λ (group, rest). option_map (λ (keys, values). op
 abbrev pub name_of : List ℕ → Option (List ℕ)
 name_of word = if is_show_name word then Some word else None
 
--- which column of a group
+-- a column of a group
 unfoldable pub group_column_of : List ℕ → List ℕ → Option GroupColumn
 group_column_of word place =
     if same word (codes "key") then option_map column.Key (count_of place)
@@ -143,7 +144,7 @@ abbrev pub end_of : List (List ℕ) → Option Statement
 end_of [] = Some says.End
 end_of (w ∷ ws) = None
 
--- what follows a keyword
+-- the words after a keyword
 unfoldable pub by_keyword : Keyword → List (List ℕ) → Option Statement
 by_keyword keyword.Star ws = header_of ws
 by_keyword keyword.Registers ws = option_map says.Registers (from_one_word count_of ws)
@@ -156,7 +157,7 @@ by_keyword keyword.Report ws = option_map says.Report (from_one_word count_of ws
 by_keyword keyword.Show ws = option_map says.Show (show_of ws)
 by_keyword keyword.Sort ws = option_map says.Sort (sort_of ws)
 
--- a keyword and what follows it, or the register that an instruction writes
+-- a keyword and the words after it, or the register that an instruction writes
 abbrev pub by_first : Option Keyword → List ℕ → List (List ℕ) → Option Statement
 by_first (Some k) w ws = by_keyword k ws
 by_first None w ws = option_and_then (λ t. option_map says.Act (assigned t ws)) (register_of w)
@@ -165,10 +166,10 @@ unfoldable pub by_words : List (List ℕ) → Option Statement
 by_words [] = None
 by_words (w ∷ ws) = by_first (keyword_of w) w ws
 
--- what a line says, if it says something: its bytes are printable
+-- the statement of a line, if it is one; its bytes are printable
 unfoldable pub said : List ℕ → Option Statement
 said line = if list_all is_printable line then by_words (words_of line) else None
 
--- what lines say that aren't blank, one after another
+-- the statements of the lines that are not blank, in order
 abbrev pub said_in : List (List ℕ) → List (Option Statement)
 said_in lines = map said (filter (λ line. not (is_blank_line line)) lines)

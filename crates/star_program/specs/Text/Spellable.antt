@@ -1,4 +1,4 @@
--- Which programs a text can spell.
+-- Programs that some text spells.
 use Rattle.std.specs.Prelude.{◌≡◌, ◌≤◌, ℕ, List, All, true}
 use Rattle.std.specs.List.{list_all}
 use Rattle.star_common.specs.Printable.{is_printable}
@@ -12,11 +12,11 @@ use Rattle.star_program.specs.declared.op.Op.TheVariants as op
 use Rattle.star_program.specs.declared.op.Operation.TheVariants as operation
 use Rattle.star_program.specs.declared.spelling.statement.Statement.TheVariants as says
 
--- the number of a register, a count or a place has at most four digits
+-- a register number, a count or an index has at most four digits
 abbrev pub HasFourDigits : ℕ → Type 0
 HasFourDigits n = n ≤ 9999
 
--- a text has printable bytes alone
+-- a text has only printable bytes
 abbrev pub IsPrinted : List ℕ → Type 0
 IsPrinted text = list_all is_printable text ≡ true
 
@@ -24,7 +24,7 @@ abbrev pub IsShortColumn : GroupColumn → Type 0
 IsShortColumn (column.Key k) = HasFourDigits k
 IsShortColumn (column.Aggregate a) = HasFourDigits a
 
--- a key of a group is a number or of a column of texts
+-- a key of a group is a number or belongs to a text column
 abbrev pub IsKey : GroupKey → Type 0
 IsKey key.Number = Unit {0}
 IsKey (key.Text c) = is_text c ≡ true
@@ -44,7 +44,7 @@ IsSpellableOp (op.Assign t o) = HasFourDigits t × IsSpellableOperation o
 IsSpellableOp (op.Keep f) = HasFourDigits f
 IsSpellableOp (op.Put g keys values) = HasFourDigits g × All HasFourDigits keys × All HasFourDigits values
 
--- a statement that some line says
+-- some line is this statement
 abbrev pub IsSayable : Statement → Type 0
 IsSayable says.Header = Unit {0}
 IsSayable (says.Registers n) = HasFourDigits n
@@ -56,18 +56,18 @@ IsSayable (says.Report g) = HasFourDigits g
 IsSayable (says.Show show) = (is_show_name show.name ≡ true) × IsShortColumn show.column
 IsSayable (says.Sort key) = IsShortColumn key.column
 
--- a program that some text spells: each of its statements can be said
+-- some text spells the program: each of its statements can be written
 abbrev pub IsSpellable : Parts → Type 0
 IsSpellable p = All IsSayable (program_statements p)
 
--- the text of a program that can be spelled spells it
+-- the text of a spellable program spells it
 abbrev pub Written : Type 0
 Written = (p : Parts) → IsSpellable p → Spells (program_text p) p
 
--- no text spells another
+-- no text spells any other program
 abbrev pub OnlySpellable : Type 0
 OnlySpellable = (text : List ℕ) (p : Parts) → Spells text p → IsSpellable p
 
--- so where some text spells a program, its own text does
+-- if some text spells a program, its own text does
 abbrev pub WrittenBack : Type 0
 WrittenBack = (text : List ℕ) (p : Parts) → Spells text p → Spells (program_text p) p

@@ -1,14 +1,14 @@
--- Which programs a text spells (this project's text of programs).
+-- Which program a text spells (this project's text of programs).
 use Rattle.std.specs.Prelude.{◌≡◌, ℕ, List, Some, Result, MatchResult, map}
 use Rattle.star_program.specs.Text.{Lines.lines_of, Said.said_in, Statements.lines_of_program}
 use Rattle.star_program.specs.declared.{program.Parts.Parts, spelling.fault.TextFault.TextFault, spelling.statement.Statement.Statement}
 use Rattle.star_program.specs.declared.spelling.fault.TextFault.TheVariants as fault
 
--- what the lines of a program say, one after another
+-- the statements of a program's lines, in order
 abbrev pub program_statements : Parts → List Statement
 program_statements p = map (λ line. line.says) (lines_of_program p)
 
--- a text spells a program: its lines that aren't blank say the program's statements, one after another
+-- a text spells a program: its lines that are not blank are the program's statements, in order
 unfoldable pub Spells : List ℕ → Parts → Type 0
 Spells text p = said_in (lines_of text) ≡ map Some (program_statements p)
 

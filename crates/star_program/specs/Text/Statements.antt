@@ -1,4 +1,4 @@
--- The statements of a program, a line each, and how deep in scans each stands.
+-- The statements of a program, one for each line, with the nesting depth of scans.
 use Rattle.std.specs.Prelude.{ℕ, ◌+◌, List, [], ◌∷◌, ◌++◌, map}
 use Rattle.std.specs.List.{enumerate_from}
 use Rattle.star_program.specs.Code.{Code, Stop, Then, Each}
@@ -7,7 +7,7 @@ use Rattle.star_program.specs.declared.spelling.statement.Statement.TheVariants.
 use Rattle.star_program.specs.declared.spelling.statement.Statement.TheVariants as says
 use Rattle.star_schema.specs.declared.group.SortKey.{SortKey}
 
--- a statement, and how many scans stand round it
+-- a statement, and the number of enclosing scans
 pub record Line : Type 0 where
   pub depth : ℕ
   pub says : Statement
@@ -15,7 +15,7 @@ pub record Line : Type 0 where
 abbrev pub line : ℕ → Statement → Line
 line depth says = record { depth = depth; says = says }
 
--- a scan is its line, its body and an end
+-- a scan is its first line, its body and an end
 unfoldable pub lines_of_code : ℕ → Code → List Line
 lines_of_code depth Stop = []
 lines_of_code depth (Then op rest) = line depth (Act op) ∷ lines_of_code depth rest
@@ -31,7 +31,8 @@ show_line show = line 0 (says.Show show)
 abbrev pub sort_line : SortKey → Line
 sort_line key = line 0 (says.Sort key)
 
--- the header, the registers, the groups by their numbers, the body, the report, its columns and what sorts it
+-- the header, the registers, the groups in order, the body, the report, its columns and its sort
+-- keys
 abbrev pub lines_of_program : Parts → List Line
 lines_of_program p =
     line 0 Header ∷ line 0 (Registers p.registers)

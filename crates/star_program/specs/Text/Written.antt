@@ -1,4 +1,4 @@
--- How a program is written.
+-- The text of a program.
 use Rattle.std.specs.Prelude.{ℕ, ◌*◌, List, [], ◌∷◌, ◌++◌, codes, decimal, replicate}
 use Rattle.std.specs.{Fmt.signed_decimal, List.flat_map}
 use Rattle.star_common.specs.Quotes.{quoted}
@@ -15,7 +15,7 @@ use Rattle.star_program.specs.declared.spelling.statement.Statement.TheVariants 
 unfoldable pub register_text : ℕ → List ℕ
 register_text r = codes " r" ++ decimal r
 
--- what begins an instruction that writes a register
+-- the start of an instruction that writes a register
 unfoldable pub target_text : ℕ → Mnemonic → List ℕ
 target_text t m = codes "r" ++ (decimal t ++ (codes " = " ++ mnemonic_name m))
 
@@ -68,7 +68,7 @@ statement_text (says.Report g) = codes "report " ++ decimal g
 statement_text (says.Show show) = show_text show
 statement_text (says.Sort key) = sort_text key
 
--- two spaces for each scan round it, the statement, and a line feed
+-- two spaces for each enclosing scan, the statement, and a line feed
 unfoldable pub written_line : Line → List ℕ
 written_line l = replicate (2 * l.depth) 32 ++ (statement_text l.says ++ 10 ∷ [])
 
