@@ -16,6 +16,7 @@ from repository import libraries
 
 NAME = re.compile(r"\bRattle\.(star_\w+\.(?:specs|proofs)(?:\.[\w'+-]+)*)")
 ERROR = re.compile(r"^\./proofs/(\w+?)\.antt:(\d+):\d+: error(.*)$", re.M)
+GROUPED = re.compile(r"^((?:pub )?use Rattle\.star_\w+(?:\.\w+)+)\.\{([^}]*\w\.\w[^}]*)\}$", re.M)
 # The crate of copies, the crate of worked rows, and the function whose proof cites the copies: only it is checked.
 CRATE, ROWS, ANCHOR = "star_planted", "star_examples", "planted"
 
@@ -27,6 +28,15 @@ class Module(NamedTuple):
     path: Path
     text: str
     cites: frozenset[str]
+
+
+def one_by_one(text: str) -> str:
+    """Returns a file with an import for each name where one import names several modules."""
+    def imports(found: re.Match) -> str:
+        names = (it.strip().partition(" as ") for it in found[2].split(","))
+        paths = ((name.rpartition("."), alias and f" as {alias}") for name, _, alias in names)
+        return "\n".join(f"{found[1]}{'.' * bool(below)}{below}.{{{name}{alias}}}" for (below, _, name), alias in paths)
+    return GROUPED.sub(imports, text)
 
 
 def module_in(name: str, known: Iterable[str]) -> str | None:
@@ -41,7 +51,7 @@ def modules_of(top: Path) -> dict[str, Module]:
     for path in [*sorted(top.glob("crates/*/specs/**/*.antt")), *sorted(top.glob("crates/*/proofs/**/*.antt"))]:
         parts = path.relative_to(top / "crates").with_suffix("").parts
         if parts[-1] != "Lib":
-            files[".".join(parts)] = (parts[0], path, path.read_text(encoding="utf-8"))
+            files[".".join(parts)] = (parts[0], path, one_by_one(path.read_text(encoding="utf-8")))
     cites = lambda name, text: frozenset({module_in(it, files) for it in NAME.findall(text)} - {None, name})
     return {name: Module(crate, path, text, cites(name, text)) for name, (crate, path, text) in files.items()}
 
@@ -149,7 +159,7 @@ class Room:
             module = module_in(found[1], self.modules)
             copy = cited(module) if module else None
             return copy + found[1][len(module) :] if copy else found[0]
-        return NAME.sub(name, text)
+        return NAME.sub(name, one_by_one(text))
 
     def words(self, home: str) -> list[str]:
         """Returns the prover's arguments. The crates below are read from their sources, or as a clone has built them."""

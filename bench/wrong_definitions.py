@@ -149,9 +149,9 @@ def imported(text: str, change: str) -> str:
     """Returns a file with an import of the token that a wrong definition introduces, if it lacks one."""
     new = change.split(" -> ")[1] if " -> " in change else ""
     name = f"◌{new}◌" if new in OPERATORS else new
-    known = re.findall(r"[^\s,{}]+", "\n".join(it for it in text.split("\n") if it.startswith("use ")))
-    head = "use Rattle.std.specs.Prelude.{"
-    return text if new not in PRELUDE or name in known else text.replace(head, f"{head}{name}, ", 1)
+    names = re.findall(r"[^\s,{}]+", "\n".join(it for it in text.split("\n") if it.startswith("use ")))
+    known = new not in PRELUDE or name in (it.rpartition(".")[2] for it in names)
+    return text if known else re.sub("^use ", f"use Rattle.std.specs.Prelude.{{{name}}}\nuse ", text, count=1, flags=re.M)
 
 
 def changes(text: str, found: list[Clause], at: int) -> Iterator[tuple[str, str]]:
