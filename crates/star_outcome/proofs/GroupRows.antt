@@ -1,10 +1,10 @@
--- The rows of a group: they stand apart by their keys, and agree on what is NULL.
+-- The rows of a group: each has its keys, no two have the same, and they agree on what is NULL.
 use Rattle.std.proofs.Common.{◌≡◌, ◌<◌, ⊎_elim, inl, inr, ℕ, zero, suc, ◌+◌, Bool, true, false, true≢false, cond, ℤ, List, [], ◌∷◌, Option, Some, None, length, get_or, map, arith, ap, subst, sym, refl, ◌∙◌}
 use Rattle.std.specs.Prelude.{IsPermutation, replicate}
 use Rattle.std.specs.List.{AllByRecursion, Contains, filter}
 use Rattle.std.specs.Option.{is_some}
 use Rattle.std.specs.declared.cmp.Ordering.{Ordering}
-use Rattle.std.proofs.lemmas.List.{get_or-map, length-map}
+use Rattle.std.proofs.lemmas.List.{get_or-map, length-map, length-replicate}
 use Rattle.std.proofs.lemmas.List.Sorted.{Contains-permutation, IsPermutation-sym}
 use Rattle.std.proofs.lemmas.Map.Made.{IsDistinct-from_AllPairs}
 use Rattle.std.proofs.lemmas.Option.{slice_get-get_or}
@@ -12,7 +12,7 @@ use Rattle.star_schema.specs.declared.group.Aggregate.{Aggregate}
 use Rattle.star_schema.specs.declared.group.Aggregate.TheVariants.{Sum, Count, Min, Max}
 use Rattle.star_schema.specs.declared.group.Shape.{Shape}
 use Rattle.star_schema.specs.Groups.{AreGroups, Entry, GroupRow as Row, IsGroup, aggregate, belongs, joined, joined_with, members, totals_from}
-use Rattle.star_common.proofs.Members.{contains_cases, contains_here, contains_mapped, contains_none}
+use Rattle.star_common.proofs.Members.{at_each, contains_cases, contains_here, contains_mapped, contains_none}
 use Rattle.star_program.specs.declared.key.KeyValue.{KeyValue}
 use Rattle.star_program.specs.Keys.{key_value_cmp}
 use Rattle.star_group.specs.declared.group_row.GroupRow.{GroupRow}
@@ -20,8 +20,9 @@ use Rattle.star_group.specs.Held.{has_puts}
 use Rattle.star_group.specs.StoreRows.{AreRows, row_view}
 use Rattle.star_program.specs.Puts.{Update}
 use Rattle.star_group.specs.Stores.{Group}
-use Rattle.star_group.proofs.GroupKeys.{key_decides, own_belongs}
-use Rattle.star_outcome.specs.Private.RowOrder.{AllHaveSameNulls, AreApart, HaveSameNulls, keys_of_row}
+use Rattle.star_group.proofs.GroupKeys.{key_decides, masked_length, own_belongs}
+use Rattle.star_outcome.proofs.RowOrders.{AreAlike}
+use Rattle.star_outcome.proofs.SortedRows.{AreApart, keys_of_row}
 
 -- ---- apart
 
@@ -103,22 +104,29 @@ has_members d (u ∷ us) keys fit (shown, inr all) =
     has_passing (λ v. belongs key_value_cmp keys v.keys) (u ∷ us) u (contains_here u us)
     (own_belongs d keys u (inr (subst (λ n. keys ≡ replicate n None) (sym fit.0) all)))
 
-pub groups_nulls : (d : Group) (puts : List Update) (rows : List GroupRow)
+-- the keys of a group
+group_wide : (d : Group) (us : List Update) (keys : List (Option KeyValue))
+    → AllByRecursion (λ u. length u.keys ≡ d.count) us → IsGroup d.shape d.count us keys
+    → length keys ≡ d.count
+group_wide d us keys fit (shown, inl is) =
+    masked_length keys is.0.keys is.2 ∙ at_each (λ u. length u.keys ≡ d.count) us is.0 fit is.1
+group_wide d us keys fit (shown, inr all) = ap length all ∙ length-replicate d.count None
+
+pub groups_alike : (d : Group) (puts : List Update) (rows : List GroupRow)
     → AllByRecursion (λ u. length u.keys ≡ d.count) puts
     → AreGroups key_value_cmp d.shape d.count d.aggregates puts (map row_view rows)
-    → AllHaveSameNulls rows
-groups_nulls d puts rows fit are = record { each = each }
-  where
-    each : (a b : GroupRow) → Contains rows a → Contains rows b
-        → HaveSameNulls (row_view a) (row_view b)
-    each a b in_a in_b =
-        let group_a = are.each (row_view a) (contains_mapped row_view rows a in_a) in
-        let group_b = are.each (row_view b) (contains_mapped row_view rows b in_b) in
-        let same = has_members d puts a.keys fit group_a.0
-        ∙ sym (has_members d puts b.keys fit group_b.0) in
-        record {
-          same = λ place. ap (λ ts. is_some (get_or ts place None)) group_a.1
-              ∙ same_nulls d.aggregates 0 place (members key_value_cmp a.keys puts)
-              (members key_value_cmp b.keys puts) same
-              ∙ sym (ap (λ ts. is_some (get_or ts place None)) group_b.1);
-        }
+    → (a b : GroupRow) → Contains rows a → Contains rows b
+    → AreAlike d.count (row_view a) (row_view b)
+groups_alike d puts rows fit are a b in_a in_b =
+    let group_a = are.each (row_view a) (contains_mapped row_view rows a in_a) in
+    let group_b = are.each (row_view b) (contains_mapped row_view rows b in_b) in
+    let same = has_members d puts a.keys fit group_a.0
+    ∙ sym (has_members d puts b.keys fit group_b.0) in
+    record {
+      first = group_wide d puts a.keys fit group_a.0;
+      second = group_wide d puts b.keys fit group_b.0;
+      nulls = λ place. ap (λ ts. is_some (get_or ts place None)) group_a.1
+          ∙ same_nulls d.aggregates 0 place (members key_value_cmp a.keys puts)
+          (members key_value_cmp b.keys puts) same
+          ∙ sym (ap (λ ts. is_some (get_or ts place None)) group_b.1);
+    }

@@ -1,4 +1,4 @@
--- The outcome of a run, from the sorted groups of a store.
+-- The report of a run, from the sorted groups of a store.
 use Rattle.std.proofs.Common.{◌≡◌, arith, ℕ, suc, length, List, [], ◌∷◌, Some, get_or, slice_get, map, ap, sym, subst, refl, ◌∙◌}
 use Rattle.std.specs.List.{All, AllByRecursion, Contains}
 use Rattle.std.proofs.Math.ListN.{get_or-map}
@@ -8,26 +8,22 @@ use Rattle.std.proofs.lemmas.Simd.{map-map}
 use Rattle.star_schema.specs.Database.{Database}
 use Rattle.star_schema.specs.declared.group.SortKey.{SortKey}
 use Rattle.star_schema.specs.Groups.{GroupRow as Row}
-use Rattle.star_schema.specs.Order.{AreInOrder, value_cmp}
 use Rattle.star_program.specs.declared.group.GroupDecl.{GroupDecl}
 use Rattle.star_program.specs.declared.group.GroupKey.{GroupKey}
-use Rattle.star_program.specs.declared.outcome.Outcome.{Outcome}
+use Rattle.star_program.specs.declared.outcome.Cell.{Cell}
 use Rattle.star_program.specs.declared.program.Parts.{Parts}
-use Rattle.star_program.specs.declared.program.Show.{Show}
 use Rattle.star_program.specs.declared.key.KeyValue.{KeyValue}
 use Rattle.star_program.specs.Effects.{State}
 use Rattle.star_program.specs.Faults.{group_at}
-use Rattle.star_program.specs.Outcome.{AreReportRows, IsOutcome, decoded_row, shown_cells}
+use Rattle.star_program.specs.Outcome.{decoded_row, shown_cells}
 use Rattle.star_program.specs.Puts.{Update}
 use Rattle.star_group.specs.declared.group_row.GroupRow.{GroupRow}
 use Rattle.star_group.specs.StoreRows.{AreRows as AreGroupRows, row_at, row_view}
 use Rattle.star_group.specs.Stores.{Group, group_declared}
-use Rattle.star_outcome.specs.Private.Decoded.{AreDecodable, AreSortedGroups, row_cells}
+use Rattle.star_outcome.specs.Private.Decoded.{AreDecodable, AreReported, AreSortedGroups, AreToReport, row_cells}
 use Rattle.star_outcome.specs.Done.{HasDone}
 use Rattle.star_outcome.specs.SoundKeys.{AreSoundKeys}
 use Rattle.star_world.specs.WorldOf.{world_of}
-use Rattle.star_outcome.specs.Private.LeftRows.{IsLeft}
-use Rattle.star_outcome.specs.declared.outcome.Counts.{Counts}
 use Rattle.star_outcome.specs.declared.work.Work.{Work}
 use Rattle.star_outcome.proofs.DecodedRows.{decoded_in_order, group_decodable}
 use Rattle.star_common.proofs.Members.{contains_mapped}
@@ -59,7 +55,7 @@ decodable_by_number db ds left numbers all = λ k d within.
     subst (λ (row : GroupRow). AreDecodable db ds row.keys) (get_or-map (row_at left) numbers k d)
     (all k (row_at left d) (omega (arith, within, seen)))
 
--- ---- the outcome
+-- ---- the report
 
 -- each key list has as many keys as are declared
 sound_count : (db : Database) (ds : List GroupKey) (ks : List KeyValue) → AreSoundKeys db ds ks
@@ -69,82 +65,44 @@ sound_count db (d ∷ ds) (k ∷ ks) h = ap suc (sound_count db ds ks h.1)
 sound_count db [] (k ∷ ks) h = absurd h
 sound_count db (d ∷ ds) [] h = absurd h
 
-sound_counts : (db : Database) (ds : List GroupKey) (us : List Update)
+pub sound_counts : (db : Database) (ds : List GroupKey) (us : List Update)
     → AllByRecursion (λ u. AreSoundKeys db ds u.keys) us
     → AllByRecursion (λ u. length u.keys ≡ length ds) us
 sound_counts db ds [] h = tt
 sound_counts db ds (u ∷ us) h = (sound_count db ds u.keys h.0, sound_counts db ds us h.1)
 
-pub left_counts : (db : Database) (parts : Parts) (s : State) (rows : List GroupRow)
-    (counts : Counts) → IsLeft db parts s rows counts
-    → AllByRecursion (λ u. length u.keys ≡ length (group_at parts parts.report).keys)
-    (s.updates_of parts.report)
-left_counts db parts s rows counts left =
-    sound_counts db (group_at parts parts.report).keys (s.updates_of parts.report) left.sound
-
 -- what a run has done leaves the rows of its reported store
-pub is_left : {S : Type 0} (group : S → Group) (has : S → List Update → Type 0) (db : Database)
+pub to_report : {S : Type 0} (group : S → Group) (has : S → List Update → Type 0) (db : Database)
     (parts : Parts) (work : Work S) (s : State) (store : S) (rows : List GroupRow)
     → HasDone group has db parts work s
     → slice_get work.stores.items parts.report ≡ Some store
     → ((updates : List Update) → has store updates → AreGroupRows (group store) updates rows)
-    → IsLeft db parts s rows
-    (record { visits = work.visits; lookups = work.lookups; updates = work.updates })
-is_left group has db parts work s store rows done at are =
+    → AreToReport db parts (s.updates_of parts.report) rows
+to_report group has db parts work s store rows done at are =
     let is = done.stores.each parts.report store at in record {
       are = subst (λ d. AreGroupRows d (s.updates_of parts.report) rows) is.is
           (are (s.updates_of parts.report) is.content);
       sound = done.sound.each parts.report;
-      visits = done.visits;
-      lookups = done.lookups;
-      updates = done.updates;
     }
 
--- the sorted rows, in the words of the group's declaration
-module _ (db : Database) (parts : Parts) (s : State) (left : List GroupRow) (counts : Counts)
-    (d : GroupDecl) (sorts : List SortKey) (rows : List GroupRow)
-    (is : IsLeft db parts s left counts) (is_group : d ≡ group_at parts parts.report)
-    (sorted : (e : Group) (updates : List Update) → AreGroupRows e updates left
-    → AreSortedGroups e sorts updates rows) where
-  sound : AllByRecursion (λ u. AreSoundKeys db d.keys u.keys) (s.updates_of parts.report)
-  sound = subst (λ e. AllByRecursion (λ u. AreSoundKeys db e.keys u.keys)
-      (s.updates_of parts.report)) (sym is_group) is.sound
-
-  groups : AreSortedGroups (group_declared d) sorts (s.updates_of parts.report) rows
-  groups = subst (λ e. AreSortedGroups (group_declared e) sorts (s.updates_of parts.report) rows)
-      (sym is_group) (sorted (group_declared (group_at parts parts.report))
-      (s.updates_of parts.report) is.are)
-
-  pub keys_as_declared : (xs : List GroupRow) → xs ≡ rows
-      → All (λ row. AreDecodable db d.keys row.keys) xs
-  keys_as_declared xs e = subst (λ ys. All (λ row. AreDecodable db d.keys row.keys) ys) (sym e)
-      (rows_decodable db d sorts (s.updates_of parts.report) rows sound groups)
-
-  pub is_outcome : (xs : List GroupRow) (shows : List Show) (outcome : Outcome) → xs ≡ rows
-      → sorts ≡ parts.sorts → shows ≡ parts.shows → outcome.names ≡ map (λ show. show.name) shows
-      → outcome.rows ≡ map (row_cells (world_of db) d shows) xs
-      → outcome.visits ≡ counts.visits → outcome.lookups ≡ counts.lookups
-      → outcome.updates ≡ counts.updates → IsOutcome (world_of db) parts s outcome
-  is_outcome xs shows outcome is_rows is_sorts is_shows names cells visits lookups updates =
-      record {
-        names = names ∙ ap (map (λ show. show.name)) is_shows;
-        rows = map (decoded_row (world_of db) d) (map row_view rows);
-        reported = subst (λ e. AreReportRows (world_of db) parts e (s.updates_of parts.report)
-            (map (decoded_row (world_of db) d) (map row_view rows))) is_group (record {
-              groups = map row_view rows;
-              each_group = groups.groups;
-              decoded = refl;
-              in_order = subst (λ keys.
-                  AreInOrder value_cmp keys (map (decoded_row (world_of db) d) (map row_view rows)))
-                  is_sorts
-                  (decoded_in_order db d sorts (map row_view rows)
-                  (groups_decodable db d sorts (s.updates_of parts.report) rows sound groups)
-                  groups.in_order);
-            });
-        cells = cells ∙ (λ i. map (row_cells (world_of db) d (is_shows i)) (is_rows i))
-            ∙ sym (map-map (shown_cells parts) (decoded_row (world_of db) d) (map row_view rows)
-            ∙ map-map (λ row. shown_cells parts (decoded_row (world_of db) d row)) row_view rows);
-        visits = visits ∙ is.visits;
-        lookups = lookups ∙ is.lookups;
-        updates = updates ∙ is.updates;
-      }
+-- the sorted rows, cut to the show lines
+pub are_reported : (db : Database) (parts : Parts) (updates : List Update) (rows left : List GroupRow)
+    (cells : List (List Cell)) → AreToReport db parts updates left
+    → AreSortedGroups (group_declared (group_at parts parts.report)) parts.sorts updates rows
+    → cells ≡ map (row_cells (world_of db) (group_at parts parts.report) parts.shows) rows
+    → AreReported (world_of db) parts updates cells
+are_reported db parts updates rows left cells is sorted shown =
+    let d = group_at parts parts.report in
+    record {
+      rows = map (decoded_row (world_of db) d) (map row_view rows);
+      reported = record {
+        groups = map row_view rows;
+        each_group = sorted.groups;
+        decoded = refl;
+        in_order = decoded_in_order db d parts.sorts (map row_view rows)
+            (groups_decodable db d parts.sorts updates rows is.sound sorted) sorted.in_order;
+      };
+      shown = shown
+          ∙ sym (map-map (shown_cells parts) (decoded_row (world_of db) d) (map row_view rows)
+          ∙ map-map (λ row. shown_cells parts (decoded_row (world_of db) d row)) row_view rows);
+    }

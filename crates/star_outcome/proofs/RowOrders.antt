@@ -1,13 +1,20 @@
 -- The order of rows is an order, it tells rows with different keys apart, and for the rows of one
 -- group it is that of the report.
-use Rattle.std.proofs.Common.{◌≡◌, ◌<◌, ◌<ℤ◌, ℤ, true≢false, List, [], ◌∷◌, Option, Some, None, ap, get_or, sym, subst, refl}
-use Rattle.std.specs.Cmp.{IsTotalOrder, int_ranks, ranks}
+use Rattle.std.proofs.Common.{◌≡◌, ◌<◌, ◌<ℤ◌, ◌+◌, ℕ, ℤ, pos, zero, suc, add-one, true≢false, List, [], ◌∷◌, Option, Some, None, length, drop, arith, ap, get_or, map, sym, subst, refl, ◌∙◌}
+use Rattle.std.specs.Cmp.{IsTotalOrder, int_cmp_is, int_ranks, ranks}
 use Rattle.std.specs.Cmp.Lexicographic.{slice_cmp, options_total}
+use Rattle.std.specs.List.{range_with_len}
 use Rattle.std.specs.Option.{is_some, option_cmp}
-use Rattle.std.specs.Ordering.{MatchOrdering, flip_args, int_cmp, ordering_reverse, ordering_then}
+use Rattle.std.specs.Ordering.{MatchOrdering, int_cmp, nat_cmp, ordering_then}
 use Rattle.std.specs.declared.cmp.Ordering.{Ordering}
 use Rattle.std.specs.declared.cmp.Ordering.TheVariants.{Less, Equal, Greater}
-use Rattle.std.proofs.lemmas.Cmp.{back_total, int_cmp_total, lists_total, nat_cmp_total, on_total, then_total}
+use Rattle.std.specs.Int.Signed.{lt_z_yes}
+use Rattle.std.proofs.Math.Dec.{ltb}
+use Rattle.std.proofs.Math.Seq.{drop-cons}
+use Rattle.std.proofs.lemmas.Bool.{lt-ltb}
+use Rattle.std.proofs.lemmas.Cmp.{back_total, int_cmp_total, nat_cmp_total, on_total, then_total}
+use Rattle.std.proofs.lemmas.Float.{T_from_true}
+use Rattle.std.proofs.lemmas.List.{drop_all}
 use Rattle.star_schema.specs.declared.group.GroupColumn.{GroupColumn}
 use Rattle.star_schema.specs.declared.group.GroupColumn.TheVariants as column
 use Rattle.star_schema.specs.declared.group.Direction.{Direction}
@@ -19,49 +26,50 @@ use Rattle.star_schema.specs.Order.{key_cmp}
 use Rattle.star_program.specs.declared.key.KeyValue.{KeyValue}
 use Rattle.star_program.specs.declared.key.KeyValue.TheVariants.{Number, Code}
 use Rattle.star_program.specs.Keys.{key_value_cmp}
-use Rattle.star_outcome.specs.Private.RowOrder.{HaveSameNulls, column_order, directed_order, row_order}
+use Rattle.star_outcome.specs.Private.RowOrder.{all_sorts, column_order, directed_order, key_sort, row_order, sort_order}
 
 -- ---- an order
 
-value_total : IsTotalOrder key_value_cmp
-value_total = record { antisymm = antisymm; trans = trans; congr = congr }
+-- naturals as integers
+same_cmp : (m n : ℕ) → int_cmp (pos m) (pos n) ≡ nat_cmp m n
+same_cmp m n = sym (int_cmp_is (pos m) (pos n) (nat_cmp m n) (by (nat_cmp m n) (ranks m n)))
   where
-    antisymm : (a b : KeyValue) → key_value_cmp a b ≡ ordering_reverse (key_value_cmp b a)
-    antisymm (Number x) (Number y) = int_cmp_total.antisymm x y
-    antisymm (Number x) (Code n) = refl
-    antisymm (Code m) (Number y) = refl
-    antisymm (Code m) (Code n) = nat_cmp_total.antisymm m n
+    by : (o : Ordering) → MatchOrdering o (m < n) (m ≡ n) (n < m)
+        → MatchOrdering o (pos m <ℤ pos n) (pos m ≡ pos n) (pos n <ℤ pos m)
+    by Less h = lt_z_yes (T_from_true (ltb m n) (lt-ltb m n h))
+    by Equal h = ap pos h
+    by Greater h = lt_z_yes (T_from_true (ltb n m) (lt-ltb n m h))
 
-    trans : (a b c : KeyValue) → key_value_cmp a b ≡ Less → key_value_cmp b c ≡ Less
-        → key_value_cmp a c ≡ Less
-    trans (Number x) (Number y) (Number z) p q = int_cmp_total.trans x y z p q
-    trans (Number x) b (Code o) p q = refl
-    trans (Number x) (Code n) (Number z) p q = cc q
-    trans (Code m) (Number y) c p q = cc p
-    trans (Code m) (Code n) (Number z) p q = q
-    trans (Code m) (Code n) (Code o) p q = nat_cmp_total.trans m n o p q
+-- a key by its kind, and then by its number
+abbrev kind : Option KeyValue → ℕ
+kind (Some (Number x)) = 0
+kind (Some (Code n)) = 1
+kind None = 2
 
-    congr : (a b c : KeyValue) → key_value_cmp a b ≡ Equal → key_value_cmp a c ≡ key_value_cmp b c
-    congr (Number x) (Number y) (Number z) p = int_cmp_total.congr x y z p
-    congr (Number x) (Number y) (Code o) p = refl
-    congr (Number x) (Code n) c p = cc p
-    congr (Code m) (Number y) c p = cc p
-    congr (Code m) (Code n) (Number z) p = refl
-    congr (Code m) (Code n) (Code o) p = nat_cmp_total.congr m n o p
+abbrev number : Option KeyValue → ℤ
+number (Some (Number x)) = x
+number (Some (Code n)) = pos n
+number None = pos 0
 
-key_total : {K : Type 0} {cmp : K → K → Ordering} → IsTotalOrder cmp → IsTotalOrder (key_cmp cmp)
-key_total {K} {cmp} o = subst IsTotalOrder (λ i a b. turned a b i)
-    (back_total (options_total (back_total o)))
-  where
-    turned : (a b : Option K) → option_cmp (flip_args cmp) b a ≡ key_cmp cmp a b
-    turned (Some a) (Some b) = refl
-    turned (Some a) None = refl
-    turned None (Some b) = refl
-    turned None None = refl
+by_kind : (a b : Option KeyValue) → ordering_then (nat_cmp (kind a) (kind b))
+    (int_cmp (number a) (number b)) ≡ key_cmp key_value_cmp a b
+by_kind (Some (Number x)) (Some (Number y)) = refl
+by_kind (Some (Number x)) (Some (Code n)) = refl
+by_kind (Some (Code m)) (Some (Number y)) = refl
+by_kind (Some (Code m)) (Some (Code n)) = same_cmp m n
+by_kind (Some (Number x)) None = refl
+by_kind (Some (Code m)) None = refl
+by_kind None (Some (Number y)) = refl
+by_kind None (Some (Code n)) = refl
+by_kind None None = refl
+
+key_total : IsTotalOrder (key_cmp key_value_cmp)
+key_total = subst IsTotalOrder (λ i a b. by_kind a b i)
+    (then_total (on_total kind nat_cmp_total) (on_total number int_cmp_total))
 
 column_total : (c : GroupColumn) → IsTotalOrder (column_order c)
 column_total (column.Key place) =
-    on_total (λ (row : Row KeyValue). get_or row.keys place None) (key_total value_total)
+    on_total (λ (row : Row KeyValue). get_or row.keys place None) key_total
 column_total (column.Aggregate place) =
     on_total (λ (row : Row KeyValue). get_or row.totals place None) (options_total int_cmp_total)
 
@@ -70,8 +78,27 @@ directed_total c Ascending = column_total c
 directed_total c Descending = back_total (column_total c)
 
 pub row_total : (sorts : List SortKey) → IsTotalOrder (row_order sorts)
-row_total [] = on_total (λ (row : Row KeyValue). row.keys) (lists_total (key_total value_total))
+row_total [] =
+    record { antisymm = λ a b. refl; trans = λ a b c p q. p; congr = λ a b c p. refl }
 row_total (sort ∷ sorts) = then_total (directed_total sort.column sort.direction) (row_total sorts)
+
+-- ---- the keys of a row, one after another
+
+keys_by_place : (n i : ℕ) (a b : Row KeyValue) → length a.keys ≡ i + n → length b.keys ≡ i + n
+    → row_order (map key_sort (range_with_len i n)) a b
+    ≡ slice_cmp (key_cmp key_value_cmp) (drop i a.keys) (drop i b.keys)
+keys_by_place zero i a b long_a long_b =
+    λ j. slice_cmp (key_cmp key_value_cmp) (sym (drop_all i a.keys (omega (arith, long_a))) j)
+    (sym (drop_all i b.keys (omega (arith, long_b))) j)
+keys_by_place (suc n) i a b long_a long_b =
+    let rest = keys_by_place n (i + 1) a b (omega (arith, long_a)) (omega (arith, long_b)) in
+    let here = sort_order (key_sort i) a b in
+    ap (ordering_then here) rest
+    ∙ (λ j. ordering_then here (slice_cmp (key_cmp key_value_cmp) (drop (add-one i j) a.keys)
+    (drop (add-one i j) b.keys)))
+    ∙ (λ j. slice_cmp (key_cmp key_value_cmp)
+    (sym (drop-cons a.keys i None (omega (arith, long_a))) j)
+    (sym (drop-cons b.keys i None (omega (arith, long_b))) j))
 
 -- ---- only rows with the same keys are level
 
@@ -80,18 +107,17 @@ both_equal Less b e = cc e
 both_equal Equal b e = (refl, e)
 both_equal Greater b e = cc e
 
-value_level : (a b : KeyValue) → key_value_cmp a b ≡ Equal → a ≡ b
-value_level (Number x) (Number y) e =
-    ap Number (subst (λ o. MatchOrdering o (x <ℤ y) (x ≡ y) (y <ℤ x)) e (int_ranks x y))
-value_level (Number x) (Code n) e = cc e
-value_level (Code m) (Number y) e = cc e
-value_level (Code m) (Code n) e =
-    ap Code (subst (λ o. MatchOrdering o (m < n) (m ≡ n) (n < m)) e (ranks m n))
-
 key_level : (a b : Option KeyValue) → key_cmp key_value_cmp a b ≡ Equal → a ≡ b
-key_level (Some a) (Some b) e = ap Some (value_level a b e)
-key_level (Some a) None e = cc e
-key_level None (Some b) e = cc e
+key_level (Some (Number x)) (Some (Number y)) e = ap (λ z. Some (Number z))
+    (subst (λ o. MatchOrdering o (x <ℤ y) (x ≡ y) (y <ℤ x)) e (int_ranks x y))
+key_level (Some (Number x)) (Some (Code n)) e = cc e
+key_level (Some (Code m)) (Some (Number y)) e = cc e
+key_level (Some (Code m)) (Some (Code n)) e = ap (λ k. Some (Code k))
+    (subst (λ o. MatchOrdering o (m < n) (m ≡ n) (n < m)) e (ranks m n))
+key_level (Some (Number x)) None e = cc e
+key_level (Some (Code m)) None e = cc e
+key_level None (Some (Number y)) e = cc e
+key_level None (Some (Code n)) e = cc e
 key_level None None e = refl
 
 keys_level : (xs ys : List (Option KeyValue)) → slice_cmp (key_cmp key_value_cmp) xs ys ≡ Equal
@@ -103,14 +129,25 @@ keys_level (a ∷ xs) (b ∷ ys) e =
     let both = both_equal (key_cmp key_value_cmp a b) (slice_cmp (key_cmp key_value_cmp) xs ys) e in
     λ i. key_level a b both.0 i ∷ keys_level xs ys both.1 i
 
-pub rows_level : (sorts : List SortKey) (a b : Row KeyValue) → row_order sorts a b ≡ Equal
-    → a.keys ≡ b.keys
-rows_level [] a b e = keys_level a.keys b.keys e
-rows_level (sort ∷ sorts) a b e =
-    rows_level sorts a b (both_equal (directed_order sort.column sort.direction a b)
-    (row_order sorts a b) e).1
+-- ---- the rows of one group
 
--- ---- the order of the report
+-- rows of one group: each has the group's keys, and each aggregate is NULL in both or in neither
+pub record AreAlike (count : ℕ) (a b : Row KeyValue) : Type 0 where
+  pub first : length a.keys ≡ count
+  pub second : length b.keys ≡ count
+  pub nulls : (place : ℕ) → is_some (get_or a.totals place None) ≡ is_some (get_or b.totals place None)
+
+all_keys : (count : ℕ) (a b : Row KeyValue) → AreAlike count a b
+    → row_order (all_sorts [] count) a b ≡ slice_cmp (key_cmp key_value_cmp) a.keys b.keys
+all_keys count a b alike =
+    keys_by_place count 0 a b (omega (arith, alike.first)) (omega (arith, alike.second))
+
+pub rows_level : (sorts : List SortKey) (count : ℕ) (a b : Row KeyValue) → AreAlike count a b
+    → row_order (all_sorts sorts count) a b ≡ Equal → a.keys ≡ b.keys
+rows_level [] count a b alike e = keys_level a.keys b.keys (sym (all_keys count a b alike) ∙ e)
+rows_level (sort ∷ sorts) count a b alike e =
+    rows_level sorts count a b alike
+    (both_equal (sort_order sort a b) (row_order (all_sorts sorts count) a b) e).1
 
 same_total : (x y : Option ℤ) → is_some x ≡ is_some y
     → report.total_cmp x y ≡ option_cmp int_cmp x y
@@ -119,20 +156,23 @@ same_total (Some x) None e = absurd (true≢false e)
 same_total None (Some y) e = absurd (true≢false (sym e))
 same_total None None e = refl
 
-same_column : (c : GroupColumn) (a b : Row KeyValue) → HaveSameNulls a b
+same_column : (c : GroupColumn) (a b : Row KeyValue)
+    → ((place : ℕ) → is_some (get_or a.totals place None) ≡ is_some (get_or b.totals place None))
     → report.column_cmp key_value_cmp c a b ≡ column_order c a b
-same_column (column.Key place) a b h = refl
-same_column (column.Aggregate place) a b h =
-    same_total (get_or a.totals place None) (get_or b.totals place None) (h.same place)
+same_column (column.Key place) a b nulls = refl
+same_column (column.Aggregate place) a b nulls =
+    same_total (get_or a.totals place None) (get_or b.totals place None) (nulls place)
 
-same_directed : (c : GroupColumn) (d : Direction) (a b : Row KeyValue) → HaveSameNulls a b
+same_directed : (c : GroupColumn) (d : Direction) {count : ℕ} (a b : Row KeyValue)
+    → AreAlike count a b
     → report.sort_cmp key_value_cmp (record { column = c; direction = d }) a b
     ≡ directed_order c d a b
-same_directed c Ascending a b h = same_column c a b h
-same_directed c Descending a b h = same_column c b a (record { same = λ place. sym (h.same place) })
+same_directed c Ascending a b alike = same_column c a b alike.nulls
+same_directed c Descending a b alike = same_column c b a (λ place. sym (alike.nulls place))
 
-pub same_order : (sorts : List SortKey) (a b : Row KeyValue) → HaveSameNulls a b
-    → report.row_cmp key_value_cmp sorts a b ≡ row_order sorts a b
-same_order [] a b h = refl
-same_order (sort ∷ sorts) a b h =
-    λ i. ordering_then (same_directed sort.column sort.direction a b h i) (same_order sorts a b h i)
+pub same_order : (sorts : List SortKey) (count : ℕ) (a b : Row KeyValue) → AreAlike count a b
+    → report.row_cmp key_value_cmp sorts a b ≡ row_order (all_sorts sorts count) a b
+same_order [] count a b alike = sym (all_keys count a b alike)
+same_order (sort ∷ sorts) count a b alike =
+    λ i. ordering_then (same_directed sort.column sort.direction a b alike i)
+    (same_order sorts count a b alike i)

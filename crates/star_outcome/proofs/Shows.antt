@@ -1,9 +1,13 @@
--- The columns of the show lines are there.
-use Rattle.std.proofs.Common.{◌≡◌, ◌+◌, ℕ, Bool, true, false, List, [], ◌∷◌, ◌++◌, Option, Some, None, map, refl}
-use Rattle.std.specs.Prelude.{if◌then◌else◌}
+-- What the report names is there.
+use Rattle.std.proofs.Common.{◌≡◌, ◌≤◌, ◌+◌, ℕ, length, Bool, true, false, List, [], ◌∷◌, ◌++◌, Option, Some, None, map, refl}
+use Rattle.std.specs.Prelude.{nat_lt, if◌then◌else◌}
 use Rattle.std.specs.List.{All, AllByRecursion}
+use Rattle.std.proofs.lemmas.Bool.{and_parts}
+use Rattle.std.proofs.lemmas.Bool.Decides.{Decides-ltb}
 use Rattle.std.proofs.lemmas.List.Elements.{All-from_recursion}
 use Rattle.star_schema.specs.declared.group.GroupColumn.{GroupColumn}
+use Rattle.star_schema.specs.declared.group.Shape.TheVariants.{Plain}
+use Rattle.star_program.specs.Limits.{IsWithinLimits}
 use Rattle.star_program.specs.declared.group.GroupDecl.{GroupDecl}
 use Rattle.star_program.specs.declared.program.Parts.{Parts}
 use Rattle.star_program.specs.declared.program.Show.{Show}
@@ -31,3 +35,14 @@ shows_are_there parts e =
     let lines = (if_none (reports parts) (first_unshown d 1 (named_columns parts)) 0 e).1 in
     All-from_recursion (λ show. has_column d show.column ≡ true) parts.shows
     (each_shown d 1 parts.shows _ lines)
+
+-- the reported group is there, and so has few keys
+pub few_keys : (parts : Parts) → IsWithinLimits parts → shown_fault parts ≡ None
+    → length (group_at parts parts.report).keys ≤ 6
+few_keys parts limits e =
+    let there = nat_lt parts.report (length parts.groups) in
+    let found = (if_none (reports parts) (first_unshown (group_at parts parts.report) 1
+    (named_columns parts)) 0 e).0 in
+    let lt = (Decides-ltb parts.report (length parts.groups)).0
+    (and_parts there (nat_lt 0 (length parts.shows)) found).0 in
+    (limits.each_group parts.report (record { shape = Plain; keys = []; aggregates = [] }) lt).keys

@@ -13,7 +13,7 @@ ghost use Rattle.star_program.specs.ShowLines.{shown_fault};
 ghost use Rattle.star_outcome.specs.Done.{AreStores, HasDone};
 ghost use Rattle.star_world.specs.WorldOf.{world_of};
 
-use crate::outcome::{Counts, outcome_of_rows};
+use crate::outcome::{names, reported_rows};
 use star_catalogue::Catalogue;
 use star_group::GroupStore;
 use star_interval::Interval;
@@ -111,18 +111,13 @@ impl<S: GroupStore> Work<S> {
         ensures { (s : State) → HasDone S.group S.has catalogue.now parts.now self s
             → IfOk result (IsOutcome (world_of catalogue.now) parts.now s) }
     {
-        let Work {
-            stores,
-            visits,
-            lookups,
-            updates,
-        } = self;
-        let rows = store_at(stores, parts.report).into_rows()?;
-        let counts = Counts {
-            visits,
-            lookups,
-            updates,
-        };
-        outcome_of_rows(alloc, catalogue, parts, rows, counts)
+        let rows = store_at(self.stores, parts.report).into_rows()?;
+        Ok(Outcome {
+            names: names(alloc, parts.shows.as_slice())?,
+            rows: reported_rows(alloc, catalogue, parts, rows)?,
+            visits: self.visits,
+            lookups: self.lookups,
+            updates: self.updates,
+        })
     }
 }

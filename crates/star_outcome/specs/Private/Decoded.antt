@@ -1,23 +1,27 @@
--- Rows whose keys can be told in texts, and their cells.
-use Rattle.std.specs.Prelude.{List, [], ◌∷◌, Option, Some, None, map}
+-- Rows whose keys can be shown as texts, and their cells.
+use Rattle.std.specs.Prelude.{◌≡◌, List, [], ◌∷◌, Option, Some, None, map}
+use Rattle.std.specs.List.{AllByRecursion}
 use Rattle.star_schema.specs.Database.{Database}
 use Rattle.star_schema.specs.declared.group.SortKey.{SortKey}
-use Rattle.star_schema.specs.Groups.{AreGroups}
+use Rattle.star_schema.specs.Groups.{AreGroups, GroupRow as Row}
 use Rattle.star_schema.specs.Order.{AreInOrder}
+use Rattle.star_schema.specs.Tables.{Value}
 use Rattle.star_program.specs.declared.group.GroupDecl.{GroupDecl}
 use Rattle.star_program.specs.declared.group.GroupKey.{GroupKey}
 use Rattle.star_program.specs.declared.key.KeyValue.{KeyValue}
 use Rattle.star_program.specs.declared.outcome.Cell.{Cell}
+use Rattle.star_program.specs.declared.program.Parts.{Parts}
 use Rattle.star_program.specs.declared.program.Show.{Show}
+use Rattle.star_program.specs.Faults.{group_at}
 use Rattle.star_program.specs.Keys.{key_value_cmp}
-use Rattle.star_program.specs.Outcome.{decoded_row}
+use Rattle.star_program.specs.Outcome.{AreReportRows, decoded_row, shown_cells}
 use Rattle.star_program.specs.RowCells.{cell_of}
 use Rattle.star_program.specs.Puts.{Update}
 use Rattle.star_program.specs.World.{World}
 use Rattle.star_group.specs.declared.group_row.GroupRow.{GroupRow}
-use Rattle.star_group.specs.StoreRows.{row_view}
-use Rattle.star_group.specs.Stores.{Group}
-use Rattle.star_outcome.specs.SoundKeys.{IsSoundKey}
+use Rattle.star_group.specs.StoreRows.{AreRows, row_view}
+use Rattle.star_group.specs.Stores.{Group, group_declared}
+use Rattle.star_outcome.specs.SoundKeys.{AreSoundKeys, IsSoundKey}
 
 -- a key of a row: ALL, or as declared
 abbrev pub IsDecodable : Database → GroupKey → Option KeyValue → Type 0
@@ -39,3 +43,17 @@ pub record AreSortedGroups (d : Group) (sorts : List SortKey) (updates : List Up
     (rows : List GroupRow) : Type 0 where
   pub groups : AreGroups key_value_cmp d.shape d.count d.aggregates updates (map row_view rows)
   pub in_order : AreInOrder key_value_cmp sorts (map row_view rows)
+
+-- the rows of the reported group with these updates, in any order
+pub record AreToReport (database : Database) (parts : Parts) (updates : List Update)
+    (rows : List GroupRow) : Type 0 where
+  pub are : AreRows (group_declared (group_at parts parts.report)) updates rows
+  pub sound : AllByRecursion
+      (λ update. AreSoundKeys database (group_at parts parts.report).keys update.keys) updates
+
+-- the rows of a report, cut to the show lines
+pub record AreReported (w : World) (parts : Parts) (updates : List Update)
+    (cells : List (List Cell)) : Type 0 where
+  pub rows : List (Row Value)
+  pub reported : AreReportRows w parts (group_at parts parts.report) updates rows
+  pub shown : cells ≡ map (shown_cells parts) rows

@@ -167,7 +167,7 @@ pub(super) fn cell_rows(
 }
 
 // The names of the show lines.
-pub(super) fn names(alloc: Global, shows: &[Show]) -> Result<Items<Name>, AllocError>
+pub(crate) fn names(alloc: Global, shows: &[Show]) -> Result<Items<Name>, AllocError>
     ensures { IfOk result (λ names. names ≡ map (λ show. show.name) shows.now) }
 {
     let mut names = Vec::with_capacity(alloc, shows.len())?;

@@ -1,15 +1,18 @@
 // The order of a group's rows.
 
-ghost use Rattle.std.specs.Prelude.{◌≡◌, ◌+◌, IfOk, IfSome, IsPermutation, drop, map};
-ghost use Rattle.std.specs.Ordering.{ordering_then};
-ghost use Rattle.std.specs.Cmp.Lexicographic.{slice_cmp};
-ghost use Rattle.star_schema.specs.Order.{AreInOrder, key_cmp};
-ghost use Rattle.star_group.specs.StoreRows.{row_at, row_view};
+ghost use Rattle.std.specs.Prelude.{◌≡◌, ◌≤◌, List, IfOk, length, map};
+ghost use Rattle.std.specs.List.{AllByRecursion};
+ghost use Rattle.star_schema.specs.Order.{key_cmp};
+ghost use Rattle.star_group.specs.StoreRows.{AreRows, row_at, row_view};
+ghost use Rattle.star_group.specs.Stores.{Group};
 ghost use Rattle.star_program.specs.Keys.{key_value_cmp};
+ghost use Rattle.star_program.specs.Puts.{Update};
+ghost use Rattle.star_outcome.specs.Private.Decoded.{AreSortedGroups};
 ghost use Rattle.star_outcome.specs.Private.Leads.{led_cmp};
-ghost use Rattle.star_outcome.specs.Private.RowOrder.{AllHaveSameNulls, AreApart, column_order, sort_order, row_order};
+ghost use Rattle.star_outcome.specs.Private.RowOrder as spec;
+ghost use Rattle.star_outcome.specs.Private.RowOrder.{column_order, row_order, sort_order};
 
-use super::leads::{Led, all_led, compare_leads_of, numbers_of};
+use super::leads::{Led, all_led, compare_leads, numbers_of};
 use star_group::{GroupRows, KeyValue};
 use star_schema::{Direction, GroupColumn, SortKey};
 use std::alloc::{AllocError, Global};
@@ -39,21 +42,8 @@ fn compare_keys(a: Option<KeyValue>, b: Option<KeyValue>) -> Ordering
     }
 }
 
-// All keys, from the left.
-fn compare_key_lists(a: &[Option<KeyValue>], b: &[Option<KeyValue>]) -> Ordering
-    ensures { result ≡ slice_cmp (key_cmp key_value_cmp) a.now b.now }
-{
-    match (a.split_first(), b.split_first()) {
-        (Some((x, rest)), Some((y, others))) => match compare_keys(*x, *y) {
-            Ordering::Equal => compare_key_lists(rest, others),
-            decided => decided,
-        },
-        (Some(_), None) => Ordering::Greater,
-        (None, Some(_)) => Ordering::Less,
-        (None, None) => Ordering::Equal,
-    }
-}
-
+// In code this orders all rows, with NULL before the numbers. In the definition NULL meets no other
+// row: an aggregate is NULL in all rows of a group or in none.
 fn compare_at(column: GroupColumn, rows: &GroupRows, a: usize, b: usize) -> Ordering
     ensures { result ≡ column_order column
         (row_view (row_at rows.now a)) (row_view (row_at rows.now b)) }
@@ -79,53 +69,12 @@ fn compare_by(sort: SortKey, rows: &GroupRows, a: usize, b: usize) -> Ordering
     }
 }
 
-// The keys at one place of two rows, where neither is hidden or missing.
-fn shown_order(rows: &GroupRows, a: usize, b: usize, place: usize) -> Option<Ordering>
-    ensures { IfSome result (λ order. slice_cmp (key_cmp key_value_cmp)
-        (drop place (row_at rows.now a).keys) (drop place (row_at rows.now b).keys)
-        ≡ ordering_then order (slice_cmp (key_cmp key_value_cmp)
-        (drop (place + 1) (row_at rows.now a).keys) (drop (place + 1) (row_at rows.now b).keys))) }
-{
-    match (rows.key(a, place), rows.key(b, place)) {
-        (Some(x), Some(y)) => Some(compare_values(x, y)),
-        _ => None,
-    }
-}
-
-fn compare_all_keys(rows: &GroupRows, a: usize, b: usize) -> Ordering
-    ensures { result ≡ slice_cmp (key_cmp key_value_cmp) (row_at rows.now a).keys
-        (row_at rows.now b).keys }
-{
-    compare_key_lists(rows.keys(a).as_slice(), rows.keys(b).as_slice())
-}
-
-// All keys of two rows: a list of them is made only where one is hidden.
-fn compare_row_keys(rows: &GroupRows, a: usize, b: usize) -> Ordering
-    ensures { result ≡ slice_cmp (key_cmp key_value_cmp) (row_at rows.now a).keys
-        (row_at rows.now b).keys }
-{
-    for place in 0..6 {
-        match shown_order(rows, a, b, place) {
-            None => return compare_all_keys(rows, a, b),
-            Some(order) => {
-                if !order.is_eq() {
-                    return order;
-                }
-            }
-        }
-    }
-    compare_all_keys(rows, a, b)
-}
-
-// By the sort keys, and then by all keys of the rows.
-// In code this orders all rows, with NULL before the numbers. In the definition NULL meets no other
-// row: an aggregate is NULL in all rows of a group or in none.
 fn compare_rows(sorts: &[SortKey], rows: &GroupRows, a: usize, b: usize) -> Ordering
     ensures { result ≡ row_order sorts.now
         (row_view (row_at rows.now a)) (row_view (row_at rows.now b)) }
 {
     match sorts {
-        [] => compare_row_keys(rows, a, b),
+        [] => Ordering::Equal,
         [sort, rest @ ..] => match compare_by(*sort, rows, a, b) {
             Ordering::Equal => compare_rows(rest, rows, a, b),
             decided => decided,
@@ -133,30 +82,48 @@ fn compare_rows(sorts: &[SortKey], rows: &GroupRows, a: usize, b: usize) -> Orde
     }
 }
 
-// By what leads them, so that a row is read only where that does not decide.
+// By the leads, so that rows are read only if these are level.
 fn compare_led(sorts: &[SortKey], rows: &GroupRows, a: &Led, b: &Led) -> Ordering
     ensures { result ≡ led_cmp sorts.now rows.now a.now b.now }
 {
-    match compare_leads_of(a, b) {
+    match compare_leads(a, b) {
         Ordering::Equal => compare_rows(sorts, rows, a.number(), b.number()),
         decided => decided,
     }
 }
 
-// The numbers of the rows of a group, in which no two have the same keys, in the order of the rows.
+// The sort keys, and then all keys of rows that have `count`.
+fn all_sorts(alloc: Global, sorts: &[SortKey], count: usize) -> Result<Vec<SortKey>, AllocError>
+    requires { count ≤ 6 }
+    ensures { IfOk result (λ all. all.items ≡ spec.all_sorts sorts.now count) }
+{
+    let mut all = sorts.to_vec(alloc)?;
+    for place in 0..count {
+        all.push(SortKey {
+            column: GroupColumn::Key(place as u16),
+            direction: Direction::Ascending,
+        })?;
+    }
+    Ok(all)
+}
+
+// The numbers of the rows of a group that has `count` keys, in the order of the rows.
 pub(super) fn sorted_numbers(
     alloc: Global,
     rows: &GroupRows,
     sorts: &[SortKey],
+    count: usize,
 ) -> Result<Vec<usize>, AllocError>
-    requires apart { AreApart rows.now }
-    requires nulls { AllHaveSameNulls rows.now }
-    ensures { IfOk result
-        (λ numbers. IsPermutation rows.now (map (row_at rows.now) numbers.items)
-        × AreInOrder key_value_cmp sorts.now
-        (map row_view (map (row_at rows.now) numbers.items))) }
+    requires few { count ≤ 6 }
+    requires are { (d : Group) × (updates : List Update) × (d.count ≡ count)
+        × AreRows d updates rows.now × AllByRecursion (λ update. length update.keys ≡ count) updates }
+    ensures { IfOk result (λ numbers. (d : Group) (updates : List Update)
+        → AreRows d updates rows.now
+        → AreSortedGroups d sorts.now updates (map (row_at rows.now) numbers.items)) }
 {
-    let mut all = all_led(alloc, sorts, rows)?;
-    all.sort_unstable_by(|a, b| compare_led(sorts, rows, a, b));
+    let columns = all_sorts(alloc, sorts, count)?;
+    let columns = columns.as_slice();
+    let mut all = all_led(alloc, columns, rows)?;
+    all.sort_unstable_by(|a, b| compare_led(columns, rows, a, b));
     numbers_of(alloc, all.as_slice())
 }

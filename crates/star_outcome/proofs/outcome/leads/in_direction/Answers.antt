@@ -1,5 +1,0 @@
-use Rattle.std.proofs.Common.{rules}
-use Rattle.star_outcome.proofs.outcome.leads.in_direction.Goals as goal
-
-pub returns-in-Descending : goal.returns-in-Descending
-returns-in-Descending c = search rules
