@@ -1,1 +1,2 @@
 pub mod PutOperands
+pub mod Lines

@@ -3,7 +3,6 @@ use Rattle.std.proofs.Common.{◌≡◌, ◌⊎◌, inl, inr, ℕ, true, false, 
 use Rattle.std.specs.Prelude.{Result, Ok, Err, OnOk, IfErr, MatchResult}
 use Rattle.star_group.specs.declared.eager.EagerStore.{EagerStore}
 use Rattle.star_group.specs.Eager.{group_view, Has}
-use Rattle.star_group.specs.Stores as group_stores
 use Rattle.star_group.specs.declared.rows.PutFault.{PutFault}
 use Rattle.star_group.specs.declared.rows.PutFault.TheVariants.{OutOfMemory}
 use Rattle.star_program.specs.declared.program.Parts.{Parts}

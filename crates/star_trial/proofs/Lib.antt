@@ -3,4 +3,3 @@ pub mod EagerStores
 pub mod Checked
 pub mod Performed
 pub mod Turned
-pub mod NamedColumns

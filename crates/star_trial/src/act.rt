@@ -21,11 +21,10 @@ ghost use Rattle.star_trial.specs.Private.Runs.{AreStores};
 ghost use Rattle.star_trial.specs.Private.Views.{registers_view};
 ghost use Rattle.star_world.specs.WorldOf.{world_of};
 
-use crate::compute::{answer, flag, is_within, number, row, set};
+use crate::compute::{Register, answer, flag, is_within, number, row, set};
 use crate::fault::Stop;
 use crate::machine::Machine;
 use crate::puts::put;
-use crate::value::Register;
 use star_group::EagerStore;
 use star_kinds::check;
 use star_outcome::lookups::{find, load, place};

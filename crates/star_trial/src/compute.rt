@@ -1,67 +1,65 @@
 // What an instruction computes from the registers that it reads.
 
-ghost use Rattle.std.specs.Prelude.{◌≡◌, ◌<◌, ◌+ℤ◌, ◌-ℤ◌, ◌*ℤ◌, ◌&&◌, ◌||◌, true, false, length, MatchOption};
+ghost use Rattle.std.specs.Prelude.{◌≡◌, ◌<◌, ◌&&◌, None, length, slice_index_or};
 ghost use Rattle.std.specs.Ordering.{is_lt, is_le};
-ghost use Rattle.star_interval.specs.Range.{is_i64};
 ghost use Rattle.star_program.specs.Effects.{answer_of, compared};
 ghost use Rattle.star_program.specs.Private.Doing.{fitting};
-ghost use Rattle.star_program.specs.Values.{number_read, flag_read, row_read, with_entry};
+ghost use Rattle.star_program.specs.Values.{number_read, flag_read, row_read, key_read, with_entry};
 ghost use Rattle.star_trial.specs.Private.Views.{registers_view};
 
-use crate::value::{Register, flag_of, number_of, register, row_of};
-use star_program::{Operator, Value};
+use star_program::{KeyValue, Operator, Value};
 use std::cmp::Ordering;
 
-// The number in a register.
+// A register, which may be empty.
+pub(crate) type Register = Option<Value>;
+
+// The register of a number.
+fn register(registers: &[Register], number: u16) -> Register
+    ensures { result ≡ slice_index_or registers.now number None }
+{
+    match registers.get(number as usize) {
+        Some(register) => *register,
+        None => None,
+    }
+}
+
+// The number in a register: codes and places compare as numbers.
 pub(crate) fn number(registers: &[Register], at: u16) -> i64
     ensures { result ≡ number_read (registers_view registers.now at) }
 {
-    number_of(register(registers, at))
+    match register(registers, at) {
+        Some(Value::Number(number)) => number,
+        Some(Value::Text(_, place) | Value::Place(_, place)) => i64::from(place),
+        _ => 0,
+    }
 }
 
 pub(crate) fn flag(registers: &[Register], at: u16) -> bool
     ensures { result ≡ flag_read (registers_view registers.now at) }
 {
-    flag_of(register(registers, at))
+    match register(registers, at) {
+        Some(Value::Flag(flag)) => flag,
+        _ => false,
+    }
 }
 
-// The sum of two registers, if it doesn't leave 64 bits.
-#[tactic(auto, unfolding(star_interval::specs::Range::is_i64))]
-fn sum(registers: &[Register], left: u16, right: u16) -> Option<i64>
-    ensures { MatchOption result
-        (is_i64 (number_read (registers_view registers.now left) +ℤ number_read (registers_view registers.now right))
-        ≡ false)
-        (λ z. (z ≡ number_read (registers_view registers.now left) +ℤ number_read (registers_view registers.now right))
-        × (is_i64 (number_read (registers_view registers.now left) +ℤ number_read (registers_view registers.now right))
-        ≡ true)) }
+pub(crate) fn row(registers: &[Register], at: u16) -> u32
+    ensures { result ≡ row_read (registers_view registers.now at) }
 {
-    number(registers, left).checked_add(number(registers, right))
+    match register(registers, at) {
+        Some(Value::Row(_, row)) => row,
+        _ => 0,
+    }
 }
 
-// The difference of two registers, if it doesn't leave 64 bits.
-#[tactic(auto, unfolding(star_interval::specs::Range::is_i64))]
-fn difference(registers: &[Register], left: u16, right: u16) -> Option<i64>
-    ensures { MatchOption result
-        (is_i64 (number_read (registers_view registers.now left) -ℤ number_read (registers_view registers.now right))
-        ≡ false)
-        (λ z. (z ≡ number_read (registers_view registers.now left) -ℤ number_read (registers_view registers.now right))
-        × (is_i64 (number_read (registers_view registers.now left) -ℤ number_read (registers_view registers.now right))
-        ≡ true)) }
+pub(crate) fn key(registers: &[Register], at: u16) -> KeyValue
+    ensures { result ≡ key_read (registers_view registers.now at) }
 {
-    number(registers, left).checked_sub(number(registers, right))
-}
-
-// The product of two registers, if it doesn't leave 64 bits.
-#[tactic(auto, unfolding(star_interval::specs::Range::is_i64))]
-fn product(registers: &[Register], left: u16, right: u16) -> Option<i64>
-    ensures { MatchOption result
-        (is_i64 (number_read (registers_view registers.now left) *ℤ number_read (registers_view registers.now right))
-        ≡ false)
-        (λ z. (z ≡ number_read (registers_view registers.now left) *ℤ number_read (registers_view registers.now right))
-        × (is_i64 (number_read (registers_view registers.now left) *ℤ number_read (registers_view registers.now right))
-        ≡ true)) }
-{
-    number(registers, left).checked_mul(number(registers, right))
+    match register(registers, at) {
+        Some(Value::Number(number)) => KeyValue::Number(number),
+        Some(Value::Text(_, code)) => KeyValue::Code(code),
+        _ => KeyValue::Code(0),
+    }
 }
 
 // How the numbers in two registers compare.
@@ -80,19 +78,8 @@ pub(crate) fn is_within(registers: &[Register], value: u16, from: u16, below: u1
     compare(registers, from, value).is_le() && compare(registers, value, below).is_lt()
 }
 
-fn and(registers: &[Register], left: u16, right: u16) -> bool
-    ensures { result ≡ (flag_read (registers_view registers.now left) && flag_read (registers_view registers.now right)) }
-{
-    flag(registers, left) && flag(registers, right)
-}
-
-fn or(registers: &[Register], left: u16, right: u16) -> bool
-    ensures { result ≡ (flag_read (registers_view registers.now left) || flag_read (registers_view registers.now right)) }
-{
-    flag(registers, left) || flag(registers, right)
-}
-
-// An operator's answer, if it is no number beyond 64 bits.
+// An operator's answer on two flags or numbers, if it is no number beyond 64 bits.
+#[tactic(auto, unfolding(star_interval::specs::Range::is_i64))]
 pub(crate) fn answer(
     registers: &[Register],
     operator: Operator,
@@ -102,22 +89,17 @@ pub(crate) fn answer(
     ensures { result
         ≡ fitting (answer_of operator (registers_view registers.now left) (registers_view registers.now right)) }
 {
+    let (x, y) = (number(registers, left), number(registers, right));
     match operator {
-        Operator::Add => sum(registers, left, right).map(Value::Number),
-        Operator::Sub => difference(registers, left, right).map(Value::Number),
-        Operator::Mul => product(registers, left, right).map(Value::Number),
-        Operator::Less => Some(Value::Flag(compare(registers, left, right).is_lt())),
-        Operator::LessOrEqual => Some(Value::Flag(compare(registers, left, right).is_le())),
-        Operator::Equal => Some(Value::Flag(compare(registers, left, right).is_eq())),
-        Operator::And => Some(Value::Flag(and(registers, left, right))),
-        Operator::Or => Some(Value::Flag(or(registers, left, right))),
+        Operator::Add => x.checked_add(y).map(Value::Number),
+        Operator::Sub => x.checked_sub(y).map(Value::Number),
+        Operator::Mul => x.checked_mul(y).map(Value::Number),
+        Operator::Less => Some(Value::Flag(x.cmp(&y).is_lt())),
+        Operator::LessOrEqual => Some(Value::Flag(x.cmp(&y).is_le())),
+        Operator::Equal => Some(Value::Flag(x.cmp(&y).is_eq())),
+        Operator::And => Some(Value::Flag(flag(registers, left) & flag(registers, right))),
+        Operator::Or => Some(Value::Flag(flag(registers, left) | flag(registers, right))),
     }
-}
-
-pub(crate) fn row(registers: &[Register], at: u16) -> u32
-    ensures { result ≡ row_read (registers_view registers.now at) }
-{
-    row_of(register(registers, at))
 }
 
 // Writes a register.

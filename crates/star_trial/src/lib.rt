@@ -6,10 +6,7 @@ mod compute;
 mod fault;
 mod machine;
 mod puts;
-mod report;
-mod start;
 mod trials;
-mod value;
 mod walk;
 
 pub use fault::TrialFault;

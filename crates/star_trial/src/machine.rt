@@ -4,7 +4,7 @@ ghost use Rattle.std.specs.Prelude.{◌≤◌, ◌<◌, ◌+◌, ◌^◌, All};
 ghost use Rattle.star_program.specs.Code.{code_size};
 ghost use Rattle.star_program.specs.Limits.{IsSmall};
 
-use crate::value::Register;
+use crate::compute::Register;
 use star_catalogue::Catalogue;
 use star_program::{Body, Parts};
 use star_schema::TableId;

@@ -1,22 +1,32 @@
 // Programs run over a loaded catalogue, under a bound on visits.
 
-ghost use Rattle.std.specs.Prelude.{◌≤◌, ◌^◌, MatchResult, nat_lt};
+ghost use Rattle.std.specs.Prelude.{◌≡◌, ◌≤◌, ◌^◌, IfOk, MatchResult, length, nat_lt};
 ghost use Rattle.star_program.specs.Limits.{IsWithinLimits};
 ghost use Rattle.star_program.specs.Run.{meaning_of};
+ghost use Rattle.star_program.specs.Values.{no_registers};
 ghost use Rattle.star_trial.specs.Trials.{IsFaultOfEnd, IsTrial};
+ghost use Rattle.star_trial.specs.Private.Views.{registers_view};
 ghost use Rattle.star_trial.specs.Private.Walks.{Finishes};
 ghost use Rattle.star_world.specs.WorldOf.{world_of};
 
+use crate::compute::Register;
 use crate::fault::TrialFault;
 use crate::machine::Machine;
-use crate::report::names_what_is_there;
-use crate::start::empty_registers;
 use crate::walk::walk;
 use star_catalogue::Catalogue;
 use star_group::EagerStore;
+use star_kinds::misnamed_line;
 use star_outcome::Work;
 use star_program::{Fault, MOST_SCANS, Outcome, Parts, Program, TrapKind};
-use std::alloc::Global;
+use std::alloc::{AllocError, Global};
+
+// Makes `count` registers that hold nothing.
+fn empty_registers(alloc: Global, count: usize) -> Result<Vec<Register>, AllocError>
+    ensures len { IfOk result (λ registers. length registers.items ≡ count) }
+    ensures empty { IfOk result (λ registers. registers_view registers.items ≡ no_registers) }
+{
+    Ok(vec![in alloc; None; count]?)
+}
 
 // Runs the instructions from the first on. The registers of the program and those of the scans that
 // can stand one in another are all the memory that it takes beside the groups.
@@ -73,12 +83,14 @@ pub fn trial(
     ensures { IsTrial (world_of catalogue.now) program.now visits result }
 {
     let parts = program.parts();
-    if !names_what_is_there(parts) {
-        return Err(TrialFault::Trap {
+    match misnamed_line(parts) {
+        Some(_) => Err(TrialFault::Trap {
             at: 0,
             kind: TrapKind::Wrong(Fault::BadGroup),
-        });
+        }),
+        None => {
+            let run = run_through(alloc, catalogue, parts, visits)?;
+            Ok(run.into_outcome(alloc, catalogue, parts)?)
+        }
     }
-    let run = run_through(alloc, catalogue, parts, visits)?;
-    Ok(run.into_outcome(alloc, catalogue, parts)?)
 }

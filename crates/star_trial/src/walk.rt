@@ -7,10 +7,9 @@ ghost use Rattle.star_outcome.specs.Sound.{IsSoundValue};
 ghost use Rattle.star_trial.specs.Private.Walks.{Does, HasWorked, IsWalkReady, fault_at, means, means_scan, means_turn, means_turns};
 
 use crate::act::act;
-use crate::compute::set;
+use crate::compute::{Register, set};
 use crate::fault::{Stop, TrialFault};
 use crate::machine::{Machine, Scanned};
-use crate::value::Register;
 use star_group::EagerStore;
 use star_outcome::{Flow, Work};
 use star_program::{Body, Fault, Step, TrapKind, Value};

@@ -15,7 +15,7 @@ pub use Rattle.star_program.specs.CodeOfSteps.{before, code_of_steps}
 pub use Rattle.star_program.specs.Faults.{Kinds, fault_of, group_at, target_fault, target_of, value_count}
 pub use Rattle.star_program.specs.Limits.{IsSmall, IsWithinLimits}
 pub use Rattle.star_program.specs.Puts.{masks}
-pub use Rattle.star_program.specs.ShowLines.{first_unshown, has_column, named_columns, shown_fault}
+pub use Rattle.star_program.specs.ShowLines.{shown_fault}
 unfoldable pub use Rattle.star_program.specs.TrapTexts.{wrong_text}
 pub use Rattle.star_program.specs.Values.{with_entry}
 pub use Rattle.star_program.specs.World.{World, is_text}
@@ -23,7 +23,6 @@ pub use Rattle.star_program.specs.declared.body.Step.{Step}
 pub use Rattle.star_program.specs.declared.body.Step.TheVariants.{Act, Scan}
 pub use Rattle.star_program.specs.declared.fault.Fault.{Fault}
 pub use Rattle.star_program.specs.declared.fault.Fault.TheVariants.{BadRegister, WrittenTwice}
-pub use Rattle.star_program.specs.declared.group.GroupDecl.{GroupDecl}
 pub use Rattle.star_program.specs.declared.group.GroupKey.TheVariants.{Number}
 pub use Rattle.star_program.specs.declared.op.Op.{Op}
 pub use Rattle.star_program.specs.declared.op.Op.TheVariants.{Assign, Put}
@@ -58,7 +57,6 @@ pub use Rattle.star_schema.specs.declared.column.Kind.{Kind}
 pub use Rattle.star_schema.specs.declared.column.TheConstants.{COLUMNS}
 pub use Rattle.star_schema.specs.declared.group.Aggregate.{Aggregate}
 pub use Rattle.star_schema.specs.declared.group.Aggregate.TheVariants.{Sum}
-pub use Rattle.star_schema.specs.declared.group.GroupColumn.{GroupColumn}
 pub use Rattle.star_schema.specs.declared.group.Shape.{Shape}
 pub use Rattle.star_schema.specs.declared.group.Shape.TheVariants.{Cube, Plain, Rollup}
 pub use Rattle.star_schema.specs.declared.sizes.Sizes.{Sizes}
@@ -88,10 +86,10 @@ pub use Rattle.star_world.specs.WorldOf.{world_of}
 pub use Rattle.std.proofs.Math.Nat.{mod-eq_of_lt, mul-le-mul_left, mul_assoc, pow-le-pow_right}
 pub use Rattle.std.proofs.Math.Pow.{pow_mono}
 pub use Rattle.std.proofs.Math.Seq.{drop-cons}
-pub use Rattle.std.proofs.lemmas.Bool.{cases_lt, false≢true, le-leb, leb-false, lt-leb, lt-ltb, ltb-false, ltb-true}
+pub use Rattle.std.proofs.lemmas.Bool.{cases_lt, false≢true, le-leb, leb-false, lt-leb, ltb-false, ltb-true}
 pub use Rattle.std.proofs.lemmas.Bool.Decides.{Decides-eqb, Decides-ltb, eqb_tells}
 pub use Rattle.std.proofs.lemmas.Int.{ints}
-pub use Rattle.std.proofs.lemmas.List.{append-nil, append_assoc, drop_all, get_or-map, get_or-replicate, get_or-set_other, get_or-set_same, get_or_past, length-map, length-replicate, with_items_is}
+pub use Rattle.std.proofs.lemmas.List.{append-nil, append_assoc, drop_all, get_or-map, get_or-replicate, get_or-set_other, get_or-set_same, get_or_past, length-replicate, with_items_is}
 pub use Rattle.std.proofs.lemmas.List.Elements.{All-get_or, filter-append}
 pub use Rattle.std.proofs.lemmas.List.Sums.{sum_by-append, sum_by-cons}
 pub use Rattle.std.proofs.lemmas.Nat.Bits.{bit_at-lt, bit_at-pow_other, bit_at-pow_same, bit_at-zero, bit_at_or, shr_and_one}

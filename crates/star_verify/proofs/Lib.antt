@@ -1,7 +1,6 @@
 mod Common
 mod WorkedTexts
 mod Turns
-mod Lines
 mod Bits
 mod Overflows
 mod Multiples

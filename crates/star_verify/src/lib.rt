@@ -13,7 +13,6 @@ mod operations;
 mod reach;
 mod refusal;
 mod register;
-mod report;
 mod rows;
 mod steps;
 mod tally;

@@ -1,7 +1,7 @@
 -- The first line that is left decides.
 use Rattle.std.proofs.Common.{◌≡◌, ◌+◌, drop, map}
 use Rattle.star_program.specs.ShowLines.{first_unshown}
-use Rattle.star_verify.proofs.report.bad_show.Given as goal
+use Rattle.star_kinds.proofs.report.bad_show.Given as goal
 
 abbrev pub invariant-loop-show : goal.invariant-loop-show
 invariant-loop-show l = record {

@@ -1,7 +1,8 @@
 use Rattle.std.proofs.Common.{◌<◌, ◌+◌, length, map, sym, ap, subst, ◌∙◌}
-use Rattle.star_verify.proofs.Common.{first_unshown, option_or}
-use Rattle.star_verify.proofs.Lines.{both_lines, reported, not_empty}
-use Rattle.star_verify.proofs.report.misnamed_line.Goals as goal
+use Rattle.std.specs.Option.{option_or}
+use Rattle.star_program.specs.ShowLines.{first_unshown}
+use Rattle.star_kinds.proofs.Lines.{both_lines, reported, not_empty}
+use Rattle.star_kinds.proofs.report.misnamed_line.Goals as goal
 
 pub returns-in-Some-bad_show : goal.returns-in-Some-bad_show
 returns-in-Some-bad_show c =

@@ -1,6 +1,6 @@
 use Rattle.std.proofs.Common.{sym, ◌∙◌, arith}
-use Rattle.star_verify.proofs.Lines.{unshown_next, unshown_here, unshown_end}
-use Rattle.star_verify.proofs.report.bad_sort.Goals as goal
+use Rattle.star_kinds.proofs.Lines.{unshown_next, unshown_here, unshown_end}
+use Rattle.star_kinds.proofs.report.bad_sort.Goals as goal
 
 pub returns-then-not-has_column : goal.returns-then-not-has_column
 returns-then-not-has_column c =

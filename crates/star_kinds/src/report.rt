@@ -48,10 +48,10 @@ fn bad_sort(declared: &GroupDecl, first: u8, sorts: &[SortKey]) -> Option<u8>
     None
 }
 
-// Returns the position of the first line of the report that names something undeclared: 0 if the
-// group is not declared or nothing is shown, otherwise the number of the line, from 1, among the
-// show lines followed by the sort lines.
-pub(crate) fn misnamed_line(parts: &Parts) -> Option<u8>
+/// Returns the position of the first line of a report that names something undeclared: 0 if the
+/// group is not declared or nothing is shown, otherwise the number of the line, from 1, among the
+/// show lines followed by the sort lines. Allocates nothing.
+pub fn misnamed_line(parts: &Parts) -> Option<u8>
     requires { IsWithinLimits parts.now }
     ensures { result ≡ shown.shown_fault parts.now }
 {

@@ -1,7 +1,0 @@
-use Rattle.std.proofs.Common.{rules}
-use Rattle.star_interval.specs.Range.{is_i64}
-use Rattle.star_trial.proofs.compute.product.Goals as goal
-
-pub returns : goal.returns
-unfolding is_i64
-returns c = search rules
