@@ -1,11 +1,10 @@
 -- Counts of parts.
 use Rattle.std.proofs.Common.{◌≡◌, ℕ, ◌+◌, ◌<◌, ◌≤◌, Bool, true, false, List, [], ◌∷◌, length, refl, sym, subst, arith}
-use Rattle.std.specs.Prelude.{nat_lt, if◌then◌else◌}
+use Rattle.std.specs.{Prelude.nat_lt, Prelude.if◌then◌else◌, Char.to_ascii_lowercase}
 use Rattle.std.proofs.lemmas.{Bool.ltb-true, Bool.ltb-false, List.length-map}
 use Rattle.star_query.specs.declared.counts.{Part.Part, Counts.Counts}
 use Rattle.star_query.specs.declared.counts.Part.TheVariants.{Item, Aggregate, GroupColumn, SortKey, Comparison, Operand}
-use Rattle.std.specs.Char.{to_ascii_lowercase}
-use Rattle.star_query.specs.{Symbols.Symbol, Symbols.name, Symbols.lowered, Maxima.limit, Derives.same_part, Derives.among, Derives.IsShortName, Derives.IsLongName}
+use Rattle.star_query.specs.{Symbols.Symbol, Symbols.name, Symbols.lowered, Maxima.limit, Derives.same_part, Derives.among, Derives.IsShortName}
 use Rattle.star_query.specs.Private.Machine.{count_of_part, bump, plus, is_over, is_long}
 
 pub not_below : (a b : ℕ) → b ≤ a → nat_lt a b ≡ false
@@ -74,10 +73,6 @@ fits_after n ps fits e p =
 pub short_name : (x : Symbol) → is_long x ≡ false → IsShortName x
 short_name (name t p) e = ltb-false _ _ e
 short_name _ e = tt
-
-pub long_name : (x : Symbol) → is_long x ≡ true → IsLongName x
-long_name (name t p) e = ltb-true _ _ e
-long_name _ e = cc
 
 pub not_long : (x : Symbol) → IsShortName x → is_long x ≡ false
 not_long (name t p) e = not_below 64 (length t) e

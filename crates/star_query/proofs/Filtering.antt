@@ -1,7 +1,6 @@
 -- The parser's functions on conditions go with the machine.
 use Rattle.std.proofs.Common.{◌≡◌, ◌∙◌, ℕ, pos, ◌+◌, ◌<◌, ◌≤◌, [], ◌∷◌, Some, None, Result, Ok, Err, refl, sym, ap, arith}
-use Rattle.std.specs.Prelude.{neg_ℤ}
-use Rattle.std.specs.declared.{alloc.Global.Global, vec.Vec.Vec}
+use Rattle.std.specs.{Prelude.neg_ℤ, declared.alloc.Global.Global, declared.vec.Vec.Vec}
 use Rattle.star_query.specs.declared.token.Keyword.TheVariants as k
 use Rattle.star_query.specs.declared.token.Sign.TheVariants as s
 use Rattle.star_query.specs.declared.{token.Additive.TheVariants.Minus, token.Relation.Relation, fault.ParseError.ParseError, tree.Name.Name, tree.Literal.Literal, tree.Test.Test, tree.Condition.Condition}
@@ -18,8 +17,7 @@ use Rattle.star_query.specs.Private.Phrases.{unsigned_literal, negative_literal,
 use Rattle.star_query.specs.Private.Machine.{compared, low, high, UnitHole, first_unit, next_unit, under_not, ConjHole, first_conj, next_conj, CondHole, in_group, lit_depth, unit_depth, conj_depth, cond_depth, lit_wanted, lit_negative, low_had, unit_wanted, unit_named, equal_had, conj_had, cond_had, give_lit, give_unit, behind_relation, next_step, Verdict}
 use Rattle.star_query.specs.{Views.name_view, Views.literal_view, Views.condition_view, Private.Lists.bad_along}
 use Rattle.star_query.specs.Private.Reads.{Spot, No, verdict, Takes, NoName, ReadsName, ReadsLit, ReadsNamed, ReadsUnit, ReadsConj, ReadsCond}
-use Rattle.star_query.proofs.Accepting.{cond_joins, group_closes}
-use Rattle.star_query.proofs.Descent.{takes, stuck, bad_name, along, same_from, head_no_name}
+use Rattle.star_query.proofs.{Accepting.cond_joins, Accepting.group_closes, Descent.takes, Descent.stuck, Descent.bad_name, Descent.along, Descent.same_from, Descent.head_no_name}
 
 -- literals
 pub read_negated : (old mid new : Spot) (x : Literal) (n : ℕ)

@@ -3,8 +3,8 @@ use Rattle.std.proofs.Common.{◌≡◌, ◌≢◌, ◌∙◌, ℕ, ◌<◌, ◌
 use Rattle.std.specs.List.{AllByRecursion}
 use Rattle.star_query.specs.declared.{counts.Part.Part, fault.Fault.Fault, fault.Fault.TheVariants.Unexpected, fault.Fault.TheVariants.TooDeep, fault.Fault.TheVariants.TooMany, fault.QueryFault.QueryFault}
 use Rattle.star_query.specs.declared.fault.QueryFault.TheVariants as faults
-use Rattle.star_query.specs.{Symbols.Symbol, Symbols.Placed, Symbols.name, Symbols.symbols, Tokens.IsStopped, Tree.Tree, Grammar.Mark, Grammar.IsQuery, Maxima.limit}
-use Rattle.star_query.specs.Derives.{count_begun, IsShortName, IsLongName, Derives, symbols_at, BeginsQuery, Breaks, IsTooDeep, IsTooMany, FirstQueryFault, StopsAt, IsFirstQueryFault, Means}
+use Rattle.star_query.specs.{Symbols.Symbol, Symbols.Placed, Symbols.symbols, Tokens.IsStopped, Tree.Tree, Grammar.Mark, Grammar.IsQuery, Maxima.limit}
+use Rattle.star_query.specs.Derives.{count_begun, IsShortName, Derives, symbols_at, BeginsQuery, QueryFails, unexpected, too_deep, too_many, StopsAt, IsFirstQueryFault, Means}
 use Rattle.star_query.proofs.{Cuts.one_cut, Cuts.tokens_make_text, Cuts.stop_cuts, Verdicts.count_of-append, Verdicts.one_front}
 
 -- ---- the marks of a query, where a token breaks a limit
@@ -26,69 +26,59 @@ symbols-append [] more = refl
 symbols-append (m ∷ front) more = ap (λ l. m.symbol ∷ l) (symbols-append front more)
 
 -- what breaks a limit is a mark of the query
-broken : {IsOver : List Mark → Mark → Type 0} (xs : List Symbol) (tree : Tree) (d : Derives xs tree)
-    (front : List Mark) (left : List Symbol) → xs ≡ symbols_at front ++ left
-    → (b : Breaks IsOver front left) → (more : List Mark) × (d.marks ≡ (front ++ b.at ∷ []) ++ more)
-broken xs tree d front left cut b =
-    let reached = front ++ b.at ∷ [] in
-    let all : symbols_at d.marks ≡ symbols_at reached ++ b.others =
-    d.written ∙ cut ∙ ap (λ l. symbols_at front ++ l) b.here
-    ∙ sym (append_assoc (symbols_at front) (b.at.symbol ∷ []) b.others)
-    ∙ ap (λ l. l ++ b.others) (sym (symbols-append front (b.at ∷ []))) in
-    let s = split d.marks reached b.others all in
+broken : (xs : List Symbol) (tree : Tree) (d : Derives xs tree) (front : List Mark) (at : Mark)
+    (left : List Symbol) → xs ≡ symbols_at front ++ at.symbol ∷ left
+    → BeginsQuery (front ++ at ∷ []) → (more : List Mark) × (d.marks ≡ (front ++ at ∷ []) ++ more)
+broken xs tree d front at left cut begun =
+    let reached = front ++ at ∷ [] in
+    let all : symbols_at d.marks ≡ symbols_at reached ++ left =
+    d.written ∙ cut ∙ sym (append_assoc (symbols_at front) (at.symbol ∷ []) left)
+    ∙ ap (λ l. l ++ left) (sym (symbols-append front (at ∷ []))) in
+    let s = split d.marks reached left all in
     let begins : BeginsQuery s.0 =
     record { more = s.1; tree = tree; query = subst (λ ms. IsQuery ms tree) s.2 d.query } in
-    (s.1, s.2 ∙ ap (λ l. l ++ s.1) (one_front s.0 reached begins b.begins s.3))
+    (s.1, s.2 ∙ ap (λ l. l ++ s.1) (one_front s.0 reached begins begun s.3))
 
 holds_at : (P : Mark → Type 0) (front more : List Mark) (at : Mark)
     → AllByRecursion P ((front ++ at ∷ []) ++ more) → P at
 holds_at P [] more at all = all.0
 holds_at P (m ∷ front) more at all = holds_at P front more at all.1
 
-not_both : (x : Symbol) → IsShortName x → IsLongName x → ⊥
-not_both (name text place) short long = omega (arith, short, long)
-not_both _ short long = long
-
-never_deep : (xs : List Symbol) (tree : Tree) (front : List Mark) (left : List Symbol)
-    → Derives xs tree → xs ≡ symbols_at front ++ left → Breaks IsTooDeep front left → ⊥
-never_deep xs tree front left d cut b =
-    let way = broken xs tree d front left cut b in
-    let shallow = holds_at (λ m. m.depth ≤ 32) front way.0 b.at
+never_fails : (xs : List Symbol) (tree : Tree) (d : Derives xs tree) (front : List Mark)
+    (fault : Fault) (left : List Symbol) → xs ≡ symbols_at front ++ left
+    → QueryFails front fault left → ⊥
+never_fails xs tree d front _ _ cut (unexpected [] none) =
+    none d.marks tree d.query (d.written ∙ cut ∙ append-nil (symbols_at front))
+never_fails xs tree d front _ _ cut (unexpected (x ∷ left) none) =
+    none d.marks tree left d.query (d.written ∙ cut)
+never_fails xs tree d front _ _ cut (too_deep at left begun over) =
+    let way = broken xs tree d front at left cut begun in
+    let shallow = holds_at (λ m. m.depth ≤ 32) front way.0 at
     (subst (AllByRecursion (λ m. m.depth ≤ 32)) way.1 d.within.depth) in
-    let deep : 32 < b.at.depth = b.over in omega (arith, shallow, deep)
-
-never_many : (xs : List Symbol) (tree : Tree) (front : List Mark) (left : List Symbol)
-    → Derives xs tree → xs ≡ symbols_at front ++ left → Breaks IsTooMany front left → ⊥
-never_many xs tree front left d cut b = by b.over.1
+    omega (arith, shallow, over)
+never_fails xs tree d front _ _ cut (too_many at left begun shallow over) = by over
   where
-    way : (more : List Mark) × (d.marks ≡ (front ++ b.at ∷ []) ++ more)
-    way = broken xs tree d front left cut b
+    way : (more : List Mark) × (d.marks ≡ (front ++ at ∷ []) ++ more)
+    way = broken xs tree d front at left cut begun
 
-    by : ((p : Part) × (limit p < count_begun p (front ++ b.at ∷ []))) ⊎ IsLongName b.at.symbol → ⊥
+    by : ((p : Part) × (limit p < count_begun p (front ++ at ∷ []))) ⊎ (IsShortName at.symbol → ⊥)
+        → ⊥
     by (inl (p, many)) =
         let few = subst (λ ms. count_begun p ms ≤ limit p) way.1 (d.within.counts p) in
-        omega (arith, many, few, count_of-append p (front ++ b.at ∷ []) way.0)
+        omega (arith, many, few, count_of-append p (front ++ at ∷ []) way.0)
     by (inr long) =
-        not_both b.at.symbol (holds_at (λ m. IsShortName m.symbol) front way.0 b.at
-        (subst (AllByRecursion (λ m. IsShortName m.symbol)) way.1 d.within.names)) long
-
-never_stops : (xs left : List Symbol) (tree : Tree) (fault : Fault) → Derives xs tree
-    → FirstQueryFault xs fault left → ⊥
-never_stops xs [] tree Unexpected d f =
-    f.fails d.marks tree d.query (d.written ∙ f.cut ∙ append-nil (symbols_at f.front))
-never_stops xs (x ∷ left) tree Unexpected d f =
-    f.fails d.marks tree left d.query (d.written ∙ f.cut)
-never_stops xs left tree TooDeep d f = never_deep xs tree f.front left d f.cut f.fails
-never_stops xs left tree TooMany d f = never_many xs tree f.front left d f.cut f.fails
+        long (holds_at (λ m. IsShortName m.symbol) front way.0 at
+        (subst (AllByRecursion (λ m. IsShortName m.symbol)) way.1 d.within.names))
 
 -- ---- texts
 
 never_left : (bytes : List ℕ) (tree : Tree) (fault : Fault) (left : List Placed) → Means bytes tree
     → StopsAt bytes fault left → ⊥
 never_left bytes tree fault left m s =
-    never_stops (symbols (s.front ++ left)) (symbols left) tree fault
+    never_fails (symbols (s.front ++ left)) tree
     (subst (λ ts. Derives (symbols ts) tree)
-    (one_cut bytes m.tokens (s.front ++ left) m.cut s.cut) m.derives) s.first
+    (one_cut bytes m.tokens (s.front ++ left) m.cut s.cut) m.derives) s.first.front fault
+    (symbols left) s.first.cut s.first.fails
 
 never_cut : (bytes : List ℕ) (tree : Tree) (fault : QueryFault) → Means bytes tree
     → IsStopped bytes fault → ⊥

@@ -1,12 +1,13 @@
 -- The readers of the lexer read what begins at a place.
 use Rattle.std.proofs.Common.{None, ◌≡◌, ◌∙◌, ◌↔◌, ℕ, Bool, true, false, List, [], ◌∷◌, IsTrue, nat_eq, refl, sym, ap, subst, ◌+◌, ◌<◌, ◌≤◌, ◌-◌, arith, length, drop, take, zero, suc, Result, Ok, Err, ◌++◌, append_assoc, append-nil, drop-drop}
-use Rattle.std.specs.{Cmp.Lexicographic.bytes_decides, Cmp.Lexicographic.pointwise, Cmp.Lexicographic.same_text, Char.is_ascii_digit, List.list_all, List.prefix_len, Prelude.nat_lt}
+use Rattle.std.specs.Prelude.{nat_lt, ◌==◌}
+use Rattle.std.specs.{Cmp.Lexicographic.bytes_decides, Cmp.Lexicographic.pointwise, Cmp.Lexicographic.same_text, Char.is_ascii_digit, List.list_all, List.prefix_len, List.slice_get}
 use Rattle.std.proofs.lemmas.Bool.{and_from, le-leb, lt-ltb, ltb-false, ltb-true, or_right}
 use Rattle.star_query.specs.declared.{token.Word.Word, token.Word.TheVariants.Keyword, token.Word.TheVariants.Fold, token.Word.TheVariants.Count, token.Keyword.TheVariants.Select, token.Fold.TheVariants.Sum, fault.QueryFault.TheVariants.BadNumber, fault.QueryFault.TheVariants.OutOfMemory, fault.QueryFault.TheVariants.TooLong, fault.QueryFault.QueryFault}
-use Rattle.star_query.specs.{Symbols.Symbol, Symbols.Placed, Symbols.spelling, Symbols.lowered, Tokens.begins_with_letter, Tokens.is_word_byte, Private.Lexed.front_piece, Private.Lexed.with_tokens, Private.Lexed.begins_with_digit, Private.Lexed.IsCutFault}
-use Rattle.star_query.specs.Private.Cut.{is_spelled, blank, token, bad, cut_from, cut_of, put_in_front, number_piece}
+use Rattle.star_query.specs.{Symbols.Symbol, Symbols.Placed, Symbols.spelling, Symbols.lowered, Tokens.begins_with_letter, Tokens.is_letter, Tokens.is_word_byte, Private.Lexed.front_piece, Private.Lexed.with_tokens, Private.Lexed.begins_with_digit, Private.Lexed.IsCutFault}
+use Rattle.star_query.specs.Private.Cut.{Piece, is_spelled, blank, token, bad, cut_from, cut_of, put_in_front, number_piece, sign_piece}
 use Rattle.std.proofs.lemmas.List.{drop_all, Sums.prefix_len-le-length, Folds.length-prefix_len}
-use Rattle.star_common.specs.Numerals.{is_numeral, numeral_of}
+use Rattle.star_common.specs.{Numerals.is_numeral, Numerals.numeral_of, WhiteSpace.is_blank}
 
 lowered-spelling : (w : Word) → lowered (spelling w) ≡ spelling w
 unfolding spelling
@@ -165,6 +166,14 @@ number_too_long place bytes begins none = go (nat_lt 18 (prefix_len is_ascii_dig
         let few = ltb-false 18 (prefix_len is_ascii_digit bytes) short in
         absurd (let wrong = rw (numeral_front 19 bytes (number_some bytes begins) (omega (arith, few)))
         at none in cc)
+
+-- what begins with a byte that is none of the others begins with a sign
+pub sign_at : (place b : ℕ) (bs text : List ℕ) (found : Piece)
+    → found ≡ sign_piece place b (slice_get bs 0) → text ≡ b ∷ bs
+    → is_blank b ≡ false → is_letter b ≡ false → is_ascii_digit b ≡ false → (b == 39) ≡ false
+    → found ≡ front_piece place text
+sign_at place b bs text found is cut no_blank no_letter no_digit no_quote =
+    rw (cut, no_blank, no_letter, no_digit, no_quote) is
 
 pub fault_of_cut : (bytes : List ℕ) (fault : QueryFault) → cut_of bytes ≡ Err fault
     → IsCutFault bytes fault

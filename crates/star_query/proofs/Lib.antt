@@ -1,5 +1,4 @@
 pub mod Quotes
-pub mod Signs
 pub mod Lexing
 pub mod Accepting
 pub mod Passed
@@ -16,6 +15,7 @@ pub mod Parsing
 pub mod Within
 pub mod Spelling
 pub mod Spelled
+pub mod Pieces
 pub mod Cuts
 pub mod MeantTrees
 pub mod Reserved

@@ -1,6 +1,5 @@
 -- What some text means is within the limits, and spelled as the grammar wants.
-use Rattle.std.proofs.Math.Logic.{∥∥₁_elim}
-use Rattle.std.proofs.Props.{props}
+use Rattle.std.proofs.{Math.Logic.∥∥₁_elim, Props.props}
 use Rattle.star_query.specs.{Limits.IsQueryWithinLimits, Meant.IsMeant, Spelled.IsSpelledQuery, Tree.Tree}
 use Rattle.star_query.proofs.{Spelled.meant_spelled, Within.derived_within}
 

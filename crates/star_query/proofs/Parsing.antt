@@ -1,8 +1,7 @@
 -- A query from its tokens and from its text.
 use Rattle.std.proofs.Common.{◌≡◌, ◌∙◌, ℕ, ◌-◌, ◌≤◌, List, [], ◌∷◌, ◌++◌, map, length, take, drop, Ok, Err, refl, sym, ap, subst, arith, length-append}
 use Rattle.std.specs.List.{drop-map}
-use Rattle.std.proofs.Math.Seq.{drop-append_seam}
-use Rattle.std.proofs.lemmas.List.{length-map, take-append-drop}
+use Rattle.std.proofs.{Math.Seq.drop-append_seam, lemmas.List.length-map, lemmas.List.take-append-drop}
 use Rattle.star_query.specs.declared.{token.Token.Token, fault.Fault.Fault, fault.Fault.TheVariants.Unexpected, fault.Fault.TheVariants.TooDeep, fault.Fault.TheVariants.TooMany, fault.ParseError.ParseError, fault.QueryFault.QueryFault, tree.Tree.Tree, counts.Counts.Counts}
 use Rattle.star_query.specs.declared.fault.ParseError.TheVariants as errors
 use Rattle.star_query.specs.declared.fault.QueryFault.TheVariants as faults
@@ -10,8 +9,7 @@ use Rattle.star_query.specs.{Symbols.Symbol, Symbols.Placed, Symbols.symbols, Pr
 use Rattle.star_query.specs.Tree as tree
 use Rattle.star_query.specs.Derives.{symbols_at, Derives, FirstQueryFault, Means, StopsAt, IsFirstQueryFault, first_place}
 use Rattle.star_query.specs.Private.TokenFaults.{TokensStopAt, IsTokenFault, refusal_of, query_fault, IsTreeRead}
-use Rattle.star_query.proofs.Cuts.{one_cut, tokens_make_text, stop_cuts}
-use Rattle.star_query.proofs.Verdicts.{verdict_of, derives, one_tree, first_fault, refuses}
+use Rattle.star_query.proofs.{Cuts.one_cut, Cuts.tokens_make_text, Cuts.stop_cuts, Verdicts.verdict_of, Verdicts.derives, Verdicts.one_tree, Verdicts.first_fault, Verdicts.refuses}
 
 pub spot_symbols : (ts : List Token)
     → map (λ t. symbol_of t.kind t.place) ts ≡ symbols (map placed ts)

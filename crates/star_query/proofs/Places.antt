@@ -1,7 +1,6 @@
 -- The place of the tokens that are left.
 use Rattle.std.proofs.Common.{◌≡◌, ℕ, ◌<◌, List, [], ◌∷◌, zero, suc, map, length, drop, get_or, ap, arith}
-use Rattle.star_query.specs.declared.token.Token.{Token}
-use Rattle.star_query.specs.{Private.Lexed.placed, Derives.first_place}
+use Rattle.star_query.specs.{declared.token.Token.Token, Private.Lexed.placed, Derives.first_place}
 
 pub some_place : (ts : List Token) (n end : ℕ) (t : Token) → n < length ts → t ≡ get_or ts n t
     → t.place ≡ first_place (drop n (map placed ts)) end

@@ -1,32 +1,36 @@
 -- The parser's functions on the clauses of a query go with the machine.
 use Rattle.std.proofs.Common.{◌≡◌, ◌∙◌, ℕ, ◌<◌, ◌≤◌, Bool, true, false, List, [], ◌∷◌, map, length, Option, Some, None, Result, Ok, Err, refl, sym, ap, subst, arith}
 use Rattle.std.specs.Prelude.{OnOk, ◌==◌}
-use Rattle.std.specs.Bool.{OnTrue, OnFalse}
-use Rattle.std.specs.declared.{alloc.Global.Global, vec.Vec.Vec}
+use Rattle.std.specs.{Bool.OnTrue, Bool.OnFalse, declared.alloc.Global.Global, declared.vec.Vec.Vec}
 use Rattle.star_query.specs.declared.{token.Fold.Fold, fault.Fault.TheVariants.Unexpected, fault.ParseError.ParseError, clauses.Function.Function, parser.Parser.Parser, token.Token.Token, tree.Name.Name, tree.Expression.Expression, tree.Test.Test, tree.Condition.Condition, tree.Measure.Measure, tree.Grouping.Grouping, tree.SortKey.SortKey, tree.Tree.Tree}
 use Rattle.star_query.specs.declared.token.Keyword.TheVariants as k
 use Rattle.star_query.specs.declared.token.Sign.TheVariants as s
+use Rattle.star_query.specs.{declared.counts.Part.Part, Private.Lexed.symbol_of, Symbols.Symbol, Symbols.keyword, Symbols.sign, Symbols.name, Private.Lists.PassesComma, Private.Lists.bad_along}
 use Rattle.star_query.specs.declared.counts.Part.TheVariants as part
 use Rattle.star_query.specs.declared.fault.ParseError.TheVariants as errors
-use Rattle.star_query.specs.{Private.Lexed.symbol_of, Symbols.Symbol, Symbols.keyword, Symbols.sign, Symbols.name, Private.Lists.PassesComma, Private.Lists.bad_along}
 use Rattle.star_query.specs.declared.tree.Measure.TheVariants as measures
 use Rattle.star_query.specs.declared.tree.Item.TheVariants as items
 use Rattle.star_schema.specs.declared.group.{Shape.Shape, Shape.TheVariants.Plain, Direction.TheVariants.Ascending, Direction.TheVariants.Descending}
 use Rattle.star_query.specs.Tree as tree
 use Rattle.star_query.specs.Private.Phrases as grammar
 use Rattle.star_query.specs.Private.Phrases.{Several, Agg, folded, counted, Cond, lone_conj, or_conj, Key, unmarked, ascending, descending, grouped, hiding, Query, at, first, ident, cond_tree, agg_tree, item_tree, names, groups_tree, Hiding, cube, rollup, hiding_word, shape_of}
-use Rattle.star_query.specs.Private.Machine.{extended, in_fold, in_where, first_factor, first_term, first_unit, first_conj, Filtered, Grouped, filtered_by, grouped_by, query_of, ParserState, begin, item_wanted, fold_named, count_named, count_opened, count_starred, factor_wanted, expr_had, cond_had, agg_had, alias_wanted, items_had, table_wanted, tables_had, unit_wanted, filtered_had, by_had, hiding_had, column_wanted, columns_had, grouped_had, order_had, key_wanted, key_named, keys_had, done, ended, to, next_step, query_at_end, Bad}
+use Rattle.star_query.specs.Private.Machine.{extended, in_fold, in_where, Filtered, Grouped, filtered_by, grouped_by, query_of, ParserState, item_wanted, fold_named, count_named, cond_had, agg_had, alias_wanted, items_had, table_wanted, tables_had, filtered_had, by_had, hiding_had, column_wanted, columns_had, grouped_had, key_wanted, key_named, keys_had, done, ended, to, next_step, query_at_end, Bad}
 use Rattle.star_query.specs.Views.{name_view, measure_view}
 use Rattle.star_query.specs.Private.Reads.{Spot, spot_of, head_of, No, verdict, EndsBad, Takes, NoName, ReadsName, ReadsExpr, ReadsCond, NoLogic}
 use Rattle.star_query.specs.Private.Clauses.{function_symbol, function_named, function_parts, ReadsFolded, ReadsCounted, ReadsMeasure, ReadsAlias, ReadsAggregate, ReadsItem, NoComma, ReadsItems, ReadsTable, ReadsTables, ReadsFilter, ReadsColumn, ReadsColumns, ReadsHidden, ReadsGroups, ReadsGrouping, ReadsKey, ReadsKeyList, ReadsKeys, ReadsEnd, ReadsQuery}
-use Rattle.star_query.proofs.Accepting.{fold_closes}
-use Rattle.star_query.proofs.Descent.{takes, stuck, bad_name, same_from, head_no_name}
+use Rattle.star_query.proofs.{Accepting.fold_closes, Descent.takes, Descent.stuck, Descent.bad_name, Descent.same_from, Descent.head_no_name}
 
 zero_deep : 0 ≤ 32
 zero_deep = omega arith
 
+-- past a symbol that stands under no nesting
+pub past : {old new : Spot} {x : Symbol} {ps : List Part} (from next : ParserState)
+    → Takes old new x ps → next_step from x ≡ to next (first ps 0 x)
+    → verdict old from ≡ verdict new next
+past {old} {new} {x} {ps} from next t e = takes old new x ps 0 from next t zero_deep e
+
 pub comma_passed : (here mid : Spot) → Takes here mid (sign s.Comma) [] → PassesComma here mid
-comma_passed here mid t = λ from next e. takes here mid _ [] 0 from next t zero_deep e
+comma_passed here mid t = λ from next e. past from next t e
 
 -- what has to be next, and isn't
 pub not_next : (x : Symbol) (old new : Spot) (from : ParserState) (e : ParseError)
@@ -45,11 +49,8 @@ pub read_folded : (old a b new : Spot) (f : Fold) (x : Expression Name)
 read_folded old a b new f x opened reads closed = (
   reads.0,
   ap (tree.fold f) reads.1,
-  λ h u. takes old a _ [] 0 (fold_named h.0 f h.1)
-      (factor_wanted (first_factor (first_term (in_fold h.0 f h.1)))) opened zero_deep refl
-      ∙ reads.2 (in_fold h.0 f h.1) refl
-      ∙ takes b new _ [] 0 (expr_had reads.0 (in_fold h.0 f h.1))
-      (agg_had h.0 (folded f h.1 reads.0)) closed zero_deep (fold_closes reads.0 h.0 f h.1),
+  λ h u. past _ _ opened refl ∙ reads.2 (in_fold h.0 f h.1) refl
+      ∙ past _ _ closed (fold_closes reads.0 h.0 f h.1),
 )
 
 pub read_counted : (old a b new : Spot) → Takes old a (sign s.Open) [] → Takes a b (sign s.Star) []
@@ -57,10 +58,7 @@ pub read_counted : (old a b new : Spot) → Takes old a (sign s.Open) [] → Tak
 read_counted old a b new opened star closed = (
   tt,
   refl,
-  λ h u. takes old a _ [] 0 (count_named h.0 h.1) (count_opened h.0 h.1) opened
-      zero_deep refl ∙ takes a b _ [] 0 (count_opened h.0 h.1) (count_starred h.0 h.1) star
-      zero_deep refl ∙ takes b new _ [] 0 (count_starred h.0 h.1) (agg_had h.0 (counted h.1))
-      closed zero_deep refl,
+  λ h u. past _ _ opened refl ∙ past _ _ star refl ∙ past _ _ closed refl,
 )
 
 pub folded_measure : (f : Function) (q : Fold) (old new : Spot)
@@ -113,9 +111,7 @@ pub read_alias : (old mid new : Spot) (n : Name) → Takes old mid (keyword k.As
 read_alias old mid new n t u = (
   Some (name_view n),
   refl,
-  λ h v. takes old mid _ [] 0 (agg_had h.0 h.1) (alias_wanted h.0 h.1) t zero_deep refl
-      ∙ takes mid new _ [] 0 (alias_wanted h.0 h.1)
-      (items_had (extended h.0 (grammar.aggregate h.1 (Some (name_view n))))) u zero_deep refl,
+  λ h v. past _ _ t refl ∙ past _ _ u refl,
 )
 
 only_alias : (b : Option (Several grammar.Item)) (a : Agg) (x : Symbol) → NoName (x ∷ [])
@@ -126,8 +122,7 @@ only_alias b a _ none = refl
 pub bad_alias : (old mid new : Spot) (e : ParseError) → Takes old mid (keyword k.As) []
     → ReadsName [] mid new (Err e) → ReadsAlias old new (Err e)
 bad_alias old mid new e t b =
-    λ h u. bad_along e new _ _
-    (takes old mid _ [] 0 (agg_had h.0 h.1) (alias_wanted h.0 h.1) t zero_deep refl)
+    λ h u. bad_along e new _ _ (past _ _ t refl)
     (bad_name [] 0 (alias_wanted h.0 h.1) mid new e zero_deep
     (λ w p. (_, refl))
     (λ none. stuck mid (alias_wanted h.0 h.1) (λ e. refl)
@@ -165,9 +160,7 @@ pub read_item_name : (old mid new : Spot) (n : Name) → mid ≡ old
 read_item_name old mid new n same t = (
   grammar.plain (name_view n),
   refl,
-  λ b u. ap (λ s. verdict s (item_wanted b)) (sym same)
-      ∙ takes mid new _ (part.Item ∷ []) 0 (item_wanted b)
-      (items_had (extended b (grammar.plain (name_view n)))) t zero_deep refl,
+  λ b u. ap (λ s. verdict s (item_wanted b)) (sym same) ∙ past _ _ t refl,
 )
 
 -- items
@@ -188,13 +181,7 @@ bad_table is b old new e reads =
 
 pub read_table : (old new : Spot) (r : Result Name ParseError) → ReadsName [] old new r
     → ReadsTable old new r
-read_table old new (Ok n) t = (
-  name_view n,
-  refl,
-  λ h u.
-      takes old new _ [] 0 (table_wanted h.0 h.1) (tables_had h.0 (extended h.1 (name_view n))) t
-      zero_deep refl,
-)
+read_table old new (Ok n) t = (name_view n, refl, λ h u. past _ _ t refl)
 read_table old new (Err e) bad = λ h u. bad_table h.0 h.1 old new e bad
 
 -- the filter
@@ -220,9 +207,7 @@ pub read_filter : (old mid new : Spot) (c : Condition Test) → Takes old mid (k
 read_filter old mid new c t reads none = (
   Some reads.0,
   ap Some reads.1,
-  λ h u. takes old mid _ [] 0 (tables_had h.0 h.1)
-      (unit_wanted (first_unit (first_conj (in_where h.0 h.1)))) t zero_deep refl
-      ∙ reads.2 (in_where h.0 h.1) refl
+  λ h u. past _ _ t refl ∙ reads.2 (in_where h.0 h.1) refl
       ∙ same_from new (cond_had reads.0 (in_where h.0 h.1))
       (filtered_had (filtered_by h.0 h.1 (Some reads.0))) (cond_acts_end reads.0 h.0 h.1)
       (λ x head. cond_step reads.0 h.0 h.1 x (λ q. none.0 (head ∙ ap Some q))
@@ -232,10 +217,7 @@ read_filter old mid new c t reads none = (
 pub bad_filter : (old mid new : Spot) (e : ParseError) → Takes old mid (keyword k.Where) []
     → ReadsCond 0 mid new (Err e) → ReadsFilter old new (Err e)
 bad_filter old mid new e t b =
-    λ h u. bad_along e new _ _
-    (takes old mid _ [] 0 (tables_had h.0 h.1)
-    (unit_wanted (first_unit (first_conj (in_where h.0 h.1)))) t zero_deep refl)
-    (b (in_where h.0 h.1) refl)
+    λ h u. bad_along e new _ _ (past _ _ t refl) (b (in_where h.0 h.1) refl)
 
 tables_step : (is : Several grammar.Item) (ts : Several tree.Name) (x : Symbol)
     → (x ≡ sign s.Comma → ⊥) → (x ≡ keyword k.Where → ⊥)
@@ -272,13 +254,7 @@ bad_column_name f h b old new e reads =
 
 pub read_column : (old new : Spot) (r : Result Name ParseError)
     → ReadsName (part.GroupColumn ∷ []) old new r → ReadsColumn old new r
-read_column old new (Ok n) t = (
-  name_view n,
-  refl,
-  λ h u.
-      takes old new _ (part.GroupColumn ∷ []) 0 (column_wanted h.0.0 h.0.1 h.1)
-      (columns_had h.0.0 h.0.1 (extended h.1 (name_view n))) t zero_deep refl,
-)
+read_column old new (Ok n) t = (name_view n, refl, λ h u. past _ _ t refl)
 read_column old new (Err e) bad = λ h u. bad_column_name h.0.0 h.0.1 h.1 old new e bad
 
 -- groups
@@ -289,34 +265,27 @@ hidden_ends f h is (sign s.Comma) a b = absurd (a refl)
 hidden_ends f h is (sign s.Close) a b = absurd (b refl)
 hidden_ends f h is _ a b = refl
 
-opens : (old a : Spot) (f : Filtered) (h : Hiding) → Takes old a (sign s.Open) []
-    → verdict old (hiding_had f h) ≡ verdict a (column_wanted f (Some h) None)
-opens old a f h opened =
-    takes old a _ [] 0 (hiding_had f h) (column_wanted f (Some h) None) opened zero_deep refl
-
 pub read_hidden : (shape : Shape) (old a b new : Spot) (v : _) → Takes old a (sign s.Open) []
     → ReadsColumns a b (Ok v) → Takes b new (sign s.Close) []
     → ReadsHidden shape old new (Ok (record { shape = shape; columns = v }))
 read_hidden shape old a b new v opened reads closed = (
   reads.0,
   ap (λ x. record { shape = shape; columns = x }) reads.1,
-  λ h u. opens old a h.0 h.1 opened ∙ reads.2 (h.0, Some h.1) tt
-      ∙ takes b new _ [] 0 (columns_had h.0 (Some h.1) reads.0)
-      (grouped_had (grouped_by h.0 (hiding h.1 reads.0))) closed zero_deep refl,
+  λ h u. past _ _ opened refl ∙ reads.2 (h.0, Some h.1) tt ∙ past _ _ closed refl,
 )
 
 pub bad_hidden_columns : (shape : Shape) (old a new : Spot) (e : ParseError)
     → Takes old a (sign s.Open) [] → ReadsColumns a new (Err e)
     → ReadsHidden shape old new (Err e)
 bad_hidden_columns shape old a new e opened bad =
-    λ h u. bad_along e new _ _ (opens old a h.0 h.1 opened) (bad (h.0, Some h.1) tt)
+    λ h u. bad_along e new _ _ (past _ _ opened refl) (bad (h.0, Some h.1) tt)
 
 pub bad_hidden_close : (shape : Shape) (old a b new : Spot) (v : _) (e : ParseError)
     → Takes old a (sign s.Open) [] → ReadsColumns a b (Ok v) → NoComma b
     → (e ≡ errors.Fault Unexpected) × No (sign s.Close) b × (new ≡ b)
     → ReadsHidden shape old new (Err e)
 bad_hidden_close shape old a b new v e opened reads no_comma bad =
-    λ h u. bad_along e new _ _ (opens old a h.0 h.1 opened ∙ reads.2 (h.0, Some h.1) tt)
+    λ h u. bad_along e new _ _ (past _ _ opened refl ∙ reads.2 (h.0, Some h.1) tt)
     (not_next (sign s.Close) b new (columns_had h.0 (Some h.1) reads.0) e refl
     (λ y head other. hidden_ends h.0 h.1 reads.0 y (λ q. no_comma (head ∙ ap Some q)) other) bad)
 
@@ -330,8 +299,7 @@ word_taken : (h : Hiding) (old here a : Spot) (f : Filtered) → here ≡ old
     → Takes here a (keyword (hiding_word h)) []
     → verdict old (by_had f) ≡ verdict a (hiding_had f h)
 word_taken h old here a f same word =
-    ap (λ s. verdict s (by_had f)) (sym same)
-    ∙ takes here a _ [] 0 (by_had f) (hiding_had f h) word zero_deep (on_word f h)
+    ap (λ s. verdict s (by_had f)) (sym same) ∙ past _ _ word (on_word f h)
 
 pub read_hiding : (h : Hiding) (old here a new : Spot) (r : Result Grouping ParseError) → here ≡ old
     → Takes here a (keyword (hiding_word h)) [] → ReadsHidden (shape_of h) a new r
@@ -394,10 +362,7 @@ pub read_descending : (old mid new : Spot) (n : Name)
 read_descending old mid new n t u = (
   descending (name_view n),
   refl,
-  λ h v. takes old mid _ (part.SortKey ∷ []) 0 (key_wanted h.0 h.1)
-      (key_named h.0 h.1 (name_view n)) t zero_deep refl
-      ∙ takes mid new _ [] 0 (key_named h.0 h.1 (name_view n))
-      (keys_had h.0 (extended h.1 (descending (name_view n)))) u zero_deep refl,
+  λ h v. past _ _ t refl ∙ past _ _ u refl,
 )
 
 pub read_ascending : (old mid here new : Spot) (n : Name)
@@ -407,11 +372,9 @@ pub read_ascending : (old mid here new : Spot) (n : Name)
 read_ascending old mid here new n t same u = (
   ascending (name_view n),
   refl,
-  λ h v. takes old mid _ (part.SortKey ∷ []) 0 (key_wanted h.0 h.1)
-      (key_named h.0 h.1 (name_view n)) t zero_deep refl
+  λ h v. past _ _ t refl
       ∙ ap (λ s. verdict s (key_named h.0 h.1 (name_view n))) (sym same)
-      ∙ takes here new _ [] 0 (key_named h.0 h.1 (name_view n))
-      (keys_had h.0 (extended h.1 (ascending (name_view n)))) u zero_deep refl,
+      ∙ past _ _ u refl,
 )
 
 pub read_unmarked : (old mid here new : Spot) (n : Name)
@@ -421,8 +384,7 @@ pub read_unmarked : (old mid here new : Spot) (n : Name)
 read_unmarked old mid here new n t no_desc same no_asc last = (
   unmarked (name_view n),
   refl,
-  λ h v. takes old mid _ (part.SortKey ∷ []) 0 (key_wanted h.0 h.1)
-      (key_named h.0 h.1 (name_view n)) t zero_deep refl
+  λ h v. past _ _ t refl
       ∙ same_from mid (key_named h.0 h.1 (name_view n))
       (keys_had h.0 (extended h.1 (unmarked (name_view n)))) refl
       (λ x head. key_step h.0 h.1 (name_view n) x
@@ -440,9 +402,7 @@ keys_step g ks _ other = refl
 -- behind ORDER BY
 order_by_passed : (old a b : Spot) (g : Grouped) → Takes old a (keyword k.Order) []
     → Takes a b (keyword k.By) [] → verdict old (grouped_had g) ≡ verdict b (key_wanted g None)
-order_by_passed old a b g order by =
-    takes old a _ [] 0 (grouped_had g) (order_had g) order zero_deep refl
-    ∙ takes a b _ [] 0 (order_had g) (key_wanted g None) by zero_deep refl
+order_by_passed old a b g order by = past _ _ order refl ∙ past _ _ by refl
 
 pub read_keys : (old a b new : Spot) (r : Result (Vec SortKey Global) ParseError)
     → Takes old a (keyword k.Order) [] → Takes a b (keyword k.By) [] → ReadsKeyList b new r
@@ -467,7 +427,7 @@ pub bad_end : (old new : Spot) (b : Bool) → (OnTrue b (Takes old new (sign s.S
     → (OnFalse b (No (sign s.Semicolon) old × (new ≡ old))) → 0 < length new.left
     → ReadsEnd {A = Unit {0}} old new (Err (errors.Fault Unexpected))
 bad_end old new true t f some =
-    λ g ks. takes old new _ [] 0 (done g ks) (ended g ks) t zero_deep refl
+    λ g ks. past _ _ t refl
     ∙ stuck new (ended g ks) (λ e. absurd (omega (arith, ap length e))) (λ x head. refl)
 bad_end old new false t f some =
     λ g ks. ap (λ s. verdict s (done g ks)) (sym f.1)
@@ -495,18 +455,9 @@ pub bad_item_aggregate : (old mid new : Spot) (f : Function) (e : ParseError)
     → ReadsItem old new (Err e)
 bad_item_aggregate old mid new f e t b =
     λ h u. bad_along e new _ _
-    (takes old mid _ function_parts 0 (item_wanted h) (function_named h f) t zero_deep
-    (function_step h f.fold f.place)) (b h tt)
+    (past _ _ t (function_step h f.fold f.place)) (b h tt)
 
 -- a query
-pub past_select : (old a : Spot) → Takes old a (keyword k.Select) []
-    → verdict old begin ≡ verdict a (item_wanted None)
-past_select old a t = takes old a _ [] 0 begin (item_wanted None) t zero_deep refl
-
-pub past_from : (b c : Spot) (is : Several grammar.Item) → Takes b c (keyword k.From) []
-    → verdict b (items_had is) ≡ verdict c (table_wanted is None)
-past_from b c is t = takes b c _ [] 0 (items_had is) (table_wanted is None) t zero_deep refl
-
 items_end : (is : Several grammar.Item) (x : Symbol) → (x ≡ sign s.Comma → ⊥)
     → (x ≡ keyword k.From → ⊥) → next_step (items_had is) x ≡ None
 items_end is (sign s.Comma) f g = absurd (f refl)
@@ -537,7 +488,7 @@ pub read_query : (old a b c d e f g new : Spot) (t : Tree) (u : Unit {0})
 read_query old a b c d e f g new t u select is from ts filter groups keys end = (
   query_of (grouped_by (filtered_by is.0 ts.0 filter.0) groups.0) keys.0 end.0,
   same_tree _ _ _ _ _ _ _ _ _ _ is.1 ts.1 filter.1 groups.1 keys.1,
-  past_select old a select ∙ is.2 tt tt ∙ past_from b c is.0 from ∙ ts.2 is.0 tt
+  past _ _ select refl ∙ is.2 tt tt ∙ past _ _ from refl ∙ ts.2 is.0 tt
       ∙ filter.2 (is.0, ts.0) tt ∙ groups.2 (filtered_by is.0 ts.0 filter.0) tt
       ∙ keys.2 (grouped_by (filtered_by is.0 ts.0 filter.0) groups.0) tt
       ∙ end.1 (grouped_by (filtered_by is.0 ts.0 filter.0) groups.0) keys.0,

@@ -5,8 +5,7 @@ use Rattle.std.proofs.lemmas.{Bool.and_from, Bool.and_parts, Bool.le-leb, List.F
 use Rattle.star_query.specs.declared.{counts.Part.Part, token.Additive.TheVariants.Plus, token.Additive.TheVariants.Minus}
 use Rattle.star_query.specs.declared.token.Keyword.TheVariants as k
 use Rattle.star_query.specs.declared.token.Sign.TheVariants as s
-use Rattle.star_query.specs.Symbols.{additive, keyword, sign, name}
-use Rattle.star_query.specs.{Tokens.begins_with_letter, Tokens.is_word_byte, Derives.IsShortName, Derives.symbols_at, Derives.Means}
+use Rattle.star_query.specs.{Symbols.additive, Symbols.keyword, Symbols.sign, Symbols.name, Tokens.begins_with_letter, Tokens.is_word_byte, Derives.IsShortName, Derives.symbols_at, Derives.Means}
 use Rattle.star_schema.specs.Tables.{Value}
 use Rattle.star_query.specs.Tree.{Name, Expression, Condition, Test, Measure, Grouping, SortKey, Tree}
 use Rattle.star_query.specs.Grammar as w

@@ -5,12 +5,11 @@ use Rattle.std.proofs.lemmas.Bool.{and_from, and_parts, le-leb, lt-ltb, ltb-true
 use Rattle.std.proofs.lemmas.Int.Digits.{digits_value-lt}
 use Rattle.star_common.specs.Numerals.{numeral_of}
 use Rattle.star_common.proofs.NumeralLemmas.{all_digits, below_power}
-use Rattle.star_query.specs.declared.token.Word.{Word}
+use Rattle.star_query.specs.{declared.token.Word.Word, Symbols.Symbol, Symbols.Placed, Symbols.name, Symbols.number, Symbols.text, Symbols.symbols, Symbols.word_symbol, Symbols.lowered}
 use Rattle.star_query.specs.declared.token.Word.TheVariants as words
-use Rattle.star_query.specs.Symbols.{Symbol, Placed, name, number, text, symbols, word_symbol, lowered}
 use Rattle.star_query.specs.Tokens.{is_letter, is_word_byte, begins_with_letter, IsToken, a_word, a_name, a_number, a_text, a_sign, AreTokens, no_more, white_space, a_token}
 use Rattle.star_query.specs.Spelled.{is_printable_text}
-use Rattle.star_query.proofs.{Counting.by_bool, Cuts.each_sign, Cuts.numeral_parts}
+use Rattle.star_query.proofs.{Counting.by_bool, Pieces.each_sign, Cuts.numeral_parts}
 
 -- as the token is spelled; a name's length is asked for elsewhere
 abbrev pub token_is_spelled : Symbol → Bool

@@ -2,7 +2,7 @@
 use Rattle.std.proofs.Common.{◌≡◌, ◌∙◌, ℕ, ◌+◌, ◌<◌, ◌≤◌, Bool, true, false, List, [], ◌∷◌, ◌++◌, Result, Ok, Err, length, map, drop, get_or, refl, sym, ap, subst, arith, append_assoc}
 use Rattle.std.proofs.lemmas.List.{drop_more, length-map}
 use Rattle.star_query.specs.declared.{parser.Parser.Parser, counts.Part.Part, counts.Counts.Counts, fault.ParseError.ParseError, fault.Fault.TheVariants.Unexpected, fault.Fault.TheVariants.TooDeep, fault.Fault.TheVariants.TooMany}
-use Rattle.star_query.specs.{Private.Lexed.symbol_of, Symbols.Symbol, Symbols.name, Symbols.number, Private.Quoted.undoubled, Private.Quoted.unquoted_after, Maxima.limit, Private.Machine.count_of_part, Private.Machine.bump}
+use Rattle.star_query.specs.{Private.Lexed.symbol_of, Symbols.Symbol, Symbols.name, Symbols.number, Private.Cut.undoubled, Private.Cut.unquoted_after, Maxima.limit, Private.Machine.count_of_part, Private.Machine.bump}
 use Rattle.std.specs.Prelude.{◌==◌}
 use Rattle.star_query.specs.declared.fault.ParseError.TheVariants as errors
 use Rattle.star_query.specs.Private.Reads.{Spot, spot_of, Takes, IsName, IsNumber, NoName, NoNumber, IsBeyond, ReadsToken}

@@ -5,10 +5,10 @@ use Rattle.std.proofs.lemmas.Bool.{ltb-true, ltb-false}
 use Rattle.star_query.specs.declared.{counts.Part.Part, counts.Counts.Counts, fault.Fault.Fault, fault.Fault.TheVariants.Unexpected, fault.Fault.TheVariants.TooDeep, fault.Fault.TheVariants.TooMany}
 use Rattle.star_query.specs.declared.counts.Part.TheVariants.{Item, Aggregate, GroupColumn, SortKey, Comparison, Operand}
 use Rattle.star_query.specs.{Symbols.Symbol, Symbols.symbols, Tree.Tree, Private.Phrases.Query, Private.Phrases.query_marks, Private.Phrases.query_tree, Maxima.limit, Grammar.Mark, Grammar.IsQuery}
-use Rattle.star_query.specs.Derives.{count_begun, IsShortName, IsLongName, AreWithinLimits, symbols_at, Derives, BeginsQuery, NoQueryGoesOn, Breaks, IsTooDeep, IsTooMany, QueryFails, FirstQueryFault, Means}
+use Rattle.star_query.specs.Derives.{count_begun, IsShortName, AreWithinLimits, symbols_at, Derives, BeginsQuery, NoQueryGoesOn, QueryFails, unexpected, too_deep, too_many, FirstQueryFault, Means}
 use Rattle.star_query.specs.Private.Machine.{ParserState, begin, Step, to, next_step, query_at_end, Verdict, Whole, Bad, count_of_part, plus, is_over, is_long, checked, verdict_after, ends, run, nothing_counted}
 use Rattle.star_query.proofs.{Cuts.one_cut, Accepting.Accepts, Accepting.query_goes, Passed.passed, Passed.step_moves, Phrased.is_query, Phrased.query_is, Phrased.phrased, Phrased.begun, Finishes.state_finishes, Finishes.end_passed}
-use Rattle.star_query.proofs.Counting.{not_below, number-plus, not_over, over_some, fits_after, short_name, long_name, not_long}
+use Rattle.star_query.proofs.Counting.{not_below, number-plus, not_over, over_some, fits_after, short_name, not_long}
 
 -- from one state to another through these marks
 abbrev pub Goes : ParserState → List Mark → ParserState → Type 0
@@ -326,19 +326,6 @@ goes_one_more [] from last next m way e = (next, ap (λ s. next_step s m.symbol)
 goes_one_more (f ∷ fs) from last next m way e =
     (way.0, way.1, goes_one_more fs way.0 last next m way.2 e)
 
-breaks : (IsOver : List Mark → Mark → Type 0) (Over : Mark → Type 0) (front : List Mark)
-    (last : ParserState) (left : List Symbol) → ((m : Mark) → Over m → IsOver front m)
-    → Goes begin front last → Halts Over last left → Breaks IsOver front left
-breaks IsOver Over front last left f way h =
-    record {
-      at = h.at;
-      others = h.others;
-      here = h.here;
-      begins =
-          begins (front ++ h.at ∷ []) h.next (goes_one_more front begin last h.next h.at way h.does);
-      over = f h.at h.over;
-    }
-
 pub count_of-append : (p : Part) (ms ns : List Mark)
     → count_begun p (ms ++ ns) ≡ count_begun p ms + count_begun p ns
 count_of-append p [] ns = omega arith
@@ -348,16 +335,17 @@ either : (a b : Bool) → a || b ≡ true → (a ≡ true) ⊎ (b ≡ true)
 either true b e = inl refl
 either false b e = inr e
 
-too_many : (front : List Mark) (n : Counts) → ((p : Part) → count_of_part n p ≡ count_begun p front)
-    → (m : Mark) → IsBeyond n m → IsTooMany front m
-too_many front n numbers m over = (
+beyond : (front : List Mark) (n : Counts) → ((p : Part) → count_of_part n p ≡ count_begun p front)
+    → (m : Mark) → IsBeyond n m → (m.depth ≤ 32)
+    × (((p : Part) × (limit p < count_begun p (front ++ m ∷ []))) ⊎ (IsShortName m.symbol → ⊥))
+beyond front n numbers m over = (
   ltb-false _ _ over.0,
   by_cause
       (either (is_over (plus n m.parts) m.parts) (is_long m.symbol) over.1),
 )
   where
     by_cause : (is_over (plus n m.parts) m.parts ≡ true) ⊎ (is_long m.symbol ≡ true)
-        → ((p : Part) × (limit p < count_begun p (front ++ m ∷ []))) ⊎ IsLongName m.symbol
+        → ((p : Part) × (limit p < count_begun p (front ++ m ∷ []))) ⊎ (IsShortName m.symbol → ⊥)
     by_cause (inl e) =
         let r = over_some (plus n m.parts) m.parts e in
         inl (
@@ -370,17 +358,25 @@ too_many front n numbers m over = (
             count_of-append r.0 front (m ∷ []),
           ),
         )
-    by_cause (inr e) = inr (long_name m.symbol e)
+    by_cause (inr e) = inr (λ short. let h = not_long m.symbol short in cc)
+
+-- a query begins with what was read and the next symbol
+begins_there : {Over : Mark → Type 0} (front : List Mark) (last : ParserState) (left : List Symbol)
+    → Goes begin front last → (h : Halts Over last left) → BeginsQuery (front ++ h.at ∷ [])
+begins_there front last left way h =
+    begins (front ++ h.at ∷ []) h.next (goes_one_more front begin last h.next h.at way h.does)
 
 fails : (f : Fault) (front : List Mark) (last : ParserState) (n : Counts) (left : List Symbol)
     → ((p : Part) → count_of_part n p ≡ count_begun p front) → Goes begin front last
-    → HaltsAt f last n left → QueryFails f front left
-fails Unexpected front last n left numbers way h = dead front last n left way h
+    → HaltsAt f last n left → QueryFails front f left
+fails Unexpected front last n left numbers way h = unexpected left (dead front last n left way h)
 fails TooDeep front last n left numbers way h =
-    breaks IsTooDeep (λ m. nat_lt 32 m.depth ≡ true) front last left (λ m over. ltb-true _ _ over)
-    way h
+    subst (QueryFails front TooDeep) (sym h.here)
+    (too_deep h.at h.others (begins_there front last left way h) (ltb-true _ _ h.over))
 fails TooMany front last n left numbers way h =
-    breaks IsTooMany (IsBeyond n) front last left (too_many front n numbers) way h
+    let over = beyond front n numbers h.at h.over in
+    subst (QueryFails front TooMany) (sym h.here)
+    (too_many h.at h.others (begins_there front last left way h) over.0 over.1)
 
 first_found : (xs : List Symbol) (f : Fault) (left : List Symbol)
     → Found begin nothing_counted xs (Bad f left) → FirstQueryFault xs f left

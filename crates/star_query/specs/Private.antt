@@ -1,5 +1,4 @@
 pub mod Cut
-pub mod Quoted
 pub mod Lexed
 pub mod Terminals
 pub mod Machine

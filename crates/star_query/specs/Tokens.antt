@@ -67,45 +67,17 @@ pub data AreTokens (end : ℕ) (left : List ℕ) : (place : ℕ) → (bytes : Li
 
 -- ---- faults
 
--- digits that are too many, or that a letter follows
-pub record IsBadNumber (bytes : List ℕ) : Type 0 where
-  pub digits : List ℕ
-  pub rest : List ℕ
-  pub cut : bytes ≡ digits ++ rest
-  pub some : 1 ≤ length digits
-  pub all : list_all is_ascii_digit digits ≡ true
-  pub wrong : (most_digits < length digits) ⊎ (begins_with_letter rest ≡ true)
-
--- a byte that may not stand in it follows the front of a text from behind its opening quote, with each of its quotes twice
-pub record HasBadByte (bytes : List ℕ) (before : ℕ) : Type 0 where
-  pub said : List ℕ
-  pub b : ℕ
-  pub rest : List ℕ
-  pub cut : bytes ≡ flat_map doubled said ++ b ∷ rest
-  pub printed : list_all is_printable said ≡ true
-  pub bad : is_printable b ≡ false
-  pub where_it_is : before ≡ length (flat_map doubled said)
-
--- a text from behind its opening quote that nothing closes
-pub record IsOpen (bytes : List ℕ) : Type 0 where
-  pub said : List ℕ
-  pub cut : bytes ≡ flat_map doubled said
-  pub printed : list_all is_printable said ≡ true
-
--- no token begins with this byte, and it is no white space
-pub record IsStray (b : ℕ) (bytes : List ℕ) : Type 0 where
-  pub no_blank : is_blank b ≡ false
-  pub no_word : is_word_byte b ≡ false
-  pub no_quote : (b == 39) ≡ false
-  pub no_sign : (sign : List ℕ) (x : Symbol) (rest : List ℕ) → Contains signs (sign, x) → b ∷ bytes ≡ sign ++ rest → ⊥
-
--- what stops the cut at these bytes
-abbrev pub Stops : (place : ℕ) → List ℕ → QueryFault → Type 0
-Stops place bytes (BadNumber at) = (at ≡ place) × IsBadNumber bytes
-Stops place (b ∷ bytes) (OpenText at) = (at ≡ place) × (b ≡ 39) × IsOpen bytes
-Stops place (b ∷ bytes) (BadCharacter at) =
-    ((at ≡ place) × IsStray b bytes) ⊎ ((before : ℕ) × (at ≡ place + 1 + before) × (b ≡ 39) × HasBadByte bytes before)
-Stops place bytes fault = ⊥
+-- what stops the cut: digits that are too many, or that a letter follows; a text that nothing closes; a byte that may not stand in
+-- a text; or one that no token begins with, and that is no white space. Each quote of a text is written twice
+pub data Stops (place : ℕ) : (bytes : List ℕ) → QueryFault → Type 0 where
+  bad_number : (digits rest : List ℕ) → 1 ≤ length digits → list_all is_ascii_digit digits ≡ true
+      → (most_digits < length digits) ⊎ (begins_with_letter rest ≡ true) → Stops place (digits ++ rest) (BadNumber place)
+  open_text : (said : List ℕ) → list_all is_printable said ≡ true → Stops place (39 ∷ flat_map doubled said) (OpenText place)
+  bad_byte : (said rest : List ℕ) (b : ℕ) → list_all is_printable said ≡ true → is_printable b ≡ false
+      → Stops place (39 ∷ (flat_map doubled said ++ b ∷ rest)) (BadCharacter (place + 1 + length (flat_map doubled said)))
+  stray : (b : ℕ) (bytes : List ℕ) → is_blank b ≡ false → is_word_byte b ≡ false → (b == 39) ≡ false
+      → ((sign : List ℕ) (x : Symbol) (rest : List ℕ) → Contains signs (sign, x) → b ∷ bytes ≡ sign ++ rest → ⊥)
+      → Stops place (b ∷ bytes) (BadCharacter place)
 
 -- white space and tokens, and then what stops the cut
 pub record IsStopped (bytes : List ℕ) (fault : QueryFault) : Type 0 where

@@ -7,7 +7,6 @@ ghost use Rattle.star_common.specs.WhiteSpace as white;
 ghost use Rattle.star_query.specs.Private.Cut as spec;
 ghost use Rattle.star_query.specs.Tokens as words;
 ghost use Rattle.star_query.specs.Private.Lexed as lexed;
-ghost use Rattle.star_query.specs.Private.Quoted as quoting;
 
 use crate::counts::MAX_DIGITS;
 use crate::fault::QueryFault;
@@ -88,7 +87,7 @@ fn word_width(text: &[u8]) -> usize
 
 // Whether a text goes on with a byte, and whether it then ends unless a quote follows.
 fn goes_on(quote: bool, byte: u8) -> Option<bool>
-    ensures { result ≡ quoting.text_goes_on quote byte }
+    ensures { result ≡ spec.text_goes_on quote byte }
 {
     if quote {
         if byte == b'\'' { Some(false) } else { None }
@@ -103,7 +102,7 @@ fn goes_on(quote: bool, byte: u8) -> Option<bool>
 
 // How a text ends, after its opening quote.
 fn end_of_text(text: &[u8]) -> Ending
-    ensures ending { lexed.ending_of result ≡ quoting.ending_after false text.now }
+    ensures ending { lexed.ending_of result ≡ spec.ending_after false text.now }
     ensures within { lexed.IsEndingWithin result (length text.now) }
 {
     let mut quote = false;
@@ -126,7 +125,7 @@ fn end_of_text(text: &[u8]) -> Ending
 
 // A sign, the longest that fits, and how many bytes it has.
 fn sign<'a>(byte: u8, next: Option<u8>, place: usize) -> Piece<'a>
-    ensures { lexed.IsPiece place (quoting.sign_by_bytes place byte next)
+    ensures { lexed.IsPiece place (spec.sign_piece place byte next)
         (1 + length (option_to_list next)) result }
 {
     match byte {
@@ -196,7 +195,7 @@ fn word<'a>(text: &'a [u8], place: usize) -> Piece<'a>
 // A text, after its opening quote.
 fn quoted<'a>(text: &'a [u8], place: usize) -> Piece<'a>
     requires { place + 1 + length text.now ≤ usize.MAX }
-    ensures { lexed.IsPiece place (quoting.text_by_bytes place text.now) (1 + length text.now) result }
+    ensures { lexed.IsPiece place (spec.text_piece place text.now) (1 + length text.now) result }
 {
     match end_of_text(text) {
         Ending::Closed(end) => {

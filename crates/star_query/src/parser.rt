@@ -8,7 +8,7 @@ ghost use Rattle.star_query.specs.Private.Reads.{spot_of, head_of, next_kind, Ta
 ghost use Rattle.star_query.specs.Views.{tree_view};
 ghost use Rattle.star_query.specs.Tree as tree;
 ghost use Rattle.star_query.specs.Private.Lexed.{placed};
-ghost use Rattle.star_query.specs.Private.Quoted as quoting;
+ghost use Rattle.star_query.specs.Private.Cut as spec;
 ghost use Rattle.star_query.specs.Derives.{Derives, first_place};
 ghost use Rattle.star_query.specs.Private.TokenFaults.{IsTokenFault, IsTreeRead, query_fault};
 
@@ -210,7 +210,7 @@ impl<'a> Parser<'a> {
 
 // What a text says, of whose quotes each is doubled.
 fn unquoted(alloc: Global, inside: &[u8]) -> Result<Vec<u8>, AllocError>
-    ensures { IfOk result (λ text. text.items ≡ quoting.undoubled inside.now) }
+    ensures { IfOk result (λ text. text.items ≡ spec.undoubled inside.now) }
 {
     let mut text = Vec::new(alloc);
     let mut doubled = false;

@@ -1,14 +1,17 @@
 -- The tokens of a text by a function, as the code cuts them: worked rows compute it. It is proved to be `AreTokens` and `IsStopped`.
-use Rattle.std.specs.Prelude.{ℕ, zero, suc, ◌+◌, ◌-◌, nat_lt, Bool, true, false, ◌==◌, ◌||◌, if◌then◌else◌, List, [], ◌∷◌, find, drop, take, length, nat_eq, Option, Some, None, Result, Ok, Err}
-use Rattle.std.specs.{List.flat_map, List.prefix_len, List.starts_with, Char.is_ascii_digit, Str.Parse.digits_value, Cmp.Lexicographic.pointwise}
-use Rattle.star_common.specs.{Quotes.doubled, WhiteSpace.is_blank, Printable.is_printable}
+use Rattle.std.specs.Prelude.{ℕ, zero, suc, ◌+◌, ◌-◌, nat_lt, Bool, true, false, ◌==◌, ◌||◌, if◌then◌else◌, List, [], ◌∷◌, drop, take, nat_eq, Option, Some, None, Result, Ok, Err}
+use Rattle.std.specs.{List.prefix_len, List.slice_get, Char.is_ascii_digit, Str.Parse.digits_value, Cmp.Lexicographic.pointwise}
+use Rattle.star_common.specs.{WhiteSpace.is_blank, Printable.is_printable}
 use Rattle.star_schema.specs.Words.{named}
 use Rattle.star_query.specs.declared.token.Keyword.TheVariants as k
 use Rattle.star_query.specs.declared.token.Fold.TheVariants as folds
 use Rattle.star_query.specs.declared.{token.Word.Word, fault.QueryFault.QueryFault, fault.QueryFault.TheVariants.BadCharacter, fault.QueryFault.TheVariants.BadNumber, fault.QueryFault.TheVariants.OpenText}
 use Rattle.star_query.specs.declared.token.Word.TheVariants as words
-use Rattle.star_query.specs.{Maxima.most_digits, Tokens.is_letter, Tokens.is_word_byte, Tokens.begins_with_letter, Tokens.signs}
-use Rattle.star_query.specs.Symbols.{Symbol, Placed, name, number, text, spelling, word_symbol, lowered}
+use Rattle.star_query.specs.declared.token.Relation.TheVariants as r
+use Rattle.star_query.specs.declared.token.Sign.TheVariants as s
+use Rattle.star_query.specs.declared.token.Additive.TheVariants as q
+use Rattle.star_query.specs.{Maxima.most_digits, Tokens.is_letter, Tokens.is_word_byte, Tokens.begins_with_letter}
+use Rattle.star_query.specs.Symbols.{Symbol, Placed, relation, sign, additive, name, number, text, spelling, word_symbol, lowered}
 
 -- what begins at a place: white space, a token and how many bytes it has, or a fault
 pub data Piece : Type 0 where
@@ -50,36 +53,89 @@ number_piece place bytes =
     let width = prefix_len is_ascii_digit bytes in
     if nat_lt most_digits width || begins_with_letter (drop width bytes) then bad (BadNumber place) else token (number (digits_value 10 (take width bytes))) width
 
--- one more in front of what was read
-abbrev pub put_in_front : {A : Type 0} → A → Result (List A) QueryFault → Result (List A) QueryFault
-put_in_front x (Ok xs) = Ok (x ∷ xs)
-put_in_front x (Err e) = Err e
+-- ---- texts
 
--- what a text says: from behind its opening quote, or from behind a quote of it that closes it unless another one follows
-abbrev pub text_said : (opened at : ℕ) → (a_quote : Bool) → List ℕ → Result (List ℕ) QueryFault
-text_said opened at true [] = Ok []
-text_said opened at false [] = Err (OpenText opened)
-text_said opened at true (b ∷ bs) = if b == 39 then put_in_front b (text_said opened (at + 1) false bs) else Ok []
-text_said opened at false (b ∷ bs) = before (text_said opened (at + 1) (b == 39) bs)
+-- how a text ends: by its closing quote, behind this many bytes; at a byte that may not stand in it; or not at all
+pub data Ending : Type 0 where
+  closed : ℕ → Ending
+  stopped : ℕ → Ending
+  open_ended : Ending
+
+abbrev pub farther : Ending → Ending
+farther (closed n) = closed (n + 1)
+farther (stopped n) = stopped (n + 1)
+farther open_ended = open_ended
+
+-- whether a text goes on with a byte, and whether that byte is then a quote that closes the text unless another follows
+abbrev pub text_goes_on : (a_quote : Bool) → ℕ → Option Bool
+text_goes_on true b = if b == 39 then Some false else None
+text_goes_on false b = if b == 39 then Some true else if is_printable b then Some false else None
+
+-- the end of a text, behind a quote that closes it unless another one follows, or behind any other byte
+abbrev pub ending_after : (a_quote : Bool) → List ℕ → Ending
+ending_after q [] = if q then closed 0 else open_ended
+ending_after q (b ∷ bs) = behind (text_goes_on q b) (λ p. ending_after p bs)
   where
-    before : Result (List ℕ) QueryFault → Result (List ℕ) QueryFault
-    before rest = if b == 39 then rest else if is_printable b then put_in_front b rest else Err (BadCharacter at)
+    behind : Option Bool → (Bool → Ending) → Ending
+    behind None rest = if q then closed 0 else stopped 0
+    behind (Some p) rest = farther (rest p)
 
--- a text, from behind its opening quote: it is written in quotes, each quote of it twice
+-- of two quotes in a row the second is left out
+abbrev pub unquoted_after : (a_quote : Bool) → List ℕ → List ℕ
+unquoted_after q [] = []
+unquoted_after true (b ∷ bs) = unquoted_after false bs
+unquoted_after false (b ∷ bs) = b ∷ unquoted_after (b == 39) bs
+
+-- what a text says, of whose quotes each is doubled
+abbrev pub undoubled : List ℕ → List ℕ
+undoubled inside = unquoted_after false inside
+
+-- a text, from behind its opening quote
 abbrev pub text_piece : ℕ → List ℕ → Piece
-text_piece place bytes = read (text_said place (place + 1) false bytes)
+text_piece place bytes = ended (ending_after false bytes)
   where
-    read : Result (List ℕ) QueryFault → Piece
-    read (Ok t) = token (text t) (length (flat_map doubled t) + 2)
-    read (Err e) = bad e
+    ended : Ending → Piece
+    ended (closed n) = token (text (undoubled (take (n - 1) bytes))) (n + 1)
+    ended (stopped n) = bad (BadCharacter (place + 1 + n))
+    ended open_ended = bad (OpenText place)
 
--- the first of the signs that the bytes begin with
-abbrev pub sign_piece : ℕ → List ℕ → Piece
-sign_piece place bytes = found (find (λ (spelled, x). starts_with nat_eq bytes spelled) signs)
-  where
-    found : Option (List ℕ × Symbol) → Piece
-    found (Some (spelled, x)) = token x (length spelled)
-    found None = bad (BadCharacter place)
+-- ---- signs
+
+abbrev pub less_piece : Option ℕ → Piece
+less_piece None = token (relation r.Less) 1
+less_piece (Some b) =
+    if b == 61 then token (relation r.AtMost) 2 else if b == 62 then token (relation r.Unequal) 2 else token (relation r.Less) 1
+
+abbrev pub greater_piece : Option ℕ → Piece
+greater_piece None = token (relation r.Greater) 1
+greater_piece (Some b) = if b == 61 then token (relation r.AtLeast) 2 else token (relation r.Greater) 1
+
+-- a sign, the longest that fits
+abbrev pub sign_piece : ℕ → ℕ → Option ℕ → Piece
+sign_piece place b next =
+    if b == 44
+    then token (sign s.Comma) 1
+    else if b == 40
+    then token (sign s.Open) 1
+    else if b == 41
+    then token (sign s.Close) 1
+    else if b == 42
+    then token (sign s.Star) 1
+    else if b == 43
+    then token (additive q.Plus) 1
+    else if b == 45
+    then token (additive q.Minus) 1
+    else if b == 59
+    then token (sign s.Semicolon) 1
+    else if b == 61
+    then token (relation r.Equal) 1
+    else if b == 60
+    then less_piece next
+    else if b == 62
+    then greater_piece next
+    else bad (BadCharacter place)
+
+-- ---- the whole text
 
 -- what begins with this byte, before these
 abbrev pub piece_at : ℕ → ℕ → List ℕ → Piece
@@ -92,7 +148,12 @@ piece_at place b bs =
     then number_piece place (b ∷ bs)
     else if b == 39
     then text_piece place bs
-    else sign_piece place (b ∷ bs)
+    else sign_piece place b (slice_get bs 0)
+
+-- one more in front of what was cut
+abbrev pub put_in_front : {A : Type 0} → A → Result (List A) QueryFault → Result (List A) QueryFault
+put_in_front x (Ok xs) = Ok (x ∷ xs)
+put_in_front x (Err e) = Err e
 
 -- a piece, and what is cut behind its first byte and as many more
 abbrev pub before_rest : ℕ → Piece → (ℕ → Result (List Placed) QueryFault) → Result (List Placed) QueryFault

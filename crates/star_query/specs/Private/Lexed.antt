@@ -7,8 +7,7 @@ use Rattle.star_query.specs.declared.lexer.Ending.TheVariants as endings
 use Rattle.star_query.specs.declared.lexer.Piece.TheVariants as pieces
 use Rattle.star_query.specs.Private.Cut as spec
 use Rattle.star_query.specs.Symbols.{Symbol, Placed, keyword, fold, count, relation, sign, additive, name, number, text, lowered}
-use Rattle.star_query.specs.Private.Quoted as quoted
-use Rattle.star_query.specs.Private.Quoted.{undoubled}
+use Rattle.star_query.specs.Private.Cut.{undoubled}
 
 abbrev pub symbol_of : Kind → ℕ → Symbol
 symbol_of (kinds.Keyword w) place = keyword w
@@ -24,10 +23,10 @@ symbol_of (kinds.Text inside) place = text (undoubled inside.now)
 abbrev pub placed : Token → Placed
 placed t = record { symbol = symbol_of t.kind t.place; place = t.place }
 
-abbrev pub ending_of : Ending → quoted.Ending
-ending_of (endings.Closed n) = quoted.closed n
-ending_of (endings.Stopped n) = quoted.stopped n
-ending_of endings.Open = quoted.open_ended
+abbrev pub ending_of : Ending → spec.Ending
+ending_of (endings.Closed n) = spec.closed n
+ending_of (endings.Stopped n) = spec.stopped n
+ending_of endings.Open = spec.open_ended
 
 -- what begins with the first of these bytes
 abbrev pub front_piece : ℕ → List ℕ → spec.Piece
@@ -74,10 +73,10 @@ IsCutFault bytes OutOfMemory = Unit {0}
 IsCutFault bytes fault = spec.cut_of bytes ≡ Err fault
 
 -- an ending behind n more bytes
-abbrev pub ended_at : ℕ → quoted.Ending → quoted.Ending
-ended_at n (quoted.closed m) = quoted.closed (n + m)
-ended_at n (quoted.stopped m) = quoted.stopped (n + m)
-ended_at n quoted.open_ended = quoted.open_ended
+abbrev pub ended_at : ℕ → spec.Ending → spec.Ending
+ended_at n (spec.closed m) = spec.closed (n + m)
+ended_at n (spec.stopped m) = spec.stopped (n + m)
+ended_at n spec.open_ended = spec.open_ended
 
 -- behind these tokens
 abbrev pub with_tokens : List Placed → Result (List Placed) QueryFault → Result (List Placed) QueryFault

@@ -1,5 +1,5 @@
 use Rattle.std.proofs.Common.{◌≡◌, ◌≤◌, false, true, drop}
-use Rattle.star_query.specs.Private.{Quoted.ending_after, Lexed.ended_at}
+use Rattle.star_query.specs.Private.{Cut.ending_after, Lexed.ended_at}
 use Rattle.star_query.proofs.lexer.end_of_text.Given as goal
 
 abbrev pub invariant-loop-i : goal.invariant-loop-i

@@ -1,5 +1,5 @@
 use Rattle.std.proofs.Common.{◌≡◌, ◌++◌, drop}
-use Rattle.star_query.specs.Private.Quoted.{undoubled, unquoted_after}
+use Rattle.star_query.specs.Private.Cut.{undoubled, unquoted_after}
 use Rattle.star_query.proofs.parser.unquoted.Given as goal
 
 abbrev pub invariant-loop-byte : goal.invariant-loop-byte

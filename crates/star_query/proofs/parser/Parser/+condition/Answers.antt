@@ -1,8 +1,7 @@
 use Rattle.std.proofs.Common.{◌∙◌, arith}
 use Rattle.star_query.specs.{Symbols.sign, Symbols.keyword, Private.Phrases.lone_conj, Private.Phrases.lone_unit, Private.Machine.unit_wanted, Private.Machine.first_unit, Private.Machine.first_conj, Private.Reads.spot_of, Private.Reads.verdict}
 use Rattle.star_query.specs.declared.token.{Sign.TheVariants.Open, Keyword.TheVariants.Not}
-use Rattle.star_query.proofs.{Tokens.shorter, Descent.opened, Descent.not_opened}
-use Rattle.star_query.proofs.Filtering.{read_not, read_group, named_unit, one_more_unit, one_more_conj}
+use Rattle.star_query.proofs.{Tokens.shorter, Descent.opened, Descent.not_opened, Filtering.read_not, Filtering.read_group, Filtering.named_unit, Filtering.one_more_unit, Filtering.one_more_conj}
 use Rattle.star_query.proofs.parser.Parser.+condition.Goals as goal
 
 pub conjunction-loop-self-init : goal.conjunction-loop-self-init

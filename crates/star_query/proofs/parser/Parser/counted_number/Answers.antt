@@ -1,6 +1,5 @@
 use Rattle.std.proofs.Common.{◌∷◌, []}
-use Rattle.star_query.specs.declared.token.Digits.{Digits}
-use Rattle.star_query.specs.{Symbols.number, Private.Reads.spot_of, Private.Reads.IsNumber, Private.Reads.NoNumber, Private.Reads.ReadsNumber}
+use Rattle.star_query.specs.{declared.token.Digits.Digits, Symbols.number, Private.Reads.spot_of, Private.Reads.IsNumber, Private.Reads.NoNumber, Private.Reads.ReadsNumber}
 use Rattle.star_query.proofs.{Tokens.no_number_there, Tokens.token_counted, Tokens.token_not_counted, Descent.failed}
 use Rattle.star_query.proofs.parser.Parser.counted_number.Goals as goal
 

@@ -1,6 +1,5 @@
 use Rattle.std.proofs.Common.{subst, Ok, Option}
-use Rattle.star_query.specs.Private.{Reads.spot_of, Clauses.ReadsFunction, Clauses.ReadsItem}
-use Rattle.star_query.specs.declared.clauses.Function.{Function}
+use Rattle.star_query.specs.{Private.Reads.spot_of, Private.Clauses.ReadsFunction, Private.Clauses.ReadsItem, declared.clauses.Function.Function}
 use Rattle.star_query.proofs.{Queries.read_item_name, Queries.bad_item_aggregate, Descent.failed}
 use Rattle.star_query.proofs.parser.Parser.item.Goals as goal
 

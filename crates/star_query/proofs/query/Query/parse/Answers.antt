@@ -1,6 +1,6 @@
 use Rattle.std.specs.Prelude.{IfErr, MatchResult, Result, length}
 use Rattle.std.proofs.Common.{◌≡◌, ◌∙◌, ℕ, List, map, sym, ap, subst, Err}
-use Rattle.std.proofs.lemmas.Result.{err_from_is_err_and}
+use Rattle.std.proofs.{lemmas.Result.err_from_is_err_and}
 use Rattle.star_query.specs.declared.{token.Token.Token, fault.QueryFault.QueryFault, fault.QueryFault.TheVariants.OutOfMemory}
 use Rattle.star_query.specs.{Symbols.symbols, Private.Lexed.placed, Private.TokenFaults.IsTokenFault, Derives.Derives, Derives.IsFirstQueryFault, Tree.Tree, Views.tree_view}
 use Rattle.star_query.specs.declared.tree.Tree as declared
