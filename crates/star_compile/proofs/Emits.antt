@@ -2,15 +2,13 @@
 use Rattle.std.proofs.Common.{◌≡◌, ℕ, ◌+◌, ◌≤◌, ◌<◌, List, [], ◌∷◌, ◌++◌, refl, sym, ap, subst, ◌∙◌, arith, append-nil, append_assoc, Result, Ok, Err, IfOk}
 use Rattle.std.specs.declared.alloc.AllocError.{AllocError}
 use Rattle.star_schema.specs.declared.{column.ColumnId.ColumnId, table.TableId.TableId}
-use Rattle.star_plan.specs.declared.tree.Join.{Join}
-use Rattle.star_query.specs.Limits.{operands_of, comparisons_of}
-use Rattle.star_query.specs.declared.token.Fold.{Fold}
+use Rattle.star_plan.specs.{declared.tree.Join.Join, Meaning.RowCondition}
+use Rattle.star_query.specs.{Limits.operands_of, Limits.comparisons_of, declared.token.Fold.Fold}
 use Rattle.star_query.specs.Tree.{Expression, column, constant, add, sub, mul, or, and, not, test, compare, between, Measure, count, fold}
-use Rattle.star_plan.specs.Meaning.{RowCondition}
 use Rattle.star_program.specs.declared.{op.Op.Op, op.Op.TheVariants.Assign, op.Op.TheVariants.Keep, op.Operation.Operation, op.Operation.TheVariants.Binary, op.Operator.Operator, body.Step.Step, body.Step.TheVariants.Act}
 use Rattle.star_program.specs.{Code.Code, Code.Then, Faults.target_of}
 use Rattle.star_program.specs.CodeOfSteps as step
-use Rattle.star_compile_laws.specs.Compiled.{Env, Rest, Rests, writes_one, register_count, column_code, expression_code, condition_code, conjunct_code, keys_code, values_code, one_before, binary_code, write, one_more}
+use Rattle.star_compile_laws.specs.Compiled.{Env, Rest, writes_one, register_count, column_code, expression_code, condition_code, conjunct_code, keys_code, values_code, one_before, binary_code, write, one_more}
 use Rattle.star_compile.specs.declared.emitter.Emitter.{Emitter}
 use Rattle.star_compile.specs.Private.Emitted.{Completed, steps_then, env_of, completed, Wrote, Writes, HasRegisterRoom, keys_after, value_after, values_after}
 
@@ -38,7 +36,7 @@ act old new o k pushed next =
     λ i. made (code i) (count i)
 
 -- what an assignment is: the next register is written, and then this is known
-abbrev assignment : Operation → (Env → Env) → Env → Rest → Code
+abbrev assignment : Operation → (Env → Env) → Env → Rest ℕ → Code
 assignment o known env k = Then (Assign env.next o) (k (known env) env.next)
 
 pub room_to_assign : {e : Emitter} {o : Operation} {known : Env → Env}
@@ -77,7 +75,7 @@ assigned_if_ok (Ok r) old new o register pushed next loaded found =
 
 -- ---- a piece and then another
 
-abbrev followed_by : {K : Type 0} → (Env → Rest → Code) → (ℕ → Env → K → Code) → Env → K → Code
+abbrev followed_by : {K : Type 0} → (Env → Rest ℕ → Code) → (ℕ → Env → K → Code) → Env → K → Code
 followed_by first second env k = first env (λ e x. second x e k)
 
 -- there is room for a piece that, with some code after it, makes a whole of few registers
@@ -86,19 +84,19 @@ pub room_where : {K : Type 0} {e : Emitter} {piece : Env → K → Code} {w : Co
 room_where rest same few =
     record { rest = rest; fits = subst (λ w. w.registers ≤ 4096) (sym same) few }
 
-pub room_for_first : {K : Type 0} {e : Emitter} {first : Env → Rest → Code}
+pub room_for_first : {K : Type 0} {e : Emitter} {first : Env → Rest ℕ → Code}
     (second : ℕ → Env → K → Code) → HasRegisterRoom e (followed_by first second)
     → HasRegisterRoom e first
 room_for_first second room = record { rest = λ e x. second x e room.rest; fits = room.fits }
 
-pub room_for_second : {K : Type 0} {old new : Emitter} {first : Env → Rest → Code} {x : ℕ}
+pub room_for_second : {K : Type 0} {old new : Emitter} {first : Env → Rest ℕ → Code} {x : ℕ}
     (second : ℕ → Env → K → Code) → Writes old new first x
     → HasRegisterRoom old (followed_by first second) → HasRegisterRoom new (second x)
 room_for_second second wrote room =
     room_where room.rest (wrote.same (λ e x. second x e room.rest)) room.fits
 
 pub then_if_ok : {A : Type 0} (result : Result A AllocError) {old middle : Emitter} (new : Emitter)
-    {first : Env → Rest → Code} {x : ℕ} (second : ℕ → Env → (Env → A → Code) → Code)
+    {first : Env → Rest ℕ → Code} {x : ℕ} (second : ℕ → Env → (Env → A → Code) → Code)
     → Writes old middle first x → IfOk result (Writes middle new (second x))
     → IfOk result (Writes old new (followed_by first second))
 then_if_ok (Err e) new second f g = tt
@@ -106,7 +104,7 @@ then_if_ok (Ok y) new second f g =
     record { same = λ k. g.same k ∙ f.same (λ e x. second x e k) }
 
 -- an operator's right part, behind its left one
-pub room_for_right : {old new : Emitter} {left : Env → Rest → Code} (right : Env → Rest → Code)
+pub room_for_right : {old new : Emitter} {left : Env → Rest ℕ → Code} (right : Env → Rest ℕ → Code)
     (o : Operator) {x : ℕ} → Writes old new left x → HasRegisterRoom old (binary_code left right o)
     → HasRegisterRoom new right
 room_for_right right o {x = x} wrote room =
@@ -122,14 +120,14 @@ pub record Follows {K : Type 0} (old new : Emitter) (piece left : Env → K → 
 -- ---- registers so far
 
 -- code that is behind some registers gives them before its own
-abbrev pub Behind : (List ℕ → Env → Rests → Code) → (Env → Rests → Code) → Type 0
+abbrev pub Behind : (List ℕ → Env → Rest (List ℕ) → Code) → (Env → Rest (List ℕ) → Code) → Type 0
 Behind after code =
-    (so_far : List ℕ) (env : Env) (k : Rests)
+    (so_far : List ℕ) (env : Env) (k : Rest (List ℕ))
     → after so_far env k ≡ code env (λ e xs. k e (so_far ++ xs))
 
 -- one register more, and those after it
-one_behind : (first : Env → Rest → Code) (after : List ℕ → Env → Rests → Code)
-    (code : Env → Rests → Code) → Behind after code
+one_behind : (first : Env → Rest ℕ → Code) (after : List ℕ → Env → Rest (List ℕ) → Code)
+    (code : Env → Rest (List ℕ) → Code) → Behind after code
     → Behind (λ so_far env k. first env (λ e x. after (so_far ++ x ∷ []) e k))
     (one_before first code)
 one_behind first after code behind so_far env k =
@@ -139,8 +137,9 @@ one_behind first after code behind so_far env k =
     ∙ (λ j. code e (λ e xs. k e (append_assoc so_far (x ∷ []) xs j)))) i)
 
 -- pieces in turn; those for `left` are still to be written
-module _ {X : Type 0} (after : List X → List ℕ → Env → Rests → Code)
-    (code : List X → Env → Rests → Code) (behind : (xs : List X) → Behind (after xs) (code xs))
+module _ {X : Type 0} (after : List X → List ℕ → Env → Rest (List ℕ) → Code)
+    (code : List X → Env → Rest (List ℕ) → Code)
+    (behind : (xs : List X) → Behind (after xs) (code xs))
     {old new : Emitter} (xs left : List X) (so_far : List ℕ)
     (follows : Follows old new (after xs []) (after left so_far)) where
   room_for_left : {l : List X} → left ≡ l → HasRegisterRoom old (code xs)
@@ -150,7 +149,8 @@ module _ {X : Type 0} (after : List X → List ℕ → Env → Rests → Code)
       (room_where room.rest
       (follows.same room.rest ∙ ap (completed old) (behind xs [] (env_of old) room.rest)) room.fits)
 
-  pub all_written : ((env : Env) (k : Rests) → after [] so_far env k ≡ k env so_far) → left ≡ []
+  pub all_written : ((env : Env) (k : Rest (List ℕ)) → after [] so_far env k ≡ k env so_far)
+      → left ≡ []
       → Writes old new (code xs) so_far
   all_written ends none = record {
     same = λ k.

@@ -2,8 +2,8 @@
 use Rattle.std.proofs.Common.{◌≡◌, ℕ, ◌+◌, ◌≤◌, List, [], ◌∷◌, ◌++◌, refl, ap, ◌∙◌, arith}
 use Rattle.star_plan.specs.Meaning.{Plan}
 use Rattle.star_program.specs.declared.{body.Step.Step, body.Step.TheVariants.Act, op.Op.TheVariants.Put}
-use Rattle.star_program.specs.{Code.Code, Code.Stop, CodeOfSteps.before, CodeOfSteps.code_of_steps}
-use Rattle.star_compile_laws.specs.Compiled.{Env, env_first, register_count, conjuncts_code, keys_code, values_code, put_code, turn_code}
+use Rattle.star_program.specs.{Code.Code, Code.Stop, Code.Then, CodeOfSteps.before, CodeOfSteps.code_of_steps}
+use Rattle.star_compile_laws.specs.Compiled.{Env, env_first, register_count, conjuncts_code, keys_code, values_code, turn_code}
 use Rattle.star_compile.specs.declared.emitter.Emitter.{Emitter}
 use Rattle.star_compile.specs.Private.Emitted.{Completed, steps_then, env_of, completed, Wrote, Writes, HasRegisterRoom}
 use Rattle.star_compile.proofs.Emits.{act, made, room_where}
@@ -15,10 +15,14 @@ pub record IsFirst (e : Emitter) : Type 0 where
   pub loaded : e.loaded.items ≡ []
   pub found : e.found.items ≡ []
 
+-- the end of a turn
+abbrev end_of_turn : List ℕ → Env → List ℕ → Code
+end_of_turn keys env values = Then (Put 0 keys values) Stop
+
 module _ (p : Plan) where
   -- what comes after the keys, and after the conjuncts
   abbrev after_keys : Env → List ℕ → Code
-  after_keys e keys = values_code p.joins p.measures e (put_code keys)
+  after_keys e keys = values_code p.joins p.measures e (end_of_turn keys)
 
   abbrev after_conjuncts : Env → Code
   after_conjuncts e = keys_code p.joins p.keys e after_keys
@@ -58,7 +62,7 @@ module _ (p : Plan) where
 
       pub room_for_values : 1 + register_count (turn_code p) ≤ 4096
           → HasRegisterRoom e2 (values_code p.joins p.measures)
-      room_for_values few = room_where (put_code ks) at_values few
+      room_for_values few = room_where (end_of_turn ks) at_values few
 
       module _ (e3 e4 : Emitter) (vs : List ℕ)
           (values : Writes e2 e3 (values_code p.joins p.measures) vs)
@@ -66,7 +70,7 @@ module _ (p : Plan) where
           (next : e4.next ≡ e3.next) where
         at_end : completed e4 Stop ≡ turn
         at_end =
-            act e3 e4 (Put 0 ks vs) Stop pushed (omega (arith, next)) ∙ values.same (put_code ks)
+            act e3 e4 (Put 0 ks vs) Stop pushed (omega (arith, next)) ∙ values.same (end_of_turn ks)
             ∙ at_values
 
         stopped : (steps : List Step) → code_of_steps steps ≡ steps_then steps Stop

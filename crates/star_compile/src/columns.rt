@@ -1,11 +1,13 @@
 // Loads columns, each at its first use.
 
 ghost use Rattle.std.specs.Prelude.{◌≡◌, IfOk};
+ghost use Rattle.star_program.specs.World.{is_column};
 ghost use Rattle.star_schema.specs.Schema as schema;
+ghost use Rattle.star_schema.specs.Schema.{is_table};
 ghost use Rattle.star_schema.specs.declared.table.TableId.TheVariants.{Lineorder};
 ghost use Rattle.star_compile_laws.specs.Compiled as spec;
-ghost use Rattle.star_compile_laws.specs.Compiled.{found_in, foreign_of, loaded_in, register_in};
-ghost use Rattle.star_compile.specs.Private.Emitted.{HasRegisterRoom, Writes};
+ghost use Rattle.star_compile_laws.specs.Compiled.{foreign_of, register_in};
+ghost use Rattle.star_compile.specs.Private.Emitted.{HasRegisterRoom, Writes, find_code};
 
 use crate::emitter::Emitter;
 use star_plan::Join;
@@ -27,14 +29,14 @@ fn entry<K: Copy + PartialEq>(entries: &[(K, u16)], key: K) -> Option<u16>
 
 // Returns the register of a column, if it is loaded.
 fn register_of(loaded: &[(ColumnId, u16)], column: ColumnId) -> Option<u16>
-    ensures { result ≡ loaded_in loaded.now column }
+    ensures { result ≡ register_in is_column loaded.now column }
 {
     entry(loaded, column)
 }
 
 // Returns the register of a table's row, if it is found.
 fn row_of(found: &[(TableId, u16)], table: TableId) -> Option<u16>
-    ensures { result ≡ found_in found.now table }
+    ensures { result ≡ register_in is_table found.now table }
 {
     entry(found, table)
 }
@@ -64,8 +66,8 @@ impl Emitter {
 
     // Finds the row of a table by a key.
     fn find(&mut self, table: TableId, key: u16) -> Result<u16, AllocError>
-        requires room { HasRegisterRoom self.old (spec.find_code table key) }
-        ensures written { IfOk result (Writes self.old self.new (spec.find_code table key)) }
+        requires room { HasRegisterRoom self.old (find_code table key) }
+        ensures written { IfOk result (Writes self.old self.new (find_code table key)) }
     {
         let register = self.assign(Operation::Find { table, key })?;
         self.found.push((table, register))?;
@@ -75,9 +77,9 @@ impl Emitter {
     // Loads a column of lineorder.
     fn fact_column(&mut self, column: ColumnId) -> Result<u16, AllocError>
         requires room { HasRegisterRoom self.old (λ env k.
-            spec.fact_code column env k (loaded_in env.loaded column)) }
+            spec.fact_code column env k (register_in is_column env.loaded column)) }
         ensures written { IfOk result (Writes self.old self.new (λ env k.
-            spec.fact_code column env k (loaded_in env.loaded column))) }
+            spec.fact_code column env k (register_in is_column env.loaded column))) }
     {
         match register_of(&self.loaded, column) {
             Some(register) => Ok(register),
@@ -88,9 +90,9 @@ impl Emitter {
     // Returns the register of a dimension's row, which is found at its first use.
     fn row(&mut self, joins: &[Join], table: TableId) -> Result<u16, AllocError>
         requires room { HasRegisterRoom self.old (λ env k.
-            spec.row_code joins.now table env k (found_in env.found table)) }
+            spec.row_code joins.now table env k (register_in is_table env.found table)) }
         ensures written { IfOk result (Writes self.old self.new (λ env k.
-            spec.row_code joins.now table env k (found_in env.found table))) }
+            spec.row_code joins.now table env k (register_in is_table env.found table))) }
     {
         match row_of(&self.found, table) {
             Some(register) => Ok(register),

@@ -4,9 +4,8 @@ use Rattle.std.proofs.Common.{◌≡◌, ℕ, suc, ◌+◌, ◌*◌, ◌≤◌, 
 use Rattle.std.proofs.lemmas.Bool.{and_parts, eq-eqb, lt-ltb, ne_eqb, or_from, true≢false}
 use Rattle.std.specs.Prelude.{pos, ◌&&◌, ◌||◌, not, nat_eq, nat_lt, if◌then◌else◌}
 use Rattle.std.specs.{List.list_all, Option.option_map, Option.option_or}
-use Rattle.star_schema.specs.declared.{table.TableId.TheVariants.Lineorder, column.ColumnId.ColumnId}
+use Rattle.star_schema.specs.{declared.table.TableId.TheVariants.Lineorder, declared.column.ColumnId.ColumnId, Schema.kind_of, Schema.table_of}
 use Rattle.star_schema.specs.declared.column.Kind.TheVariants as kind
-use Rattle.star_schema.specs.Schema.{kind_of, table_of}
 use Rattle.star_schema.proofs.Same.{column_itself}
 use Rattle.star_interval.specs.Range.{fits_i64}
 use Rattle.star_query.specs.declared.token.Fold.{Fold, TheVariants.Sum, TheVariants.Min, TheVariants.Max}

@@ -1,20 +1,17 @@
 -- The outcomes of a compiled program are the query's answers.
 use Rattle.std.proofs.Common.{◌≡◌, ℕ, zero, suc, ◌<◌, true, false, List, [], ◌∷◌, length, Option, Some, None, refl, sym, ap, subst, ◌∙◌, arith}
 use mathlib.Core.{Logic.inl, Logic.inr, List.reverse, List.map-map}
-use Rattle.std.specs.Prelude.{pos, map, nat_lt, if◌then◌else◌}
-use Rattle.std.specs.{List.Contains, List.list_all, Option.option_map, Ordering.is_eq}
+use Rattle.std.specs.{Prelude.pos, Prelude.map, Prelude.nat_lt, Prelude.if◌then◌else◌, List.Contains, List.list_all, Option.option_map, Ordering.is_eq}
 use Rattle.std.proofs.lemmas.{Bool.and_parts, List.length-map, List.length-replicate, List.Sorted.IsPermutation-reverse, List.Sorted.IsPermutation-sym}
 use Rattle.star_common.proofs.Members.{from_contains_map}
 use Rattle.star_schema.specs.declared.{table.TableId.TableId, table.TableId.TheVariants.Lineorder, column.ColumnId.ColumnId, group.Shape.Shape}
-use Rattle.star_schema.specs.Groups.{Entry, GroupRow, IsGroup, IsMasked, AreGroups}
-use Rattle.star_schema.specs.{Order.value_cmp, Schema.table_of, Tables.Value, Tables.Number, Tables.Text}
+use Rattle.star_schema.specs.{Groups.Entry, Groups.GroupRow, Groups.IsGroup, Groups.IsMasked, Groups.AreGroups, Order.value_cmp, Schema.table_of, Tables.Value, Tables.Number, Tables.Text}
 use Rattle.star_plan.specs.Meaning.{Tables, Joined, joined_value, all_hold, measured, aggregate_of, joined_rows, plan_rows, entry_of, Plan}
 use Rattle.star_plan.specs.Sound.{in_scope, IsSoundPlan}
 use Rattle.star_program.specs.declared.group.GroupKey.TheVariants as declared
-use Rattle.star_program.specs.declared.{key.KeyValue.KeyValue, program.Show.Show}
+use Rattle.star_program.specs.{declared.key.KeyValue.KeyValue, declared.program.Show.Show, RowCells.cell_of, Outcome.decoded, Outcome.decoded_keys, Outcome.decoded_row, World.World}
 use Rattle.star_program.specs.declared.key.KeyValue.TheVariants as key
 use Rattle.star_program.specs.Keys as by_code
-use Rattle.star_program.specs.{RowCells.cell_of, Outcome.decoded, Outcome.decoded_keys, Outcome.decoded_row, World.World}
 use Rattle.star_compile_laws.specs.{Compiled.plan_group, Compiled.key_of_group, Compiled.plan_show, Answers.AnswersThePlan, Answers.coded, Answers.update_of_row}
 use Rattle.star_query_meaning.proofs.GroupOrders.{groups_reordered}
 use Rattle.star_compile_laws.proofs.{Comparisons.code_eq, Elements.map_same, Elements.contains_filtered, Elements.contains_numbers, Rows.row_of_fact, Rows.is_turn, Rows.joined_are, Rows.puts_the_rows}

@@ -1,15 +1,12 @@
 -- What the registers of a turn hold, and what each instruction of a turn makes of it.
 use Rattle.std.proofs.Common.{◌≡◌, ℕ, Bool, true, false, List, [], ◌∷◌, refl}
 use Rattle.std.specs.Prelude.{ℤ, pos, ◌+ℤ◌}
-use Rattle.star_schema.specs.declared.{table.TableId.TableId, column.ColumnId.ColumnId}
-use Rattle.star_schema.specs.{Schema.table_of, Tables.Value, Tables.Number, Tables.Text}
+use Rattle.star_schema.specs.{declared.table.TableId.TableId, declared.column.ColumnId.ColumnId, Schema.table_of, Tables.Value, Tables.Number, Tables.Text}
 use Rattle.star_interval.specs.Range.{is_i64}
-use Rattle.star_query.specs.declared.token.Relation.{Relation}
+use Rattle.star_query.specs.{declared.token.Relation.Relation, Spelled.has_few_digits, Spelled.is_printable_text}
 use Rattle.star_query.specs.declared.token.Relation.TheVariants as sign
-use Rattle.star_query.specs.Spelled.{has_few_digits, is_printable_text}
 use Rattle.star_query.specs.Tree.{Comparison, Expression, Measure, constant, add, sub, mul, or, and, not, compare, between, test, count, fold}
-use Rattle.star_plan.specs.declared.tree.Join.{Join}
-use Rattle.star_plan.specs.{Meaning.RowCondition, Sound.joins_table}
+use Rattle.star_plan.specs.{declared.tree.Join.Join, Meaning.RowCondition, Sound.joins_table}
 use Rattle.star_program.specs.declared.op.{Edge.Edge, Edge.TheVariants.High, Edge.TheVariants.Low, Operation.Operation, Operator.Operator}
 use Rattle.star_program.specs.declared.op.Operation.TheVariants.{Binary, Const, Edge as edge_of, Find, Load, Not, Within}
 use Rattle.star_program.specs.declared.op.Operator.TheVariants as operator
@@ -50,7 +47,7 @@ pub data Form : Type 0 where
   negated : Form → Form
 
 -- the code of a test of a column that register x holds
-abbrev pub form_code : ColumnId → ℕ → Form → Env → Rest → Code
+abbrev pub form_code : ColumnId → ℕ → Form → Env → Rest ℕ → Code
 form_code c x (before o l) env k = beside (limit_of c l) (λ n. Binary (operator_of o) x n) env k
 form_code c x (after o l) env k = beside (limit_of c l) (λ n. Binary (operator_of o) n x) env k
 form_code c x (within l u) env k =
@@ -87,11 +84,11 @@ abbrev pub comparison_form : Comparison ColumnId Value → Form
 comparison_form (compare c s v) = form_of s v
 comparison_form (between c from upto) = within (starts from) (ends upto)
 
-abbrev pub comparison_code : ℕ → Comparison ColumnId Value → Env → Rest → Code
+abbrev pub comparison_code : ℕ → Comparison ColumnId Value → Env → Rest ℕ → Code
 comparison_code x (compare c s v) env k = test_code s c x v env k
 comparison_code x (between c from upto) env k = between_code c x from upto env k
 
-pub has_form : (x : ℕ) (t : Comparison ColumnId Value) (env : Env) (k : Rest)
+pub has_form : (x : ℕ) (t : Comparison ColumnId Value) (env : Env) (k : Rest ℕ)
     → form_code (column_tested t) x (comparison_form t) env k ≡ comparison_code x t env k
 has_form x (compare c sign.Equal (Number a)) env k = refl
 has_form x (compare c sign.Equal (Text t)) env k = refl
@@ -108,7 +105,7 @@ has_form x (between c (Number a) (Text u)) env k = refl
 has_form x (between c (Text t) (Number b)) env k = refl
 has_form x (between c (Text t) (Text u)) env k = refl
 
-pub tested_code : (js : List Join) (t : Comparison ColumnId Value) (env : Env) (k : Rest)
+pub tested_code : (js : List Join) (t : Comparison ColumnId Value) (env : Env) (k : Rest ℕ)
     → column_code js (column_tested t) env (λ e x. comparison_code x t e k)
     ≡ condition_code js (test t) env k
 tested_code js (compare c s v) env k = refl

@@ -1,7 +1,6 @@
 -- What is known of a key, a column or a table, after one more entry.
 use Rattle.std.proofs.Common.{◌≡◌, ◌⊎◌, inl, inr, ℕ, ◌+◌, ◌≤◌, ◌<◌, Bool, true, false, List, [], ◌∷◌, ◌++◌, Option, Some, None, refl, sym, ap, subst, ◌∙◌, arith}
-use Rattle.std.specs.Prelude.{nat_eq, if◌then◌else◌}
-use Rattle.std.specs.Option.{option_or}
+use Rattle.std.specs.{Prelude.nat_eq, Prelude.if◌then◌else◌, Option.option_or}
 use Rattle.std.proofs.lemmas.{Bool.cond-true, Bool.cond-false, Bool.eq-eqb, Bool.ne_eqb, Option.same_Some}
 use Rattle.star_program.specs.Values.{with_entry}
 use Rattle.star_compile_laws.specs.Compiled.{register_in}

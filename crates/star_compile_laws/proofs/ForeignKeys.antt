@@ -1,13 +1,10 @@
 -- A table that a plan joins is joined by a foreign key of the fact.
 use Rattle.std.proofs.Common.{◌≡◌, Bool, true, false, ◌||◌, List, [], ◌∷◌, Some, refl, sym, ap, subst}
-use Rattle.std.specs.Prelude.{if◌then◌else◌}
-use Rattle.std.specs.List.{AllByRecursion, list_all}
+use Rattle.std.specs.{Prelude.if◌then◌else◌, List.AllByRecursion, List.list_all}
 use Rattle.std.proofs.lemmas.Bool.{and_parts}
-use Rattle.star_schema.specs.declared.{table.TableId.TableId, table.TableId.TheVariants.Lineorder, column.ColumnId.ColumnId}
-use Rattle.star_schema.specs.Schema.{is_table, references, table_of}
+use Rattle.star_schema.specs.{declared.table.TableId.TableId, declared.table.TableId.TheVariants.Lineorder, declared.column.ColumnId.ColumnId, Schema.is_table, Schema.references, Schema.table_of}
 use Rattle.star_schema.proofs.{KeyColumns.foreign_key, Same.table_same}
-use Rattle.star_plan.specs.declared.tree.Join.{Join}
-use Rattle.star_plan.specs.{Joins.is_foreign, Sound.joins_table}
+use Rattle.star_plan.specs.{declared.tree.Join.Join, Joins.is_foreign, Sound.joins_table}
 use Rattle.star_program.specs.World.{is_text}
 use Rattle.star_compile_laws.specs.Compiled.{foreign_of}
 use Rattle.star_compile_laws.proofs.Joins.{foreign_refers, of_text}

@@ -1,16 +1,13 @@
 -- What the form of a comparison comes to in a turn is what the comparison says of the turn's row.
 use Rattle.std.proofs.Common.{◌≡◌, ℕ, Bool, true, false, List, Some, refl, sym, ap, ◌∙◌}
+use Rattle.std.proofs.{lemmas.Bool.and_parts}
 use Rattle.std.specs.Prelude.{ℤ, pos, ◌+ℤ◌, ◌&&◌, not}
 use Rattle.std.specs.{Ordering.int_cmp, Ordering.nat_cmp, Ordering.is_lt, Ordering.is_le, Cmp.Lexicographic.slice_cmp, Cmp.Lexicographic.nat_list_cmp_total}
-use Rattle.std.proofs.lemmas.Bool.{and_parts}
-use Rattle.star_schema.specs.declared.column.ColumnId.{ColumnId}
-use Rattle.star_schema.specs.{Order.value_cmp, Schema.kind_of, Schema.table_of, Tables.kind_of_value}
+use Rattle.star_schema.specs.{declared.column.ColumnId.ColumnId, Order.value_cmp, Schema.kind_of, Schema.table_of, Tables.kind_of_value}
 use Rattle.star_schema.specs.Tables as held
-use Rattle.star_query.specs.declared.token.Relation.{Relation}
+use Rattle.star_query.specs.{declared.token.Relation.Relation, Tree.Comparison, Tree.compare, Tree.between, Tree.test}
 use Rattle.star_query.specs.declared.token.Relation.TheVariants as sign
-use Rattle.star_query.specs.Tree.{Comparison, compare, between, test}
-use Rattle.star_plan.specs.declared.tree.Join.{Join}
-use Rattle.star_plan.specs.{Meaning.Joined, Meaning.holds, Meaning.joined_value, Meaning.tests, Names.same_kind, Sound.comparison_is_sound, Sound.in_scope}
+use Rattle.star_plan.specs.{declared.tree.Join.Join, Meaning.Joined, Meaning.holds, Meaning.joined_value, Meaning.tests, Names.same_kind, Sound.comparison_is_sound, Sound.in_scope}
 use Rattle.star_program.specs.declared.value.Value.{Value, TheVariants.Flag, TheVariants.Number, TheVariants.Place, TheVariants.Text}
 use Rattle.star_program.specs.{Effects.answer_of, Effects.compared, Effects.loaded, Values.flag_read, World.World, World.edge_of, World.is_text}
 use Rattle.star_world.specs.RowsSeen.{IsCodeOf}

@@ -1,12 +1,10 @@
 -- The foreign keys of a plan's joins, and what columns hold by their kinds.
 use Rattle.std.proofs.Common.{◌≡◌, Bool, true, false, Some, refl, ap}
-use Rattle.std.proofs.lemmas.Bool.{and_parts}
+use Rattle.std.proofs.{lemmas.Bool.and_parts}
 use Rattle.star_query_meaning.proofs.Choices.{refers_to}
-use Rattle.star_schema.specs.declared.column.{ColumnId.ColumnId, Kind.Kind}
+use Rattle.star_schema.specs.{declared.column.ColumnId.ColumnId, declared.column.Kind.Kind, Schema.key_of, Schema.kind_of, Schema.references, Schema.table_of}
 use Rattle.star_schema.specs.declared.column.Kind.TheVariants as kind
-use Rattle.star_schema.specs.Schema.{key_of, kind_of, references, table_of}
-use Rattle.star_plan.specs.declared.tree.Join.{Join}
-use Rattle.star_plan.specs.{Joins.is_foreign, Joins.is_lone_key, Joins.refers, Names.same_kind}
+use Rattle.star_plan.specs.{declared.tree.Join.Join, Joins.is_foreign, Joins.is_lone_key, Joins.refers, Names.same_kind}
 use Rattle.star_program.specs.World.{is_text}
 
 -- ---- kinds

@@ -20,7 +20,6 @@ pub mod Answered
 pub mod QueryAnswers
 pub mod Plans
 mod Texts
-mod Vectors
 mod ForeignKeys
 mod Suits
 mod Accepts

@@ -2,7 +2,7 @@
 -- it holds of what follows the piece, at each point that the piece can come to.
 use Rattle.std.proofs.Common.{◌≡◌, ℕ, ◌+◌, Bool, true, false, List, [], ◌∷◌, Option, Some, None, map, refl, subst}
 use Rattle.std.specs.Prelude.{◌&&◌, ◌||◌}
-use Rattle.std.specs.List.{list_all}
+use Rattle.std.specs.{List.list_all}
 use Rattle.std.proofs.lemmas.Bool.{and_parts}
 use Rattle.star_schema.specs.declared.{table.TableId.TableId, table.TableId.TheVariants.Lineorder, column.ColumnId.ColumnId}
 use Rattle.star_schema.specs.declared.column.Kind.TheVariants as kind
@@ -16,9 +16,13 @@ use Rattle.star_program.specs.declared.op.{Op.TheVariants.Assign, Op.TheVariants
 use Rattle.star_program.specs.declared.op.Operation.TheVariants.{Binary, Const, Find, Load, Not, Within}
 use Rattle.star_program.specs.declared.op.Operator.TheVariants as operator
 use Rattle.star_program.specs.{Code.Code, Code.Stop, Code.Then, World.is_column}
-use Rattle.star_compile_laws.specs.Compiled.{Env, Rest, Rests, one_before, beside, binary_code, column_code, column_from, condition_code, conjuncts_code, env_first, expression_code, fact_code, find_code, foreign_of, found_in, keys_code, load_code, loaded_in, one_more, place_code, put_code, row_code, turn_code, values_code, with_found, with_loaded, write}
+use Rattle.star_compile_laws.specs.Compiled.{Env, Rest, one_before, beside, binary_code, column_code, column_from, condition_code, conjuncts_code, env_first, expression_code, fact_code, foreign_of, keys_code, load_code, register_in, one_more, place_code, row_code, turn_code, values_code, with_found, with_loaded, write}
 use Rattle.star_compile_laws.proofs.Contents.{AllHold, Content, Form, IsLimit, Limit, Makes, OfColumn, OfCondition, OfExpression, OfLimit, OfRow, OfTest, adds, after, all_kept, before, both, column_tested, comparison_code, comparison_form, constant_made, denies, either, fails, finds, form_code, has_form, is_after, is_before, is_within, limit_of, limits, loads, multiplies, negated, numbers_put, operator_of, subtracts, tested_code, within}
 use Rattle.star_compile_laws.proofs.{Entries.entry_added, ForeignKeys.AreForeign, ForeignKeys.are_foreign, Limits.IsForm, Limits.form_is_fit, Limits.tested_in_scope}
+
+-- the end of a turn
+abbrev end_of_turn : List ℕ → Env → List ℕ → Code
+end_of_turn keys env values = Then (Put 0 keys values) Stop
 
 -- a law of code: a fact of some code at a point of a turn, where the registers below the next one
 -- hold something
@@ -103,9 +107,9 @@ module _ {p : Plan} (law : Law p) where
       env : Env
       point : law.Point
       fact : law.Holds env.next point 0 (OfRow Lineorder)
-      columns : (c : ColumnId) (r : ℕ) → loaded_in env.loaded c ≡ Some r
+      columns : (c : ColumnId) (r : ℕ) → register_in is_column env.loaded c ≡ Some r
           → law.Holds env.next point r (OfColumn c)
-      rows : (t : TableId) (r : ℕ) → found_in env.found t ≡ Some r
+      rows : (t : TableId) (r : ℕ) → register_in is_table env.found t ≡ Some r
           → law.Holds env.next point r (OfRow t)
 
     abbrev At : Content → Place → ℕ → Type 0
@@ -147,14 +151,14 @@ module _ {p : Plan} (law : Law p) where
       rows = λ t r e. stays r (OfRow t) (a.rows t r e);
     }
 
-    of_write : (o : Operation) (x : Content) (g : law.Grade) (a : Place) (k : Rest)
+    of_write : (o : Operation) (x : Content) (g : law.Grade) (a : Place) (k : Rest ℕ)
         → MakesAt a o x → Follows g a (At x) k → Fact (made law.node x g) a (write o a.env k)
     of_write o x g a k makes h =
         it.step g a.env.next a.point o x (k (one_more a.env) a.env.next) makes
         (λ q stays new. h (moved a (a.env.next + 1) q stays) a.env.next stays new)
 
     of_load : (c : ColumnId) (t : TableId) (row : ℕ) → (law.Sound → table_of c ≡ t)
-        → (g : law.Grade) (a : Place) (k : Rest) → At (OfRow t) a row
+        → (g : law.Grade) (a : Place) (k : Rest ℕ) → At (OfRow t) a row
         → Follows g a (At (OfColumn c)) k → Fact g a (load_code c row a.env k)
     of_load c t row of g a k at h =
         let n = a.env.next in
@@ -171,8 +175,9 @@ module _ {p : Plan} (law : Law p) where
         }) n stays new)
 
     of_find : (t : TableId) → (law.Sound → joins_table js t ≡ true) → (key : ℕ) (g : law.Grade)
-        (a : Place) (k : Rest) → At (OfColumn (foreign_of js t)) a key
-        → Follows g a (At (OfRow t)) k → Fact g a (find_code t key a.env k)
+        (a : Place) (k : Rest ℕ) → At (OfColumn (foreign_of js t)) a key
+        → Follows g a (At (OfRow t)) k → Fact g a
+        (Then (Assign a.env.next (Find t key)) (k (with_found a.env t) a.env.next))
     of_find t joined key g a k at h =
         let n = a.env.next in
         it.step g n a.point (Find t key) (OfRow t) (k (with_found a.env t) n)
@@ -190,22 +195,23 @@ module _ {p : Plan} (law : Law p) where
     -- ---- columns
 
     of_fact : (c : ColumnId) → (law.Sound → table_of c ≡ Lineorder) → (g : law.Grade) (a : Place)
-        (k : Rest) (o : Option ℕ) → loaded_in a.env.loaded c ≡ o
+        (k : Rest ℕ) (o : Option ℕ) → register_in is_column a.env.loaded c ≡ o
         → Follows g a (At (OfColumn c)) k → Fact g a (fact_code c a.env k o)
     of_fact c of g a k (Some r) e h = h a r (λ q x at. at) (a.columns c r e)
     of_fact c of g a k None e h = of_load c Lineorder 0 of g a k a.fact h
 
     of_row : (t : TableId) → (law.Sound → joins_table js t ≡ true) → (g : law.Grade) (a : Place)
-        (k : Rest) (o : Option ℕ) → found_in a.env.found t ≡ o
+        (k : Rest ℕ) (o : Option ℕ) → register_in is_table a.env.found t ≡ o
         → Follows g a (At (OfRow t)) k → Fact g a (row_code js t a.env k o)
     of_row t joined g a k (Some r) e h = h a r (λ q x at. at) (a.rows t r e)
     of_row t joined g a k None e h =
         let c = foreign_of js t in
-        of_fact c (λ s. (foreign s).fact t (joined s)) g a (λ e r. find_code t r e k)
-        (loaded_in a.env.loaded c) refl
+        of_fact c (λ s. (foreign s).fact t (joined s)) g a
+        (λ e r. Then (Assign e.next (Find t r)) (k (with_found e t) e.next))
+        (register_in is_column a.env.loaded c) refl
         (λ b r on at. of_find t joined r g b k at (later g a b (At (OfRow t)) k on h))
 
-    of_place : (c : ColumnId) (g : law.Grade) (a : Place) (k : Rest) (b : Bool)
+    of_place : (c : ColumnId) (g : law.Grade) (a : Place) (k : Rest ℕ) (b : Bool)
         → is_table (table_of c) Lineorder ≡ b
         → (law.Sound → (b || joins_table js (table_of c)) ≡ true)
         → Follows g a (At (OfColumn c)) k → Fact g a (place_code js c a.env k b)
@@ -213,12 +219,13 @@ module _ {p : Plan} (law : Law p) where
         of_load c Lineorder 0 (λ s. table_same (table_of c) Lineorder e) g a k a.fact h
     of_place c g a k false e joined h =
         of_row (table_of c) joined g a (λ e r. load_code c r e k)
-        (found_in a.env.found (table_of c)) refl
+        (register_in is_table a.env.found (table_of c)) refl
         (λ b r on at. of_load c (table_of c) r (λ s. refl) g b k at
         (later g a b (At (OfColumn c)) k on h))
 
     of_column_from : (c : ColumnId) → (law.Sound → in_scope js (table_of c) ≡ true)
-        → (g : law.Grade) (a : Place) (k : Rest) (o : Option ℕ) → loaded_in a.env.loaded c ≡ o
+        → (g : law.Grade) (a : Place) (k : Rest ℕ) (o : Option ℕ)
+        → register_in is_column a.env.loaded c ≡ o
         → Follows g a (At (OfColumn c)) k → Fact g a (column_from js c a.env k o)
     of_column_from c ok g a k (Some r) e h = h a r (λ q x at. at) (a.columns c r e)
     of_column_from c ok g a k None e h =
@@ -226,11 +233,11 @@ module _ {p : Plan} (law : Law p) where
 
     of_column : (c : ColumnId) → (law.Sound → in_scope js (table_of c) ≡ true)
         → Carries (λ g. g) (At (OfColumn c)) (column_code js c)
-    of_column c ok g a k h = of_column_from c ok g a k (loaded_in a.env.loaded c) refl h
+    of_column c ok g a k h = of_column_from c ok g a k (register_in is_column a.env.loaded c) refl h
 
     -- ---- pieces of two parts
 
-    of_two : (x y z : Content) (left right : Env → Rest → Code) (o : Operator)
+    of_two : (x y z : Content) (left right : Env → Rest ℕ → Code) (o : Operator)
         (f f' : law.Grade → law.Grade) → Carries f (At x) left → Carries f' (At y) right
         → ((a : Place) (l r : ℕ) → At x a l → At y a r → MakesAt a (Binary o l r) z)
         → Carries (λ g. f (f' (made law.node z g))) (At z) (binary_code left right o)
@@ -243,9 +250,9 @@ module _ {p : Plan} (law : Law p) where
     abbrev AllAt : List Content → Place → List ℕ → Type 0
     AllAt xs a rs = AllHold (law.Holds a.env.next a.point) xs rs
 
-    of_before : (x : Content) (xs : List Content) (first : Env → Rest → Code)
-        (others : Env → Rests → Code) (f f' : law.Grade → law.Grade) → Carries f (At x) first
-        → Carries f' (AllAt xs) others
+    of_before : (x : Content) (xs : List Content) (first : Env → Rest ℕ → Code)
+        (others : Env → Rest (List ℕ) → Code) (f f' : law.Grade → law.Grade)
+        → Carries f (At x) first → Carries f' (AllAt xs) others
         → Carries (λ g. f (f' g)) (AllAt (x ∷ xs)) (one_before first others)
     of_before x xs first others f f' one more g a k h =
         one (f' g) a (λ e r. others e (λ e rs. k e (r ∷ rs)))
@@ -256,7 +263,7 @@ module _ {p : Plan} (law : Law p) where
     -- ---- conditions
 
     of_beside : (c : ColumnId) (l : Limit) (used : ℕ → Operation) (f : Form)
-        → IsLimit law.Sound law.Spelled c l → (g : law.Grade) (a : Place) (k : Rest)
+        → IsLimit law.Sound law.Spelled c l → (g : law.Grade) (a : Place) (k : Rest ℕ)
         → ((b : Place) (m : ℕ) → Onward a b → At (OfLimit c l) b m
         → MakesAt b (used m) (OfTest c f))
         → Follows g a (At (OfTest c f)) k → Fact g a (beside (limit_of c l) used a.env k)
@@ -266,7 +273,7 @@ module _ {p : Plan} (law : Law p) where
         (later g a b (At (OfTest c f)) k on h))
 
     of_form : (c : ColumnId) (f : Form) (x : ℕ) → IsForm law.Sound law.Spelled c f
-        → (g : law.Grade) (a : Place) (k : Rest)
+        → (g : law.Grade) (a : Place) (k : Rest ℕ)
         → At (OfColumn c) a x → Follows g a (At (OfTest c f)) k
         → Fact g a (form_code c x f a.env k)
     of_form c (before o l) x fits g a k at h =
@@ -290,7 +297,7 @@ module _ {p : Plan} (law : Law p) where
     of_comparison : (t : Comparison ColumnId Value) (x : ℕ)
         → (law.Sound → comparison_is_sound js t ≡ true)
         → (law.Spelled → condition_is_spelled (test t) ≡ true) → (g : law.Grade) (a : Place)
-        (k : Rest) → At (OfColumn (column_tested t)) a x
+        (k : Rest ℕ) → At (OfColumn (column_tested t)) a x
         → Follows g a (At (OfCondition (test t))) k → Fact g a (comparison_code x t a.env k)
     of_comparison t x ok said g a k at h =
         subst (Fact g a) (has_form x t a.env k)
@@ -406,7 +413,7 @@ module _ {p : Plan} (law : Law p) where
         → law.Fact (conjuncts_grade p.conjuncts (values_grade p.measures law.last)) 1 a
         (turn_code p)
     of_turn a fact =
-        let values = λ (e : Env) (ks : List ℕ). values_code js p.measures e (put_code ks) in
+        let values = λ (e : Env) (ks : List ℕ). values_code js p.measures e (end_of_turn ks) in
         let keys = λ (e : Env). keys_code js p.keys e values in
         let g = values_grade p.measures law.last in
         of_conjuncts p.conjuncts (λ s. (sound s).conjuncts) (λ s. (spelled s).conjuncts) g
@@ -419,7 +426,7 @@ module _ {p : Plan} (law : Law p) where
         }) keys
         (λ b on. of_keys p.keys (λ s. (sound s).keys) g b values
         (λ c ks more at_k. of_values p.measures (λ s. (sound s).measures)
-        (λ s. (spelled s).measures) law.last c (put_code ks)
+        (λ s. (spelled s).measures) law.last c (end_of_turn ks)
         (λ d vs again at_v. it.put d.env.next d.point ks vs
         (all_kept (law.Holds c.env.next c.point) (law.Holds d.env.next d.point) again
         (map OfColumn p.keys) ks at_k) at_v)))

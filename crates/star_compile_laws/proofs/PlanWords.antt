@@ -1,6 +1,5 @@
 -- The comparisons and aggregates of worked plans, as a reader says them.
-use Rattle.star_schema.specs.declared.column.ColumnId.{ColumnId}
-use Rattle.star_schema.specs.Tables.{Value}
+use Rattle.star_schema.specs.{declared.column.ColumnId.ColumnId, Tables.Value}
 use Rattle.star_query.specs.declared.token.{Fold.TheVariants.Sum, Fold.TheVariants.Min, Fold.TheVariants.Max, Relation.Relation}
 use Rattle.star_query.specs.Tree as tree
 use Rattle.star_query.specs.Tree.{Expression, Measure, fold, test}

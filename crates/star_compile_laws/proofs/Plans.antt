@@ -5,9 +5,8 @@ use Rattle.star_schema.specs.declared.{column.ColumnId.ColumnId, group.Direction
 use Rattle.star_schema.specs.declared.column.ColumnId.TheVariants.{CCity, CCustkey, CNation, CRegion, DDatekey, DMonth, DWeeknuminyear, DYear, DYearmonth, DYearmonthnum, LoCommitdate, LoCustkey, LoDiscount, LoExtendedprice, LoOrderdate, LoPartkey, LoQuantity, LoRevenue, LoShipmode, LoSuppkey, LoSupplycost, LoTax, PBrand1, PCategory, PMfgr, PPartkey, SCity, SNation, SRegion, SSuppkey}
 use Rattle.star_schema.specs.Tables.{Value, Number, Text}
 use Rattle.star_query.specs.declared.token.Relation.TheVariants.{Equal, Unequal, Less, AtMost, Greater, AtLeast}
-use Rattle.star_plan.specs.declared.tree.Join.{Join}
+use Rattle.star_plan.specs.{declared.tree.Join.Join, Meaning.Plan, Meaning.RowCondition}
 use Rattle.star_query.specs.Tree.{column, constant, add, sub, mul, or, and, not, count}
-use Rattle.star_plan.specs.Meaning.{Plan, RowCondition}
 use Rattle.star_compile_laws.proofs.PlanWords.{compare, between, summed, least, greatest}
 
 abbrev number : ℕ → Value

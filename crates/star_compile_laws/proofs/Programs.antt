@@ -1,8 +1,7 @@
 -- A compiled plan is a program: within the limits, of a report that is there, and one that a text
 -- spells.
 use Rattle.std.proofs.Common.{◌≡◌, ℕ, zero, suc, ◌+◌, ◌≤◌, ◌<◌, Bool, true, false, ◌&&◌, ◌||◌, ◌==◌, List, [], ◌∷◌, ◌++◌, length, map, Option, Some, None, All, refl, sym, ap, subst, ◌∙◌, arith}
-use Rattle.std.specs.Prelude.{nat_lt, nat_le, slice_index_or, if◌then◌else◌}
-use Rattle.std.specs.{Int.is_in_range, List.list_all}
+use Rattle.std.specs.{Prelude.nat_lt, Prelude.nat_le, Prelude.slice_index_or, Prelude.if◌then◌else◌, Int.is_in_range, List.list_all}
 use Rattle.std.proofs.lemmas.Bool.{and_parts, and_from, or_right, lt-ltb, ltb-true, le-leb}
 use Rattle.std.proofs.lemmas.List.{length-map, Elements.All-nil, Elements.All-cons, Elements.All-append, Elements.All-map, Folds.list_all-append}
 use Rattle.star_schema.specs.declared.{column.ColumnId.ColumnId, column.ColumnId.TheVariants.DDatekey, group.GroupColumn.GroupColumn, group.SortKey.SortKey, table.TableId.TheVariants.Lineorder}
@@ -11,11 +10,10 @@ use Rattle.star_schema.specs.Schema.{column_name, column_of}
 use Rattle.star_query.specs.Tokens.{begins_with_letter, is_word_byte}
 use Rattle.star_query.specs.Spelled as asked
 use Rattle.star_plan.specs.{Meaning.aggregate_of, Meaning.Plan, Limits.IsPlanWithinLimits, Sound.IsSoundPlan, Sound.is_group_column, Spelled.IsSpelledPlan}
-use Rattle.star_program.specs.declared.{group.GroupDecl.GroupDecl, program.Show.Show}
+use Rattle.star_program.specs.{declared.group.GroupDecl.GroupDecl, declared.program.Show.Show, Code.code_size, Code.Code, Code.Stop, Code.Then, Code.Each}
 use Rattle.star_program.specs.declared.group.GroupKey.TheVariants as key
 use Rattle.star_program.specs.{World.is_text, Limits.IsSmall, Limits.IsWithinLimits, Text.Numerals.is_show_name, Text.Numerals.is_name_byte, Text.Spellable.IsKey, Text.Spellable.IsShortColumn, Text.Spellable.IsSayable, Text.Spellable.IsSpellable}
 use Rattle.star_program.specs.declared.spelling.statement.Statement.TheVariants as says
-use Rattle.star_program.specs.Code.{code_size, Code, Stop, Then, Each}
 use Rattle.star_program.specs.ShowLines.{has_column, first_unshown, named_columns, reports, shown_fault}
 use Rattle.star_program.specs.Text.Statements.{Line, line, lines_of_code, show_line, sort_line, lines_of_program}
 use Rattle.star_compile_laws.specs.Compiled.{compiled, body_code, turn_code, plan_group, key_of_group, plan_show}

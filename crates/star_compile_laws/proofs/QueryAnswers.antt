@@ -1,13 +1,12 @@
 -- The answers of plans are those of their queries.
 use Rattle.std.proofs.Common.{ℕ, List, refl, ◌∙◌}
+use Rattle.std.proofs.{lemmas.List.Sorted.length_permutation}
 use Rattle.std.specs.Prelude.{All}
-use Rattle.star_schema.specs.declared.table.TableId.{TableId}
-use Rattle.star_schema.specs.{Database.Database, Database.rows_in, Loadable.IsSound, Tables.IsRowOf}
+use Rattle.star_schema.specs.{declared.table.TableId.TableId, Database.Database, Database.rows_in, Loadable.IsSound, Tables.IsRowOf}
 use Rattle.star_query.specs.{Derives.Means, Tree.Tree}
 use Rattle.star_plan.specs.{Meaning.Plan, Meaning.plan_rows, Resolved.IsResolved, WellNamed.IsWellNamed}
 use Rattle.star_plan.proofs.{Conditions.no_fault, Kept.kept_sound}
 use Rattle.star_program.specs.World.{World}
-use Rattle.std.proofs.lemmas.List.Sorted.{length_permutation}
 use Rattle.star_query_meaning.specs.Rows.{selected}
 use Rattle.star_query_meaning.proofs.OwnWords.{own_answer, selected_reordered}
 use Rattle.star_world.specs.{RowsSeen.IsWorldOf, WorldOf.world_of}

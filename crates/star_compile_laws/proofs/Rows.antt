@@ -9,8 +9,7 @@ use Rattle.std.specs.declared.cmp.Ordering.{Ordering, TheVariants.Less, TheVaria
 use Rattle.star_schema.specs.declared.{table.TableId.TableId, table.TableId.TheVariants.Lineorder, column.ColumnId.ColumnId}
 use Rattle.star_schema.specs.{Order.value_cmp, Schema.is_table, Schema.key_of, Schema.references, Schema.table_of, Tables.Value, Tables.Number, Tables.Text}
 use Rattle.star_schema.proofs.{KeyColumns.foreign_key, Same.table_same}
-use Rattle.star_plan.specs.declared.tree.Join.{Join}
-use Rattle.star_plan.specs.{Joins.is_foreign, Joins.is_lone_key, Joins.refers, Sound.joins_table, Sound.IsSoundPlan}
+use Rattle.star_plan.specs.{declared.tree.Join.Join, Joins.is_foreign, Joins.is_lone_key, Joins.refers, Sound.joins_table, Sound.IsSoundPlan}
 use Rattle.star_plan.specs.Meaning.{Row, Tables, Joined, value_in, joined_value, with_row, only_row, matches, partners, joined_rows, all_hold, plan_rows, Plan}
 use Rattle.star_program.specs.{World.World, World.IsRowNumberOf, World.is_text, Values.no_registers, Effects.State, Effects.empty_state, ShowLines.shown_fault}
 use Rattle.star_program.specs.Run.{End, Ended, unless_unshown, meaning_of, run_while}

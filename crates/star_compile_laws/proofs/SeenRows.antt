@@ -1,7 +1,6 @@
 -- A world of some rows sees them.
 use Rattle.std.proofs.Common.{◌≡◌, ◌<◌, ℕ, ℤ, true, false, List, [], length, Some, refl, sym, ap, subst, ◌∙◌, arith}
-use Rattle.std.specs.Prelude.{pos, slice_get, All}
-use Rattle.std.specs.Option.{option_map}
+use Rattle.std.specs.{Prelude.pos, Prelude.slice_get, Prelude.All, Option.option_map}
 use Rattle.std.proofs.lemmas.Option.{same_Some, slice_get-map, slice_get-get_or, slice_get_within, get_or_from_slice_get}
 use Rattle.star_plan.proofs.Options.{mapped_gave}
 use Rattle.star_schema.specs.declared.{table.TableId.TableId, table.Key.Key, table.Key.TheVariants.One, table.Key.TheVariants.Two, column.ColumnId.ColumnId}

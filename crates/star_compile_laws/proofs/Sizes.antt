@@ -3,21 +3,17 @@
 use Rattle.std.proofs.Common.{◌≡◌, ℕ, zero, suc, ◌+◌, ◌*◌, ◌≤◌, Bool, true, false, List, [], ◌∷◌, ◌++◌, length, Option, Some, None, refl, ap, ◌∙◌, arith}
 use Rattle.std.specs.List.{sum_by}
 use Rattle.std.proofs.lemmas.List.Sums.{sum_by-cons}
-use Rattle.star_schema.specs.declared.{table.TableId.TableId, column.ColumnId.ColumnId}
+use Rattle.star_schema.specs.{declared.table.TableId.TableId, declared.column.ColumnId.ColumnId, Schema.is_table, Schema.table_of, Tables.Value, Tables.Number, Tables.Text}
 use Rattle.star_schema.specs.declared.table.TableId.TheVariants.{Date, Customer, Supplier, Part, Lineorder}
-use Rattle.star_schema.specs.{Schema.is_table, Schema.table_of, Tables.Value, Tables.Number, Tables.Text}
 use Rattle.star_schema.proofs.Same.{table_same}
-use Rattle.star_query.specs.declared.token.Relation.{Relation}
+use Rattle.star_query.specs.{declared.token.Relation.Relation, Limits.operands_of, Limits.comparisons_of, Limits.measure_operands}
 use Rattle.star_query.specs.declared.token.Relation.TheVariants as sign
-use Rattle.star_plan.specs.declared.tree.Join.{Join}
+use Rattle.star_plan.specs.{declared.tree.Join.Join, Meaning.Plan, Meaning.RowCondition}
 use Rattle.star_query.specs.Tree.{Expression, column, constant, add, sub, mul, or, and, not, test, compare, between, Measure, count, fold}
-use Rattle.star_plan.specs.Meaning.{Plan, RowCondition}
-use Rattle.star_query.specs.Limits.{operands_of, comparisons_of, measure_operands}
-use Rattle.star_program.specs.declared.op.{Op.TheVariants.Keep, Operation.Operation, Operation.TheVariants.Binary, Operation.TheVariants.Const, Operation.TheVariants.Not, Operator.Operator}
+use Rattle.star_program.specs.declared.op.{Op.TheVariants.Assign, Op.TheVariants.Keep, Op.TheVariants.Put, Operation.Operation, Operation.TheVariants.Binary, Operation.TheVariants.Const, Operation.TheVariants.Find, Operation.TheVariants.Not, Operator.Operator}
 use Rattle.star_program.specs.declared.op.Operator.TheVariants as operator
-use Rattle.star_program.specs.Code.{Code, Stop, Then, Each, code_size}
-use Rattle.star_program.specs.Faults.{target_of}
-use Rattle.star_compile_laws.specs.Compiled.{Env, Rest, Rests, one_before, binary_code, column_code, find_code, env_first, loaded_in, found_in, one_more, with_loaded, with_found, foreign_of, fact_code, row_code, place_code, column_from, test_code, between_code, condition_code, expression_code, conjuncts_code, keys_code, values_code, put_code, body_code, write, load_code, writes_one, register_count}
+use Rattle.star_program.specs.{Code.Code, Code.Stop, Code.Then, Code.Each, Code.code_size, Faults.target_of, World.is_column}
+use Rattle.star_compile_laws.specs.Compiled.{Env, Rest, one_before, binary_code, column_code, env_first, register_in, one_more, with_loaded, with_found, foreign_of, fact_code, row_code, place_code, column_from, test_code, between_code, condition_code, expression_code, conjuncts_code, keys_code, values_code, body_code, write, load_code, writes_one, register_count}
 use Rattle.star_compile_laws.proofs.Entries.{one_if, missing, entry_falls}
 
 -- ---- tables whose rows are not found
@@ -27,7 +23,7 @@ abbrev total : (TableId → ℕ) → ℕ
 total f = f Date + f Customer + f Supplier + f Part + f Lineorder
 
 pub unfound : List (TableId × ℕ) → ℕ
-unfound es = total (λ t. missing (found_in es t))
+unfound es = total (λ t. missing (register_in is_table es t))
 
 few_missing : (o : Option ℕ) → missing o ≤ 1
 unfolding missing
@@ -37,11 +33,11 @@ few_missing (Some r) = omega arith
 pub few_unfound : (es : List (TableId × ℕ)) → unfound es ≤ 5
 unfolding unfound
 few_unfound es =
-    let a = few_missing (found_in es Date) in
-    let b = few_missing (found_in es Customer) in
-    let c = few_missing (found_in es Supplier) in
-    let d = few_missing (found_in es Part) in
-    let e = few_missing (found_in es Lineorder) in
+    let a = few_missing (register_in is_table es Date) in
+    let b = few_missing (register_in is_table es Customer) in
+    let c = few_missing (register_in is_table es Supplier) in
+    let d = few_missing (register_in is_table es Part) in
+    let e = few_missing (register_in is_table es Lineorder) in
     omega arith
 
 falls : (f g : TableId → ℕ) (t : TableId) → ((s : TableId) → one_if (is_table s t) + f s ≤ g s)
@@ -50,11 +46,12 @@ falls f g Date h = omega (arith, h Date, h Customer, h Supplier, h Part, h Lineo
 falls f g _ h = omega (arith, h Date, h Customer, h Supplier, h Part, h Lineorder)
 
 -- a row that is found costs one table
-pub found_once : (es : List (TableId × ℕ)) (t : TableId) (n : ℕ) → found_in es t ≡ None
+pub found_once : (es : List (TableId × ℕ)) (t : TableId) (n : ℕ) → register_in is_table es t ≡ None
     → unfound (es ++ (t, n) ∷ []) + 1 ≤ unfound es
 unfolding unfound
 found_once es t n h =
-    falls (λ s. missing (found_in (es ++ (t, n) ∷ []) s)) (λ s. missing (found_in es s)) t
+    falls (λ s. missing (register_in is_table (es ++ (t, n) ∷ []) s))
+    (λ s. missing (register_in is_table es s)) t
     (entry_falls is_table table_same es t n h)
 
 -- ---- pieces
@@ -70,12 +67,12 @@ Adds {A} n piece =
     → code_size (piece env k) ≤ n + m + 2 * unfound env.found
 
 -- or one less: there is always one more to come, an operator or a keep or what loads a column
-abbrev AddsLess : ℕ → (Env → Rest → Code) → Type 0
+abbrev AddsLess : ℕ → (Env → Rest ℕ → Code) → Type 0
 AddsLess n piece =
-    (env : Env) (k : Rest) (m : ℕ) → Short m k
+    (env : Env) (k : Rest ℕ) (m : ℕ) → Short m k
     → 1 + code_size (piece env k) ≤ n + m + 2 * unfound env.found
 
-of_binary : (left right : Env → Rest → Code) (o : Operator) (p q r : ℕ) → p + q ≡ r
+of_binary : (left right : Env → Rest ℕ → Code) (o : Operator) (p q r : ℕ) → p + q ≡ r
     → AddsLess p left → AddsLess q right → AddsLess r (binary_code left right o)
 of_binary left right o p q r sum f g env k m h =
     let whole =
@@ -86,30 +83,31 @@ of_binary left right o p q r sum f g env k m h =
     omega arith) in
     omega arith
 
-of_before : (first : Env → Rest → Code) (others : Env → Rests → Code) (p q : ℕ) → Adds p first
-    → Adds q others → Adds (p + q) (one_before first others)
+of_before : (first : Env → Rest ℕ → Code) (others : Env → Rest (List ℕ) → Code) (p q : ℕ)
+    → Adds p first → Adds q others → Adds (p + q) (one_before first others)
 of_before first others p q f g env k m h =
     let whole =
     f env (λ e x. others e (λ e xs. k e (x ∷ xs))) (q + m)
     (λ e x. omega (arith, g e (λ e xs. k e (x ∷ xs)) m (λ e xs. h e (x ∷ xs)))) in
     omega arith
 
-of_fact : (c : ColumnId) (env : Env) (k : Rest) (m : ℕ) (o : Option ℕ)
+of_fact : (c : ColumnId) (env : Env) (k : Rest ℕ) (m : ℕ) (o : Option ℕ)
     → ((e : Env) (x : ℕ) → e.found ≡ env.found → code_size (k e x) ≤ m)
     → code_size (fact_code c env k o) ≤ 1 + m
 of_fact c env k m (Some r) h = omega (arith, h env r refl)
 of_fact c env k m None h = omega (arith, h (with_loaded env c) env.next refl)
 
-of_found : (t : TableId) (es : List (TableId × ℕ)) (k : Rest) (m : ℕ) (e : Env) (r : ℕ)
-    → found_in es t ≡ None → Short m k → e.found ≡ es
-    → code_size (find_code t r e k) + 1 ≤ m + 2 * unfound es
+of_found : (t : TableId) (es : List (TableId × ℕ)) (k : Rest ℕ) (m : ℕ) (e : Env) (r : ℕ)
+    → register_in is_table es t ≡ None → Short m k → e.found ≡ es
+    → code_size (Then (Assign e.next (Find t r)) (k (with_found e t) e.next)) + 1
+    ≤ m + 2 * unfound es
 of_found t es k m e r none h same =
     let p = h (with_found e t) e.next in
-    let q = found_once e.found t e.next (ap (λ l. found_in l t) same ∙ none) in
+    let q = found_once e.found t e.next (ap (λ l. register_in is_table l t) same ∙ none) in
     let s : unfound e.found ≡ unfound es = ap unfound same in
     omega arith
 
-of_one : (o : Operation) (env : Env) (k : Rest) (m : ℕ) → Short m k
+of_one : (o : Operation) (env : Env) (k : Rest ℕ) (m : ℕ) → Short m k
     → code_size (write o env k) ≤ 1 + m + 2 * unfound env.found
 of_one o env k m h = omega (arith, h (one_more env) env.next)
 
@@ -131,38 +129,40 @@ of_test _ c x (Number a) env k m h = omega (arith, h (behind 2 env) (behind 1 en
 of_test _ c x (Text t) env k m h = omega (arith, h (behind 2 env) (behind 1 env).next)
 
 module _ (js : List Join) where
-  of_row : (t : TableId) (env : Env) (k : Rest) (m : ℕ) (o : Option ℕ)
-      → found_in env.found t ≡ o → Short m k
+  of_row : (t : TableId) (env : Env) (k : Rest ℕ) (m : ℕ) (o : Option ℕ)
+      → register_in is_table env.found t ≡ o → Short m k
       → code_size (row_code js t env k o) ≤ m + 2 * unfound env.found
   of_row t env k m (Some r) p h = h env r
   of_row t env k m None p h =
       by (m + 2 * unfound env.found) (λ e r same. of_found t env.found k m e r p h same)
     where
       by : (b : ℕ)
-          → ((e : Env) (r : ℕ) → e.found ≡ env.found → code_size (find_code t r e k) + 1 ≤ b)
+          → ((e : Env) (r : ℕ) → e.found ≡ env.found
+          → code_size (Then (Assign e.next (Find t r)) (k (with_found e t) e.next)) + 1 ≤ b)
           → code_size (row_code js t env k None) ≤ b
       by zero g = absurd (omega (arith, g env 0 refl))
       by (suc b) g =
           let q =
-          of_fact (foreign_of js t) env (λ e r. find_code t r e k) b
-          (loaded_in env.loaded (foreign_of js t))
+          of_fact (foreign_of js t) env
+          (λ e r. Then (Assign e.next (Find t r)) (k (with_found e t) e.next)) b
+          (register_in is_column env.loaded (foreign_of js t))
           (λ e r same. omega (arith, g e r same)) in
           omega arith
 
-  of_place : (c : ColumnId) (env : Env) (k : Rest) (m : ℕ) (b : Bool) → Short m k
+  of_place : (c : ColumnId) (env : Env) (k : Rest ℕ) (m : ℕ) (b : Bool) → Short m k
       → code_size (place_code js c env k b) ≤ 1 + m + 2 * unfound env.found
   of_place c env k m true h = omega (arith, h (with_loaded env c) env.next)
   of_place c env k m false h =
-      of_row (table_of c) env (λ e r. load_code c r e k) (1 + m) (found_in env.found (table_of c))
-      refl (λ e r. omega (arith, h (with_loaded e c) e.next))
+      of_row (table_of c) env (λ e r. load_code c r e k) (1 + m)
+      (register_in is_table env.found (table_of c)) refl (λ e r. omega (arith, h (with_loaded e c) e.next))
 
-  of_column_from : (c : ColumnId) (env : Env) (k : Rest) (m : ℕ) (o : Option ℕ) → Short m k
+  of_column_from : (c : ColumnId) (env : Env) (k : Rest ℕ) (m : ℕ) (o : Option ℕ) → Short m k
       → code_size (column_from js c env k o) ≤ 1 + m + 2 * unfound env.found
   of_column_from c env k m (Some r) h = omega (arith, h env r)
   of_column_from c env k m None h = of_place c env k m (is_table (table_of c) Lineorder) h
 
   of_column : (c : ColumnId) → Adds 1 (column_code js c)
-  of_column c env k m h = of_column_from c env k m (loaded_in env.loaded c) h
+  of_column c env k m h = of_column_from c env k m (register_in is_column env.loaded c) h
 
   -- six for each comparison or negation: its column, at most four for the test, and what joins it
   -- to the others or keeps it
@@ -265,13 +265,14 @@ pub body_size : (p : Plan)
     ≤ 6 * sum_by comparisons_of p.conjuncts + length p.keys
     + 2 * sum_by measure_operands p.measures + 12
 body_size p =
+    let put = λ (ks : List ℕ) (e : Env) (vs : List ℕ). Then (Put 0 ks vs) Stop in
     let turn =
     of_conjuncts p.joins p.conjuncts env_first
-    (λ e. keys_code p.joins p.keys e (λ e ks. values_code p.joins p.measures e (put_code ks)))
+    (λ e. keys_code p.joins p.keys e (λ e ks. values_code p.joins p.measures e (put ks)))
     (length p.keys + (2 * sum_by measure_operands p.measures + 1))
-    (λ e. of_keys p.joins p.keys e (λ e ks. values_code p.joins p.measures e (put_code ks))
+    (λ e. of_keys p.joins p.keys e (λ e ks. values_code p.joins p.measures e (put ks))
     (2 * sum_by measure_operands p.measures + 1)
-    (λ e ks. of_values p.joins p.measures e (put_code ks) 1 (λ e vs. omega arith))) in
+    (λ e ks. of_values p.joins p.measures e (put ks) 1 (λ e vs. omega arith))) in
     let few = few_unfound env_first.found in
     omega arith
 

@@ -2,10 +2,9 @@
 use Rattle.std.proofs.Common.{◌≡◌, ℕ, ◌≤◌, ◌<◌, Bool, true, false, Option, Some, None, refl, sym, ap, ◌∙◌, arith}
 use Rattle.std.proofs.lemmas.Bool.{and_from, and_parts, lt-ltb}
 use Rattle.std.specs.Prelude.{ℤ, pos, ◌+ℤ◌, ◌-ℤ◌, ◌*ℤ◌, ◌&&◌, not, if◌then◌else◌}
-use Rattle.std.specs.Option.{option_map}
-use Rattle.star_schema.specs.declared.column.{ColumnId.ColumnId, Kind.Kind as ColumnKind}
+use Rattle.std.specs.{Option.option_map}
+use Rattle.star_schema.specs.{declared.column.ColumnId.ColumnId, declared.column.Kind.Kind as ColumnKind, Columns.AreBoundsI64, Schema.is_table, Schema.kind_of, Schema.table_of}
 use Rattle.star_schema.specs.declared.column.Kind.TheVariants as kind
-use Rattle.star_schema.specs.{Columns.AreBoundsI64, Schema.is_table, Schema.kind_of, Schema.table_of}
 use Rattle.star_schema.proofs.Same.{column_itself, table_itself}
 use Rattle.star_interval.specs.Range.{Range, corner_range, fits_i64, is_i64, only}
 use Rattle.star_interval.proofs.Ranges.{fits_i64_fits}

@@ -1,11 +1,9 @@
 -- The texts of the programs of the benchmark's queries and of two others, by computation.
 use Rattle.std.proofs.Common.{ℕ, List, [], ◌∷◌, codes, map, refl}
-use Rattle.std.specs.{Fmt.digits, List.flat_map}
-use Rattle.std.specs.Prelude.{nat_eq, if◌then◌else◌}
+use Rattle.std.specs.{Fmt.digits, List.flat_map, Prelude.nat_eq, Prelude.if◌then◌else◌}
 use Rattle.star_common.proofs.Tables.{Gives}
 use Rattle.star_common.specs.Quotes.{quoted}
-use Rattle.star_schema.specs.Schema.{column_of, table_name}
-use Rattle.star_schema.specs.Words.{shape_name, aggregate_name, direction_name}
+use Rattle.star_schema.specs.{Schema.column_of, Schema.table_name, Words.shape_name, Words.aggregate_name, Words.direction_name}
 use Rattle.star_program.specs.Text.{Keywords.mnemonic_name, Statements.lines_of_code}
 use Rattle.star_program.specs.Text.Written.{program_text, written_line, op_text, assigned_text, register_text, target_text, group_text, key_text, written_column, show_text, sort_text}
 use Rattle.star_compile_laws.specs.Compiled.{compiled}

@@ -2,9 +2,7 @@
 use Rattle.std.specs.Prelude.{◌≡◌, ℕ, zero, suc, ◌+◌, ◌<◌, ℤ, true, false, List, [], ◌∷◌, length, slice_index_or, Some, if◌then◌else◌, unwrap_or}
 use Rattle.star_schema.specs.declared.{table.TableId.TableId, table.TableId.TheVariants.Lineorder, column.ColumnId.ColumnId}
 use Rattle.star_schema.specs.{Schema.is_table, Schema.key_of, Schema.references, Schema.table_of, Tables.Value, Tables.Number, Tables.Text}
-use Rattle.star_plan.specs.declared.tree.Join.{Join}
-use Rattle.star_plan.specs.{Joins.is_lone_key, Sound.joins_table, Sound.in_scope}
-use Rattle.star_plan.specs.Meaning.{Row, Tables, Joined, value_in, joined_value}
+use Rattle.star_plan.specs.{declared.tree.Join.Join, Joins.is_lone_key, Sound.joins_table, Sound.in_scope, Meaning.Row, Meaning.Tables, Meaning.Joined, Meaning.value_in, Meaning.joined_value}
 use Rattle.star_program.specs.World.{World, IsRowNumberOf, is_text}
 use Rattle.star_world.specs.RowsSeen.{IsCodeOf}
 use Rattle.star_compile_laws.specs.Compiled.{foreign_of}

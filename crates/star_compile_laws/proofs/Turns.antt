@@ -4,9 +4,8 @@ use mathlib.Core.List.{reverse_aux}
 use Rattle.std.proofs.lemmas.{Bool.and_parts, List.Sums.sum_by-cons}
 use Rattle.std.specs.Prelude.{pos, ◌&&◌, not, nat_lt, map, filter, if◌then◌else◌, unwrap_or}
 use Rattle.std.specs.{List.list_all, List.sum_by, Ordering.is_le, Ordering.is_lt}
-use Rattle.star_schema.specs.declared.{table.TableId.TableId, table.TableId.TheVariants.Lineorder, column.ColumnId.ColumnId}
+use Rattle.star_schema.specs.{declared.table.TableId.TableId, declared.table.TableId.TheVariants.Lineorder, declared.column.ColumnId.ColumnId, Schema.kind_of, Schema.table_of}
 use Rattle.star_schema.specs.declared.column.Kind.TheVariants as kind
-use Rattle.star_schema.specs.Schema.{kind_of, table_of}
 use Rattle.star_schema.specs.Tables as held
 use Rattle.star_query.specs.declared.token.Fold.TheVariants.{Sum, Min, Max}
 use Rattle.star_query.specs.Tree.{Expression, Measure, add, column, constant, count, fold, mul, sub}

@@ -1,21 +1,17 @@
 -- What refuses a compiled program, if anything does.
 use Rattle.std.proofs.Common.{◌≡◌, ◌⊎◌, ◌+◌, inl, inr, ℕ, ◌≤◌, ◌<◌, Bool, true, false, Option, Some, None, refl, sym, ap, subst, ◌∙◌, arith}
 use Rattle.std.proofs.lemmas.Bool.{false_from_ne_true, le-leb, leb-true}
-use Rattle.std.specs.Prelude.{nat_eq, nat_le, pos, if◌then◌else◌}
-use Rattle.std.specs.{List.list_all, Option.option_map, Option.option_or}
-use Rattle.star_schema.specs.declared.{table.TableId.TheVariants.Lineorder, column.ColumnId.ColumnId}
+use Rattle.std.specs.{Prelude.nat_eq, Prelude.nat_le, Prelude.pos, Prelude.if◌then◌else◌, List.list_all, Option.option_map, Option.option_or}
+use Rattle.star_schema.specs.{declared.table.TableId.TheVariants.Lineorder, declared.column.ColumnId.ColumnId, Columns.AreBoundsI64}
 use Rattle.star_common.specs.First.{first_answer}
 use Rattle.star_plan.specs.{Meaning.Plan, Sound.IsSoundPlan, Spelled.IsSpelledPlan, Fits.measure_fits, Fits.Fits}
 use Rattle.star_interval.specs.Range.{Range, fits_i64}
 use Rattle.star_program.specs.declared.op.Op.TheVariants.{Assign, Keep, Put}
 use Rattle.star_program.specs.{Code.Code, Code.Each, Code.Stop, Code.Then, World.World, ShowLines.shown_fault}
-use Rattle.star_safety.specs.Admissible.{Refusal, TooCostly, Refused, BadShow, cost_refusal, first_refusal}
-use Rattle.star_safety.specs.declared.reason.Reason.{Reason}
+use Rattle.star_safety.specs.{Admissible.Refusal, Admissible.TooCostly, Admissible.Refused, Admissible.BadShow, Admissible.cost_refusal, Admissible.first_refusal, declared.reason.Reason.Reason}
 use Rattle.star_safety.specs.Standing.{instructions_of, reason_of}
 use Rattle.star_safety.proofs.Forward.{first_standing}
-use Rattle.star_compile_laws.specs.{Compiled.compiled, Compiled.turn_code, Judged.IsOverflow}
-use Rattle.star_schema.specs.Columns.{AreBoundsI64}
-use Rattle.star_compile_laws.specs.Wide.{Computed, computed, first_wide, given, too_wide, turn_wide}
+use Rattle.star_compile_laws.specs.{Compiled.compiled, Compiled.turn_code, Judged.IsOverflow, Wide.Computed, Wide.computed, Wide.first_wide, Wide.given, Wide.too_wide, Wide.turn_wide}
 use Rattle.star_compile_laws.proofs.{Accepts.Judged, Accepts.or_none_right, Accepts.program_judged, Suits.AreColumnsI64, Flat.quote_is, Programs.shows_what_is_there}
 
 not_at_most : (n m : ℕ) → m < n → nat_le n m ≡ false

@@ -7,11 +7,9 @@ use Rattle.star_schema.specs.declared.{column.ColumnId.ColumnId, group.GroupColu
 use Rattle.star_schema.specs.declared.column.ColumnId.TheVariants.{CCustkey, CNation, LoCustkey, LoDiscount, LoExtendedprice, LoQuantity, LoRevenue}
 use Rattle.star_schema.specs.{Bounds.numbers_at, Database.Database, Database.rows_in, Dictionary.dictionary_of, Loadable.keys_of, Schema.column_of, Schema.place_of, Tables.Value, Tables.Number, Tables.Text, Texts.texts_at}
 use Rattle.star_interval.specs.Range.{Range, is_i64, is_i128, only}
-use Rattle.star_query.specs.declared.token.Relation.TheVariants.{AtMost, Less}
-use Rattle.star_query.specs.Tree.{add, column, count, mul}
+use Rattle.star_query.specs.{declared.token.Relation.TheVariants.AtMost, declared.token.Relation.TheVariants.Less, Tree.add, Tree.column, Tree.count, Tree.mul}
 use Rattle.star_plan.specs.Meaning.{Plan, plan_rows}
-use Rattle.star_program.specs.declared.key.KeyValue.TheVariants.{Code}
-use Rattle.star_program.specs.{Puts.Update, Run.End, Run.Ended, Run.run_of, World.is_text}
+use Rattle.star_program.specs.{declared.key.KeyValue.TheVariants.Code, Puts.Update, Run.End, Run.Ended, Run.run_of, World.is_text}
 use Rattle.star_safety.specs.declared.reason.{Reached.Reached, Reason.Reason, Reason.TheVariants.Overflow}
 use Rattle.star_world.specs.WorldOf.{world_of}
 use Rattle.star_compile_laws.specs.{Answers.update_of_row, Compiled.compiled, Counts.lookups_of, Wide.turn_wide}

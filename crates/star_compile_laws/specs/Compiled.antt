@@ -32,12 +32,6 @@ abbrev pub register_in : {K : Type 0} → (same : K → K → Bool) → List (K 
 register_in same [] k = None
 register_in same (e ∷ es) k = if same k e.0 then Some e.1 else register_in same es k
 
-abbrev pub loaded_in : List (ColumnId × ℕ) → ColumnId → Option ℕ
-loaded_in = register_in is_column
-
-abbrev pub found_in : List (TableId × ℕ) → TableId → Option ℕ
-found_in = register_in is_table
-
 -- after an instruction that writes the next register; after a load; after a find
 abbrev pub one_more : Env → Env
 one_more env = record env { next = env.next + 1 }
@@ -49,36 +43,29 @@ abbrev pub with_found : Env → TableId → Env
 with_found env t = record (one_more env) { found = env.found ++ (t, env.next) ∷ [] }
 
 -- what comes after a piece: the code that follows, by what is then known and by the register of the
--- piece's result; each piece below is given it
-abbrev pub Rest : Type 0
-Rest = Env → ℕ → Code
-
--- the same where a piece has several results
-abbrev pub Rests : Type 0
-Rests = Env → List ℕ → Code
+-- piece's result, or by those of its results; each piece below is given it
+abbrev pub Rest : Type 0 → Type 0
+Rest R = Env → R → Code
 
 -- registers are numbered in the order in which they are written
-abbrev pub write : Operation → Env → Rest → Code
+abbrev pub write : Operation → Env → Rest ℕ → Code
 write o env k = Then (Assign env.next o) (k (one_more env) env.next)
 
 -- an operator stands after its left part and then its right one
-abbrev pub binary_code : (left right : Env → Rest → Code) → Operator → Env → Rest → Code
+abbrev pub binary_code : (left right : Env → Rest ℕ → Code) → Operator → Env → Rest ℕ → Code
 binary_code left right o env k = left env (λ e x. right e (λ e y. write (Binary o x y) e k))
 
 -- the result of a piece, and then those of others
-abbrev pub one_before : (Env → Rest → Code) → (Env → Rests → Code) → Env → Rests → Code
+abbrev pub one_before : (Env → Rest ℕ → Code) → (Env → Rest (List ℕ) → Code) → Env → Rest (List ℕ) → Code
 one_before first others env k = first env (λ e x. others e (λ e xs. k e (x ∷ xs)))
 
 -- ---- columns: each is loaded once, where it is used first
 
-abbrev pub load_code : ColumnId → ℕ → Env → Rest → Code
+abbrev pub load_code : ColumnId → ℕ → Env → Rest ℕ → Code
 load_code c row env k = Then (Assign env.next (Load c row)) (k (with_loaded env c) env.next)
 
-abbrev pub find_code : TableId → ℕ → Env → Rest → Code
-find_code t key env k = Then (Assign env.next (Find t key)) (k (with_found env t) env.next)
-
 -- a column of the fact, from the register that has it already, if there is one
-abbrev pub fact_code : ColumnId → Env → Rest → Option ℕ → Code
+abbrev pub fact_code : ColumnId → Env → Rest ℕ → Option ℕ → Code
 fact_code c env k (Some r) = k env r
 fact_code c env k None = load_code c 0 env k
 
@@ -88,24 +75,25 @@ foreign_of [] t = LoOrderdate
 foreign_of (j ∷ js) t = if is_table t (table_of j.key) then j.foreign else foreign_of js t
 
 -- the row of a dimension is found once, where one of its columns is used first: by the foreign key
-abbrev pub row_code : List Join → TableId → Env → Rest → Option ℕ → Code
+abbrev pub row_code : List Join → TableId → Env → Rest ℕ → Option ℕ → Code
 row_code js t env k (Some r) = k env r
 row_code js t env k None =
-    fact_code (foreign_of js t) env (λ e r. find_code t r e k)
-    (loaded_in env.loaded (foreign_of js t))
+    fact_code (foreign_of js t) env
+    (λ e r. Then (Assign e.next (Find t r)) (k (with_found e t) e.next))
+    (register_in is_column env.loaded (foreign_of js t))
 
 -- a column of the fact from the fact's row, and another from the row of its dimension
-abbrev pub place_code : List Join → ColumnId → Env → Rest → (of_fact : Bool) → Code
+abbrev pub place_code : List Join → ColumnId → Env → Rest ℕ → (of_fact : Bool) → Code
 place_code js c env k true = load_code c 0 env k
 place_code js c env k false =
-    row_code js (table_of c) env (λ e r. load_code c r e k) (found_in env.found (table_of c))
+    row_code js (table_of c) env (λ e r. load_code c r e k) (register_in is_table env.found (table_of c))
 
-abbrev pub column_from : List Join → ColumnId → Env → Rest → Option ℕ → Code
+abbrev pub column_from : List Join → ColumnId → Env → Rest ℕ → Option ℕ → Code
 column_from js c env k (Some r) = k env r
 column_from js c env k None = place_code js c env k (is_table (table_of c) Lineorder)
 
-abbrev pub column_code : List Join → ColumnId → Env → Rest → Code
-column_code js c env k = column_from js c env k (loaded_in env.loaded c)
+abbrev pub column_code : List Join → ColumnId → Env → Rest ℕ → Code
+column_code js c env k = column_from js c env k (register_in is_column env.loaded c)
 
 -- ---- conditions
 
@@ -120,22 +108,22 @@ end_behind c (Number a) = Const (a +ℤ pos 1)
 end_behind c (Text t) = Edge High c t
 
 -- an operand is made anew at each use, and then an operation has it
-abbrev pub beside : Operation → (ℕ → Operation) → Env → Rest → Code
+abbrev pub beside : Operation → (ℕ → Operation) → Env → Rest ℕ → Code
 beside operand used env k = write operand env (λ e n. write (used n) e k)
 
 -- from where the values begin that equal the one, to where those end that equal the other
-abbrev pub between_code : ColumnId → ℕ → Value → Value → Env → Rest → Code
+abbrev pub between_code : ColumnId → ℕ → Value → Value → Env → Rest ℕ → Code
 between_code c x from upto env k =
     write (start_of c from) env (λ e m. beside (end_behind c upto) (λ n. Within x m n) e k)
 
 -- a number is compared by an operator; a text equals another where it lies between it and itself
-abbrev pub equal_code : ColumnId → ℕ → Value → Env → Rest → Code
+abbrev pub equal_code : ColumnId → ℕ → Value → Env → Rest ℕ → Code
 equal_code c x (Number a) env k = beside (Const a) (λ n. Binary operator.Equal x n) env k
 equal_code c x (Text t) env k = between_code c x (Text t) (Text t) env k
 
 -- a column, which stands in register x, beside a value; where a text is compared by an edge, the
 -- operator takes the edge in or leaves it out
-abbrev pub test_code : Relation → ColumnId → ℕ → Value → Env → Rest → Code
+abbrev pub test_code : Relation → ColumnId → ℕ → Value → Env → Rest ℕ → Code
 test_code sign.Equal c x v env k = equal_code c x v env k
 test_code sign.Unequal c x v env k = equal_code c x v env (λ e y. write (Not y) e k)
 test_code sign.Less c x v env k = beside (start_of c v) (λ n. Binary operator.Less x n) env k
@@ -150,7 +138,7 @@ test_code sign.Greater c x (Text t) env k =
 test_code sign.AtLeast c x v env k =
     beside (start_of c v) (λ n. Binary operator.LessOrEqual n x) env k
 
-abbrev pub condition_code : List Join → RowCondition → Env → Rest → Code
+abbrev pub condition_code : List Join → RowCondition → Env → Rest ℕ → Code
 condition_code js (or a b) env k =
     binary_code (condition_code js a) (condition_code js b) operator.Or env k
 condition_code js (and a b) env k =
@@ -170,7 +158,7 @@ conjuncts_code js (c ∷ cs) env k = conjunct_code js c env (λ e. conjuncts_cod
 
 -- ---- what is put
 
-abbrev pub expression_code : List Join → Expression ColumnId → Env → Rest → Code
+abbrev pub expression_code : List Join → Expression ColumnId → Env → Rest ℕ → Code
 expression_code js (column c) env k = column_code js c env k
 expression_code js (constant z) env k = write (Const z) env k
 expression_code js (add a b) env k =
@@ -181,18 +169,15 @@ expression_code js (mul a b) env k =
     binary_code (expression_code js a) (expression_code js b) operator.Mul env k
 
 -- the keys in the order of GROUP BY
-abbrev pub keys_code : List Join → List ColumnId → Env → Rests → Code
+abbrev pub keys_code : List Join → List ColumnId → Env → Rest (List ℕ) → Code
 keys_code js [] env k = k env []
 keys_code js (c ∷ cs) env k = one_before (column_code js c) (keys_code js cs) env k
 
 -- and a value for each aggregate that isn't a count, in the order of SELECT
-abbrev pub values_code : List Join → List (Measure ColumnId) → Env → Rests → Code
+abbrev pub values_code : List Join → List (Measure ColumnId) → Env → Rest (List ℕ) → Code
 values_code js [] env k = k env []
 values_code js (count ∷ ms) env k = values_code js ms env k
 values_code js (fold f a ∷ ms) env k = one_before (expression_code js a) (values_code js ms) env k
-
-abbrev pub put_code : List ℕ → Env → List ℕ → Code
-put_code keys env values = Then (Put 0 keys values) Stop
 
 -- ---- the program
 
@@ -201,7 +186,7 @@ abbrev pub turn_code : Plan → Code
 turn_code p =
     conjuncts_code p.joins p.conjuncts env_first (λ e.
     keys_code p.joins p.keys e (λ e keys.
-    values_code p.joins p.measures e (put_code keys)))
+    values_code p.joins p.measures e (λ e values. Then (Put 0 keys values) Stop)))
 
 -- one scan of the fact
 abbrev pub body_code : Plan → Code

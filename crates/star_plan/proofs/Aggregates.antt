@@ -1,10 +1,8 @@
 -- The names of the aggregates, item by item.
 use Rattle.std.proofs.Common.{◌≡◌, ◌∙◌, sym, ap, ◌+◌, ◌<◌, ℕ, zero, suc, Bool, ◌||◌, if◌then◌else◌, List, [], ◌∷◌, ◌++◌, Some, None, take, drop, get_or, length, map, arith, refl}
-use Rattle.std.proofs.Math.Seq.{take-append_seam}
-use Rattle.std.proofs.lemmas.List.{drop-map, get_or-map, length-append, length-map, length-take-le, take-map}
-use Rattle.star_query.specs.Limits.{aggregates_in}
-use Rattle.star_query.specs.Tree.{Aggregate, Item, Name, aggregate, plain}
-use Rattle.star_plan.specs.declared.{fault.PlanFault.TheVariants.DuplicateAlias, tree.Aggregate.Aggregate as Named}
+use Rattle.std.proofs.{Math.Seq.take-append_seam, lemmas.List.drop-map, lemmas.List.get_or-map, lemmas.List.length-append, lemmas.List.length-map, lemmas.List.length-take-le, lemmas.List.take-map}
+use Rattle.star_query.specs.{Limits.aggregates_in, Tree.Aggregate, Tree.Item, Tree.Name, Tree.aggregate, Tree.plain}
+use Rattle.star_plan.specs.{declared.fault.PlanFault.TheVariants.DuplicateAlias, declared.tree.Aggregate.Aggregate as Named, Private.Stages.item_column, Resolved.items_from, Resolved.option_both}
 use Rattle.star_plan.specs.{Faults.item_fault, Faults.item_fault_after, Private.Stages.alias_fault, Names.has_name, Views.names_view, Private.Answers.IsNamedAt}
 use Rattle.star_plan.specs.Naming.{name_of_aggregate, aggregate_names, has_text, name_place, names_from}
 use Rattle.star_plan.proofs.Viewed.{BesideSoFar, beside_passed}
@@ -38,6 +36,15 @@ count_more n (plain y ∷ ys) (suc i) x within at =
 count_more n (aggregate y ∷ ys) (suc i) x within at =
     let next : suc i + 1 ≡ suc (i + 1) = omega arith in
     let more = count_more (n + 1) ys i x (omega arith) at in rw next (omega (arith, more))
+
+-- what items show, item by item
+pub items_next : (groups : List Name) (before : ℕ) (i : Item) (items : List Item)
+    → items_from groups before (i ∷ items)
+    ≡ option_both (λ c cs. c ∷ cs) (item_column groups before i)
+    (items_from groups (before + aggregates_in i) items)
+items_next groups before (plain n) items = let same : before + 0 ≡ before = omega arith in
+    rw same refl
+items_next groups before (aggregate a) items = refl
 
 -- ---- the same of the code's items
 

@@ -1,9 +1,9 @@
 -- No element twice, where each is asked beside those before it.
 use Rattle.std.proofs.Common.{◌≡◌, ◌∙◌, sym, Bool, true, false, ◌||◌, if◌then◌else◌, List, [], ◌∷◌, ◌++◌, Option, Some, None, refl}
-use Rattle.std.specs.{List.AllByRecursion, List.IsDistinct, List.list_any, Option.option_or}
+use Rattle.std.specs.{List.AllByRecursion, List.IsDistinct, List.list_any, Option.is_none, Option.option_or}
 use Rattle.std.proofs.lemmas.{Bool.or_from, Bool.or_parts, List.Folds.list_any-append}
 use Rattle.star_common.proofs.Firsts.{or_none}
-use Rattle.star_plan.specs.First.{first_after}
+use Rattle.star_plan.specs.{First.first_after, WellNamed.IsThere}
 
 pub some_to : {A : Type 0} (b : Bool) (x : A) → (if b then Some x else None) ≡ None → b ≡ false
 some_to true x e = absurd (cc)
@@ -16,6 +16,17 @@ some_from false x e = refl
 pub none_or : {A : Type 0} (a b : Option A) → a ≡ None → b ≡ None → option_or a b ≡ None
 none_or None b e h = h
 none_or (Some x) b e h = absurd (cc)
+
+-- where there is something, and a test fails
+pub found_known : {A F : Type 0} (o : Option A) (b : Bool) (x y : F)
+    → (if is_none o then Some x else if b then Some y else None) ≡ None → IsThere o × (b ≡ false)
+found_known None b x y e = absurd (cc)
+found_known (Some a) b x y e = ((a, refl), some_to b y e)
+
+pub found_none : {A F : Type 0} (o : Option A) (b : Bool) (x y : F) → IsThere o → b ≡ false
+    → (if is_none o then Some x else if b then Some y else None) ≡ None
+found_none None b x y there e = absurd (let wrong = there.1 in cc)
+found_none (Some a) b x y there e = some_from b y e
 
 -- ---- each element
 

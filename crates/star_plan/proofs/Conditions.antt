@@ -1,18 +1,16 @@
 -- A query is well named exactly where it has no fault.
 use Rattle.std.proofs.Common.{◌≡◌, ◌∙◌, sym, ap, subst, ℕ, suc, ◌+◌, ◌≤◌, Bool, true, false, ◌||◌, if◌then◌else◌, List, [], ◌∷◌, ◌++◌, Option, Some, None, length, append-nil, arith, refl}
-use Rattle.std.specs.{List.AllByRecursion, List.IsDistinct, Option.option_or}
+use Rattle.std.specs.{List.AllByRecursion, List.IsDistinct, Option.is_none, Option.option_or}
 use Rattle.std.proofs.lemmas.Bool.{or_from, or_parts}
 use Rattle.star_common.proofs.Firsts.{or_none}
-use Rattle.star_schema.specs.declared.{table.TableId.TableId, table.TableId.TheVariants.Lineorder, column.ColumnId.ColumnId}
+use Rattle.star_schema.specs.{declared.table.TableId.TheVariants.Lineorder, declared.column.ColumnId.ColumnId, Schema.table_name, Schema.table_of}
 use Rattle.star_common.specs.First.{first_answer}
-use Rattle.star_schema.specs.Schema.{is_table, table_name, table_of}
 use Rattle.star_query.specs.Tree.{Item, Name, Tree, aggregate, plain}
-use Rattle.star_plan.specs.declared.fault.PlanFault.{PlanFault}
+use Rattle.star_plan.specs.{declared.fault.PlanFault.PlanFault, Joins.where_pairs}
 use Rattle.star_plan.specs.{First.first_after, First.first_beside, Names.has_name, Names.table_at, Uses.uses_of, Naming.name_of_aggregate, Naming.aggregate_names, Naming.has_text, Naming.names_from, Private.Stages.order_fault}
-use Rattle.star_plan.specs.Joins.{Pair, is_joined, where_pairs}
-use Rattle.star_plan.specs.Faults.{aggregates_fault, fact_fault, group_fault, item_fault, item_fault_after, key_fault, use_kind_fault, missing_fault, of_column, of_missing, of_table, pair_fault, plan_fault, scope_fault, from_table_fault}
+use Rattle.star_plan.specs.Faults.{aggregates_fault, fact_fault, group_fault, item_fault, item_fault_after, key_fault, use_kind_fault, missing_fault, pair_fault, plan_fault, scope_fault, from_table_fault}
 use Rattle.star_plan.specs.WellNamed.{IsThere, IsWellNamed, is_grouped, is_in_from, is_reached, same_name, same_text}
-use Rattle.star_plan.proofs.Apart.{AreApart, IsFresh, apart_first, apart_from, apart_more, apart_rest, apart_to, each, each_after, each_two, none_or, some_from, some_to}
+use Rattle.star_plan.proofs.Apart.{AreApart, IsFresh, apart_first, apart_from, apart_more, apart_rest, apart_to, each, each_after, each_two, found_known, found_none, none_or, some_from, some_to}
 use Rattle.star_plan.proofs.{Known.named_of, Known.scope_known, KeptJoins.are_apart, KeptJoins.pair_none, KeptJoins.same_join, Whole.parts}
 
 none_from : {A : Type 0} (b : Bool) (x : A) → b ≡ true → (if b then None else Some x) ≡ None
@@ -27,39 +25,24 @@ none_each f (x ∷ xs) all = none_or (f x) (first_answer f xs) all.0 (none_each 
 
 -- ---- FROM
 
-of_table_known : (at : ℕ) (b : Bool) (o : Option TableId) → of_table at b o ≡ None
-    → IsThere o × (b ≡ false)
-of_table_known at b None e = absurd (cc)
-of_table_known at b (Some t) e = ((t, refl), some_to b _ e)
-
 table_known : (before : List Name) (n : Name) → from_table_fault before n ≡ None
     → IsThere (table_at n) × IsFresh same_name before n
 unfolding has_name
-table_known before n e = of_table_known n.place (has_name before n.text) (table_at n) e
-
-of_table_none : (at : ℕ) (b : Bool) (o : Option TableId) → b ≡ false → IsThere o
-    → of_table at b o ≡ None
-of_table_none at b None e there = absurd (let wrong = there.1 in cc)
-of_table_none at b (Some t) e there = some_from b _ e
+table_known before n e = found_known (table_at n) (has_name before n.text) _ _ e
 
 table_none : (before : List Name) (n : Name) → IsFresh same_name before n → IsThere (table_at n)
     → from_table_fault before n ≡ None
 unfolding has_name
-table_none before n fresh there =
-    of_table_none n.place (has_name before n.text) (table_at n) fresh there
+table_none before n fresh there = found_none (table_at n) (has_name before n.text) _ _ there fresh
 
 -- ---- the names of columns and the joins
 
-of_column_none : (tables : List Name) (at : ℕ) (o : Option ColumnId) → IsThere o
-    → is_in_from tables o ≡ true → of_column tables at o ≡ None
-of_column_none tables at None there e = absurd (let wrong = there.1 in cc)
-of_column_none tables at (Some c) there e =
+of_column_none : {F : Type 0} (tables : List Name) (o : Option ColumnId) (x y : F) → IsThere o
+    → is_in_from tables o ≡ true
+    → (if is_none o then Some x else if is_in_from tables o then None else Some y) ≡ None
+of_column_none tables None x y there e = absurd (let wrong = there.1 in cc)
+of_column_none tables (Some c) x y there e =
     none_from (has_name tables (table_name (table_of c))) _ e
-
-of_missing_none : (ps : List Pair) (at : ℕ) (o : Option TableId) → is_reached ps o ≡ true
-    → of_missing ps at o ≡ None
-of_missing_none ps at None e = refl
-of_missing_none ps at (Some t) e = none_from (is_table t Lineorder || is_joined ps t) _ e
 
 -- ---- GROUP BY
 
@@ -203,9 +186,9 @@ well_named t none =
           (λ before n e. (table_known before n e).1) [] t.tables p.named.tables).apart;
       fact = named_of (has_name t.tables (table_name Lineorder)) _ p.named.fact;
       columns = each (λ u. scope_fault t.tables u ≡ None) (λ u. IsThere u.column)
-          (λ u e. let c = scope_known t.tables u.at u.column e in (c.0, c.1)) uses p.named.scoped;
+          (λ u e. let c = scope_known t.tables u.column _ _ e in (c.0, c.1)) uses p.named.scoped;
       scope = each (λ u. scope_fault t.tables u ≡ None) (λ u. is_in_from t.tables u.column ≡ true)
-          (λ u e. let c = scope_known t.tables u.at u.column e in
+          (λ u e. let c = scope_known t.tables u.column _ _ e in
           ap (is_in_from t.tables) c.1 ∙ c.2) uses p.named.scoped;
       kinds = each (λ u. use_kind_fault u ≡ None) (λ u. u.fits ≡ true) (λ u e. named_of u.fits _ e)
           uses p.named.fit;
@@ -238,14 +221,14 @@ no_fault t w =
     none_each (scope_fault tables) uses
     (each_two (λ u. IsThere u.column) (λ u. is_in_from tables u.column ≡ true)
     (λ u. scope_fault tables u ≡ None)
-    (λ u there e. of_column_none tables u.at u.column there e) uses w.columns w.scope) in
+    (λ u there e. of_column_none tables u.column _ _ there e) uses w.columns w.scope) in
     let pairs : first_beside pair_fault ps ≡ None =
     apart_from pair_fault same_join (λ p. IsThere p.join) pair_none [] ps w.joins
     (apart_first same_join ps (are_apart ps w.joins w.joined_once)) in
     let missing : first_answer (missing_fault ps) tables ≡ None =
     none_each (missing_fault ps) tables
     (each (λ n. is_reached ps (table_at n) ≡ true) (λ n. missing_fault ps n ≡ None)
-    (λ n e. of_missing_none ps n.place (table_at n) e) tables w.joined) in
+    (λ n e. none_from (is_reached ps (table_at n)) _ e) tables w.joined) in
     let kinds : first_answer use_kind_fault uses ≡ None =
     none_each use_kind_fault uses
     (each (λ u. u.fits ≡ true) (λ u. use_kind_fault u ≡ None) (λ u e. none_from u.fits _ e) uses

@@ -8,41 +8,21 @@ use Rattle.star_schema.specs.declared.group.SortKey as sorted
 use Rattle.star_query.specs.Tree as tree
 use Rattle.star_query.specs.Tree.{Item, Name, SortKey, Expression, column, constant, add, sub, mul, or, and, not, test, compare, between, Measure, count, fold}
 use Rattle.star_query.specs.Limits as asked
-use Rattle.star_plan.specs.{Meaning.RowCondition, Names.column_at, Naming.names_from, Naming.aggregate_column, Naming.key_column, Naming.resolved_key, Sound.is_group_column}
-use Rattle.star_plan.specs.Resolved.{conjuncts_of, item_column, items_from, resolved_measures, option_all, option_both, resolved_condition, resolved_expression, resolved_measure, resolved_test, where_conjuncts}
+use Rattle.star_plan.specs.{Meaning.RowCondition, Naming.names_from, Naming.aggregate_column, Naming.key_column, Naming.resolved_key, Sound.is_group_column, Private.Stages.resolved_measures}
+use Rattle.star_plan.specs.Resolved.{conjuncts_of, items_from, option_all, resolved_condition, resolved_expression, resolved_measure, where_conjuncts}
 use Rattle.star_query.specs.Limits.{comparisons_of, measure_operands, operands_of}
-use Rattle.star_plan.proofs.Options.{both_gave, first_or_second, mapped_gave}
+use Rattle.star_plan.proofs.{Options.both_gave, Options.first_or_second, Options.mapped_gave, Related.condition_related, Related.expression_related}
 
 abbrev sorted_by : GroupColumn → SortKey → sorted.SortKey
 sorted_by c k = record { column = c; direction = k.direction }
 
 -- ---- expressions and conditions
 
--- a whole of two parts has what both have
-parts_counted : {S T : Type 0} (many : T → ℕ) (asks : S → ℕ) (f : S → Option T) (make : T → T → T)
-    → ((y z : T) → many (make y z) ≡ many y + many z) → (a b : S) (x : T)
-    → option_both make (f a) (f b) ≡ Some x → ((y : T) → f a ≡ Some y → many y ≡ asks a)
-    → ((y : T) → f b ≡ Some y → many y ≡ asks b) → many x ≡ asks a + asks b
-parts_counted many asks f make both a b x e first second =
-    let g = both_gave make (f a) (f b) x e in
-    ap many (sym g.made)
-    ∙ omega (arith, both g.left g.right, first g.left g.first, second g.right g.second)
-
 expression_operands : (e : Expression Name) (x : Expression ColumnId)
     → resolved_expression e ≡ Some x → operands_of x ≡ asked.operands_of e
-expression_operands (tree.column n) x e = let g = mapped_gave column (column_at n) x e in
-    ap operands_of (sym g.2)
-expression_operands (tree.constant z) x e = let same : constant z ≡ x = cc in
-    ap operands_of (sym same)
-expression_operands (tree.add a b) x e =
-    parts_counted operands_of asked.operands_of resolved_expression add (λ y z. refl) a b x e
-    (expression_operands a) (expression_operands b)
-expression_operands (tree.sub a b) x e =
-    parts_counted operands_of asked.operands_of resolved_expression sub (λ y z. refl) a b x e
-    (expression_operands a) (expression_operands b)
-expression_operands (tree.mul a b) x e =
-    parts_counted operands_of asked.operands_of resolved_expression mul (λ y z. refl) a b x e
-    (expression_operands a) (expression_operands b)
+expression_operands e x h =
+    sym (expression_related (λ a b. a ≡ b) (λ n. 1) (λ c. 1) (λ z. 1) (λ op. ◌+◌) (λ n c h. refl)
+    (λ k. refl) (λ op a b c d l r. cc) e x h)
 
 resolved_operands : (m : tree.Measure tree.Name) (x : Measure ColumnId)
     → resolved_measure m ≡ Some x → measure_operands x ≡ asked.measure_operands m
@@ -53,22 +33,9 @@ resolved_operands (tree.fold f y) x e =
 
 condition_comparisons : (q : tree.Condition tree.Test) (x : RowCondition)
     → resolved_condition q ≡ Some x → comparisons_of x ≡ asked.comparisons_of q
-condition_comparisons (tree.or a b) x e =
-    parts_counted comparisons_of asked.comparisons_of resolved_condition or (λ y z. refl) a b x e
-    (condition_comparisons a) (condition_comparisons b)
-condition_comparisons (tree.and a b) x e =
-    parts_counted comparisons_of asked.comparisons_of resolved_condition and (λ y z. refl) a b x e
-    (condition_comparisons a) (condition_comparisons b)
-condition_comparisons (tree.not a) x e =
-    let g = mapped_gave not (resolved_condition a) x e in
-    ap comparisons_of (sym g.2) ∙ omega (arith, condition_comparisons a g.0 g.1)
-condition_comparisons (tree.test (tree.pair m n)) x e = absurd (cc)
-condition_comparisons (tree.test (tree.comparison (tree.compare n s l))) x e =
-    let t = mapped_gave test (resolved_test (tree.comparison (tree.compare n s l))) x e in
-    ap comparisons_of (sym t.2)
-condition_comparisons (tree.test (tree.comparison (tree.between n from upto))) x e =
-    let t = mapped_gave test (resolved_test (tree.comparison (tree.between n from upto))) x e in
-    ap comparisons_of (sym t.2)
+condition_comparisons q x h =
+    sym (condition_related (λ a b. a ≡ b) (λ t. 1) (λ c. 1) (λ n. n + 1) ◌+◌ ◌+◌ (λ t c h. refl)
+    (λ a b h. ap (λ n. n + 1) h) (λ a b c d l r. cc) (λ a b c d l r. cc) q x h)
 
 lone_comparisons : (q : tree.Condition tree.Test) (xs : List RowCondition)
     → option_map (λ x. x ∷ []) (resolved_condition q) ≡ Some xs
@@ -163,11 +130,11 @@ pub items_counted : (groups : List Name) (before : ℕ) (is' : List Item) (cs : 
     → items_from groups before is' ≡ Some cs → length cs ≡ length is'
 items_counted groups before [] cs e = let none : [] ≡ cs = cc in ap length (sym none)
 items_counted groups before (tree.plain n ∷ is') cs e =
-    let g = both_gave (λ c cs'. c ∷ cs') (item_column groups before (tree.plain n))
-    (items_from groups (before + 0) is') cs e in
-    ap length (sym g.made) ∙ omega (arith, items_counted groups (before + 0) is' g.right g.second)
+    let g = both_gave (λ c cs'. c ∷ cs') (key_column groups n.text) (items_from groups before is')
+    cs e in
+    ap length (sym g.made) ∙ omega (arith, items_counted groups before is' g.right g.second)
 items_counted groups before (tree.aggregate a ∷ is') cs e =
-    let g = both_gave (λ c cs'. c ∷ cs') (item_column groups before (tree.aggregate a))
+    let g = both_gave (λ c cs'. c ∷ cs') (Some (group.Aggregate before))
     (items_from groups (before + 1) is') cs e in
     ap length (sym g.made) ∙ omega (arith, items_counted groups (before + 1) is' g.right g.second)
 
@@ -200,14 +167,14 @@ pub items_there : (groups : List Name) (before most : ℕ) (is' : List Item) (cs
 items_there groups before most [] cs few e = let none : [] ≡ cs = cc in
     subst (λ ds. list_all (is_group_column (length groups) most) ds ≡ true) none refl
 items_there groups before most (tree.plain n ∷ is') cs few e =
-    let g = both_gave (λ c cs'. c ∷ cs') (item_column groups before (tree.plain n))
-    (items_from groups (before + 0) is') cs e in
+    let g = both_gave (λ c cs'. c ∷ cs') (key_column groups n.text) (items_from groups before is')
+    cs e in
     subst (λ ds. list_all (is_group_column (length groups) most) ds ≡ true) g.made
     (and_from _ _ (key_there groups n.text g.left most g.first)
-    (items_there groups (before + 0) most is' g.right
+    (items_there groups before most is' g.right
     (omega (arith, few, sum_by-cons asked.aggregates_in (tree.plain n) is')) g.second))
 items_there groups before most (tree.aggregate a ∷ is') cs few e =
-    let g = both_gave (λ c cs'. c ∷ cs') (item_column groups before (tree.aggregate a))
+    let g = both_gave (λ c cs'. c ∷ cs') (Some (group.Aggregate before))
     (items_from groups (before + 1) is') cs e in
     let here : group.Aggregate before ≡ g.left = (let first = g.first in cc) in
     let below : before < most =

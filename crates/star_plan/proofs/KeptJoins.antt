@@ -1,17 +1,14 @@
 -- The joins of a well named query: each by a foreign key, and each of another dimension.
 use Rattle.std.proofs.Common.{◌≡◌, ◌∙◌, sym, ap, subst, ℕ, ◌+◌, ◌≤◌, Bool, true, false, not as negated, if◌then◌else◌, inl, inr, List, [], ◌∷◌, ◌++◌, Option, Some, None, length, arith, refl}
-use Rattle.std.specs.List.{AllByRecursion, IsDistinct, list_all, list_any}
+use Rattle.std.specs.{List.AllByRecursion, List.IsDistinct, List.list_all, List.list_any, Option.option_map_or}
 use Rattle.std.proofs.lemmas.Bool.{and_from, and_parts, not-true, not_from_false}
-use Rattle.star_schema.specs.declared.{table.TableId.TableId, column.ColumnId.ColumnId}
+use Rattle.star_schema.specs.{declared.table.TableId.TableId, declared.column.ColumnId.ColumnId, Schema.is_table, Schema.key_of, Schema.references, Schema.table_of}
 use Rattle.star_schema.specs.declared.table.TableId.TheVariants.{Date, Customer, Supplier, Part, Lineorder}
-use Rattle.star_schema.specs.Schema.{is_table, key_of, references, table_of}
 use Rattle.star_schema.proofs.Same.{table_same}
 use Rattle.star_query.specs.Tree.{Condition, Test, and, comparison, or, not, pair, test}
-use Rattle.star_plan.specs.declared.tree.Join.{Join}
-use Rattle.star_plan.specs.{Names.column_at, Faults.of_pair, Faults.pair_fault, Sound.are_distinct, WellNamed.IsThere}
+use Rattle.star_plan.specs.{declared.tree.Join.Join, Names.column_at, Faults.pair_fault, Sound.are_distinct, WellNamed.IsThere}
 use Rattle.star_plan.specs.Joins.{Pair, is_foreign, is_joined, is_lone_key, join_by, join_of, joins, joins_of, pairs_of, refers, where_pairs}
-use Rattle.star_plan.proofs.Apart.{IsFresh, some_from, some_to}
-use Rattle.star_plan.proofs.Options.{first_or_second}
+use Rattle.star_plan.proofs.{Apart.IsFresh, Apart.found_known, Apart.found_none, Options.first_or_second}
 
 -- ---- each by a foreign key
 
@@ -80,25 +77,22 @@ of_one o (Some j) = joins (table_of j.key) o
 abbrev pub same_join : Pair → Pair → Bool
 same_join p q = of_one p.join q.join
 
-of_pair_known : (before : List Pair) (at : ℕ) (o : Option Join) → of_pair before at o ≡ None
-    → IsThere o × (list_any (λ p. of_one p.join o) before ≡ false)
-of_pair_known before at None e = absurd (cc)
-of_pair_known before at (Some j) e =
-    ((j, refl), some_to (is_joined before (table_of j.key)) _ e)
+joined_before : (before : List Pair) (o : Option Join)
+    → option_map_or (λ j. is_joined before (table_of j.key)) o false
+    ≡ list_any (λ p. of_one p.join o) before
+joined_before before (Some j) = refl
+joined_before [] None = refl
+joined_before (p ∷ ps) None = joined_before ps None
 
 pub pair_known : (before : List Pair) (p : Pair) → pair_fault before p ≡ None
     → IsThere p.join × IsFresh same_join before p
-pair_known before p e = of_pair_known before p.at p.join e
-
-of_pair_none : (before : List Pair) (at : ℕ) (o : Option Join)
-    → list_any (λ p. of_one p.join o) before ≡ false → IsThere o → of_pair before at o ≡ None
-of_pair_none before at None fresh there = absurd (let wrong = there.1 in cc)
-of_pair_none before at (Some j) fresh there =
-    some_from (is_joined before (table_of j.key)) _ fresh
+pair_known before p e = let both = found_known p.join _ _ _ e in
+    (both.0, sym (joined_before before p.join) ∙ both.1)
 
 pub pair_none : (before : List Pair) (p : Pair) → IsFresh same_join before p → IsThere p.join
     → pair_fault before p ≡ None
-pair_none before p fresh there = of_pair_none before p.at p.join fresh there
+pair_none before p fresh there =
+    found_none p.join _ _ _ there (joined_before before p.join ∙ fresh)
 
 -- each of them a join
 abbrev AreThere : List Pair → Type 0

@@ -3,46 +3,28 @@
 use Rattle.std.proofs.Common.{◌≡◌, ◌∙◌, sym, ap, ℕ, ◌+◌, ◌<◌, ◌≤◌, ◌^◌, Bool, true, ◌&&◌, List, [], ◌∷◌, ◌++◌, Option, Some, None, length, option_map, arith, refl, length-append}
 use Rattle.std.specs.{Prelude.decimal, List.list_all, Str.Parse.AllDigits}
 use Rattle.std.proofs.lemmas.{Fmt.decimal_is_IsNumeral, Fmt.length-decimal-le, Str.Parse.tells_digits, Bool.and_from, Bool.and_parts, Bool.le-leb, Bool.or_right, List.Folds.list_all-append}
-use Rattle.star_schema.specs.declared.column.ColumnId.{ColumnId}
+use Rattle.star_schema.specs.{declared.column.ColumnId.ColumnId, Tables.Value}
 use Rattle.star_query.specs.declared.token.Fold.TheVariants as fold
 use Rattle.star_query.specs.Tree as tree
-use Rattle.star_query.specs.Tree.{Aggregate, Item, Name, Expression, column, constant, add, sub, mul, or, and, not, test, compare, between, Measure, count as counted, fold as folds}
-use Rattle.star_query.specs.{Tokens.begins_with_letter, Tokens.is_letter, Tokens.is_word_byte, Spelled.is_name}
+use Rattle.star_query.specs.Tree.{Aggregate, Comparison, Item, Name, Expression, column, constant, add, sub, mul, or, and, not, test, compare, between, Measure, count as counted, fold as folds}
+use Rattle.star_query.specs.{Tokens.begins_with_letter, Tokens.is_letter, Tokens.is_word_byte, Spelled.is_name, Spelled.has_few_digits, Spelled.comparison_is_spelled}
 use Rattle.star_query.specs.Spelled as asked
-use Rattle.star_plan.specs.{Meaning.RowCondition, Names.column_at, Naming.name_of_aggregate, Naming.default_name, Naming.function_word, Naming.names_from, Spelled.condition_is_spelled, Spelled.expression_is_spelled, Spelled.measure_is_spelled, Spelled.value_is_spelled}
-use Rattle.star_plan.specs.Resolved.{conjuncts_of, resolved_measures, option_both, resolved_condition, resolved_expression, resolved_measure, resolved_test, where_conjuncts}
-use Rattle.star_plan.proofs.Options.{both_gave, mapped_gave}
+use Rattle.star_plan.specs.{Meaning.RowCondition, Names.column_at, Naming.name_of_aggregate, Naming.default_name, Naming.function_word, Naming.names_from, Spelled.condition_is_spelled, Spelled.expression_is_spelled, Spelled.measure_is_spelled, Spelled.value_is_spelled, Private.Stages.resolved_measures}
+use Rattle.star_plan.specs.Resolved.{conjuncts_of, resolved_condition, resolved_expression, resolved_measure, resolved_test, where_conjuncts}
+use Rattle.star_plan.proofs.{Options.both_gave, Options.mapped_gave, Related.condition_related, Related.expression_related}
 
 -- ---- numbers and texts
 
--- a whole of two parts
-both_spelled : {S T : Type 0} (asks : S → Bool) (passes : T → Bool) (f : S → Option T)
-    (make : T → T → T) → ((y z : T) → passes (make y z) ≡ (passes y && passes z))
-    → (a b : S) (x : T) → option_both make (f a) (f b) ≡ Some x → (asks a && asks b) ≡ true
-    → ((y : T) → f a ≡ Some y → asks a ≡ true → passes y ≡ true)
-    → ((z : T) → f b ≡ Some z → asks b ≡ true → passes z ≡ true) → passes x ≡ true
-both_spelled asks passes f make splits a b x e good left right =
-    let g = both_gave make (f a) (f b) x e in
-    let parts = and_parts (asks a) (asks b) good in
-    ap passes (sym g.made) ∙ splits g.left g.right
-    ∙ and_from _ _ (left g.left g.first parts.0) (right g.right g.second parts.1)
+both_true : (a b c d : Bool) → (a ≡ true → b ≡ true) → (c ≡ true → d ≡ true)
+    → (a && c) ≡ true → (b && d) ≡ true
+both_true a b c d l r e = let p = and_parts a c e in and_from b d (l p.0) (r p.1)
 
 expression_spelled : (e : Expression Name) (x : Expression ColumnId)
     → resolved_expression e ≡ Some x → asked.expression_is_spelled e ≡ true
     → expression_is_spelled x ≡ true
-expression_spelled (tree.column n) x e good = let g = mapped_gave column (column_at n) x e in
-    ap expression_is_spelled (sym g.2)
-expression_spelled (tree.constant z) x e good = let same : constant z ≡ x = cc in
-    ap expression_is_spelled (sym same) ∙ good
-expression_spelled (tree.add a b) x e good =
-    both_spelled asked.expression_is_spelled expression_is_spelled resolved_expression add
-    (λ y z. refl) a b x e good (expression_spelled a) (expression_spelled b)
-expression_spelled (tree.sub a b) x e good =
-    both_spelled asked.expression_is_spelled expression_is_spelled resolved_expression sub
-    (λ y z. refl) a b x e good (expression_spelled a) (expression_spelled b)
-expression_spelled (tree.mul a b) x e good =
-    both_spelled asked.expression_is_spelled expression_is_spelled resolved_expression mul
-    (λ y z. refl) a b x e good (expression_spelled a) (expression_spelled b)
+expression_spelled =
+    expression_related (λ a b. a ≡ true → b ≡ true) (λ n. is_name n.text) (λ c. true) has_few_digits
+    (λ op. ◌&&◌) (λ n c h e. refl) (λ k e. e) (λ op. both_true)
 
 resolved_spelled : (m : tree.Measure tree.Name) (x : Measure ColumnId) → resolved_measure m ≡ Some x
     → asked.measure_is_spelled m ≡ true → measure_is_spelled x ≡ true
@@ -71,34 +53,26 @@ measures_spelled (tree.aggregate a ∷ is') ms e good =
     ∙ and_from _ _ (resolved_spelled a.measure g.left g.first here.0)
     (measures_spelled is' g.right g.second parts.1)
 
+test_spelled : (t : tree.Test) (c : Comparison ColumnId Value) → resolved_test t ≡ Some c
+    → asked.test_is_spelled t ≡ true → comparison_is_spelled (λ c. true) value_is_spelled c ≡ true
+test_spelled (tree.pair m n) c e good = absurd (cc)
+test_spelled (tree.comparison (tree.compare n s l)) c e good =
+    let g = mapped_gave (λ d. compare d s l) (column_at n) c e in
+    ap (comparison_is_spelled (λ c. true) value_is_spelled) (sym g.2)
+    ∙ (and_parts (is_name n.text) (asked.value_is_spelled l) good).1
+test_spelled (tree.comparison (tree.between n from upto)) c e good =
+    let g = mapped_gave (λ d. between d from upto) (column_at n) c e in
+    ap (comparison_is_spelled (λ c. true) value_is_spelled) (sym g.2)
+    ∙ (and_parts (is_name n.text) (asked.value_is_spelled from && asked.value_is_spelled upto)
+    good).1
+
 condition_spelled : (q : tree.Condition tree.Test) (x : RowCondition)
     → resolved_condition q ≡ Some x → asked.condition_is_spelled q ≡ true
     → condition_is_spelled x ≡ true
-condition_spelled (tree.or a b) x e good =
-    both_spelled asked.condition_is_spelled condition_is_spelled resolved_condition or (λ y z. refl)
-    a b x e good (condition_spelled a) (condition_spelled b)
-condition_spelled (tree.and a b) x e good =
-    both_spelled asked.condition_is_spelled condition_is_spelled resolved_condition and
-    (λ y z. refl) a b x e good (condition_spelled a) (condition_spelled b)
-condition_spelled (tree.not a) x e good =
-    let g = mapped_gave not (resolved_condition a) x e in
-    ap condition_is_spelled (sym g.2) ∙ condition_spelled a g.0 g.1 good
-condition_spelled (tree.test (tree.pair m n)) x e good = absurd (cc)
-condition_spelled (tree.test (tree.comparison (tree.compare n s l))) x e good =
-    let t = mapped_gave test (resolved_test (tree.comparison (tree.compare n s l))) x e in
-    let g = mapped_gave (λ c. compare c s l) (column_at n) t.0 t.1 in
-    let parts = and_parts (is_name n.text) (asked.value_is_spelled l) good in
-    ap condition_is_spelled (sym t.2) ∙ ap (λ y. condition_is_spelled (test y)) (sym g.2)
-    ∙ parts.1
-condition_spelled (tree.test (tree.comparison (tree.between n from upto))) x e good =
-    let t = mapped_gave test (resolved_test (tree.comparison (tree.between n from upto))) x e in
-    let g = mapped_gave (λ c. between c from upto) (column_at n) t.0
-    t.1 in
-    let parts = and_parts (is_name n.text)
-    (asked.value_is_spelled from && asked.value_is_spelled upto) good in
-    let ends = and_parts (asked.value_is_spelled from) (asked.value_is_spelled upto) parts.1 in
-    ap condition_is_spelled (sym t.2) ∙ ap (λ y. condition_is_spelled (test y)) (sym g.2)
-    ∙ and_from _ _ ends.0 ends.1
+condition_spelled =
+    condition_related (λ a b. a ≡ true → b ≡ true) asked.test_is_spelled
+    (comparison_is_spelled (λ c. true) value_is_spelled) (λ b. b) ◌&&◌ ◌&&◌ test_spelled
+    (λ a b h. h) both_true both_true
 
 lone_spelled : (q : tree.Condition tree.Test) (xs : List RowCondition)
     → option_map (λ x. x ∷ []) (resolved_condition q) ≡ Some xs
@@ -113,9 +87,12 @@ conjuncts_spelled : (q : tree.Condition tree.Test) (xs : List RowCondition)
     → conjuncts_of q ≡ Some xs → asked.condition_is_spelled q ≡ true
     → list_all condition_is_spelled xs ≡ true
 conjuncts_spelled (tree.and a b) xs e good =
-    both_spelled asked.condition_is_spelled (list_all condition_is_spelled) conjuncts_of
-    (λ ys zs. ys ++ zs) (list_all-append condition_is_spelled) a b xs e good
-    (conjuncts_spelled a) (conjuncts_spelled b)
+    let g = both_gave (λ ys zs. ys ++ zs) (conjuncts_of a) (conjuncts_of b) xs e in
+    let parts = and_parts (asked.condition_is_spelled a) (asked.condition_is_spelled b) good in
+    ap (list_all condition_is_spelled) (sym g.made)
+    ∙ list_all-append condition_is_spelled g.left g.right
+    ∙ and_from _ _ (conjuncts_spelled a g.left g.first parts.0)
+    (conjuncts_spelled b g.right g.second parts.1)
 conjuncts_spelled (tree.test (tree.pair m n)) xs e good = let none : [] ≡ xs = cc in
     ap (list_all condition_is_spelled) (sym none)
 conjuncts_spelled (tree.or a b) xs e good = lone_spelled (tree.or a b) xs e good

@@ -1,7 +1,7 @@
 -- The names of a well named query stand for something that is in scope and of the kind that is
 -- asked of it.
 use Rattle.std.proofs.Common.{◌≡◌, ◌∙◌, sym, ap, ◌+◌, ℕ, Bool, true, false, ◌&&◌, ◌||◌, if◌then◌else◌, List, [], ◌∷◌, ◌++◌, Option, Some, None, nat_eq, option_map, refl}
-use Rattle.std.specs.{Cmp.Lexicographic.pointwise, Cmp.Lexicographic.same_text, List.AllByRecursion, List.list_all, List.list_any}
+use Rattle.std.specs.{Cmp.Lexicographic.pointwise, Cmp.Lexicographic.same_text, List.AllByRecursion, List.list_all, List.list_any, Option.is_none}
 use Rattle.std.proofs.lemmas.{Bool.and_from, List.Folds.list_all-append}
 use Rattle.star_common.proofs.Firsts.{or_none}
 use Rattle.star_schema.specs.declared.{table.TableId.TableId, table.TableId.TheVariants.Lineorder, column.ColumnId.ColumnId, group.GroupColumn.GroupColumn}
@@ -13,15 +13,12 @@ use Rattle.star_common.specs.First.{first_answer}
 use Rattle.star_schema.proofs.NamesApart.{table_by_name}
 use Rattle.star_query.specs.Tree as tree
 use Rattle.star_query.specs.Tree.{Item, Name, SortKey, Expression, column, constant, add, sub, mul, or, and, not, test, compare, between, Measure, count, fold}
-use Rattle.star_plan.specs.declared.tree.Join.{Join}
-use Rattle.star_plan.specs.{Uses.Use, Uses.expression_uses, Uses.measure_uses, Uses.where_uses, Private.Stages.condition_uses, Private.Stages.groups_uses, Private.Stages.items_uses, Naming.key_column, Naming.resolved_key}
-use Rattle.star_plan.specs.Names.{column_at, has_name, is_of, table_at, table_called}
-use Rattle.star_plan.specs.WellNamed.{is_grouped, is_reached}
-use Rattle.star_plan.proofs.Apart.{each}
-use Rattle.star_plan.specs.Joins.{Pair, is_joined, joins_of, pairs_of, where_pairs}
-use Rattle.star_plan.specs.Faults.{item_fault, key_fault, use_kind_fault, missing_fault, scope_fault, of_column, of_missing}
-use Rattle.star_plan.specs.Resolved.{conjuncts_of, where_conjuncts, items_from, resolved_measures, option_all, option_both, resolved_condition, resolved_expression, resolved_measure}
-use Rattle.star_plan.proofs.Sought.{is_there, key_sought, order_sought}
+use Rattle.star_plan.specs.{declared.tree.Join.Join, Names.column_at, Names.has_name, Names.is_of, Names.table_at, Names.table_called}
+use Rattle.star_plan.specs.{Uses.Use, Uses.expression_uses, Uses.measure_uses, Uses.where_uses, Private.Stages.condition_uses, Private.Stages.groups_uses, Private.Stages.items_uses, Private.Stages.resolved_measures, Naming.key_column, Naming.resolved_key}
+use Rattle.star_plan.specs.{WellNamed.is_grouped, WellNamed.is_in_from, WellNamed.is_reached, Joins.Pair, Joins.is_joined, Joins.joins_of, Joins.pairs_of, Joins.where_pairs}
+use Rattle.star_plan.proofs.{Apart.each, Sought.is_there, Sought.key_sought, Sought.order_sought}
+use Rattle.star_plan.specs.Faults.{item_fault, key_fault, use_kind_fault, missing_fault, scope_fault}
+use Rattle.star_plan.specs.Resolved.{conjuncts_of, where_conjuncts, items_from, option_all, option_both, resolved_condition, resolved_expression, resolved_measure}
 use Rattle.star_plan.specs.Sound.{condition_is_sound, expression_is_sound, in_scope, joins_table, measure_is_sound}
 
 -- the table by its own name
@@ -58,11 +55,12 @@ named_of false x e = absurd (cc)
 abbrev IsNamed : List Name → ColumnId → Type 0
 IsNamed tables c = has_name tables (table_name (table_of c)) ≡ true
 
-pub scope_known : (tables : List Name) (at : ℕ) (o : Option ColumnId) → of_column tables at o ≡ None
+pub scope_known : {F : Type 0} (tables : List Name) (o : Option ColumnId) (x y : F)
+    → (if is_none o then Some x else if is_in_from tables o then None else Some y) ≡ None
     → (c : ColumnId) × (o ≡ Some c) × IsNamed tables c
-scope_known tables at None e = absurd (cc)
-scope_known tables at (Some c) e =
-    (c, refl, named_of (has_name tables (table_name (table_of c))) _ e)
+scope_known tables None x y e = absurd (cc)
+scope_known tables (Some c) x y e =
+    (c, refl, named_of (has_name tables (table_name (table_of c))) y e)
 
 -- ---- a whole of parts that are known
 
@@ -100,7 +98,7 @@ module _ (tables : List Name) (js : List Join) (reach : Reaches tables js) where
   expression_known : (e : Expression Name) → AreGood tables (expression_uses e)
       → Known (expression_is_sound js) (resolved_expression e)
   expression_known (tree.column n) good =
-      let c = scope_known tables n.place (column_at n) good.0.0 in
+      let c = scope_known tables (column_at n) _ _ good.0.0 in
       let k : is_of kind.Number (column_at n) ≡ true = named_of _ _ good.0.1 in
       (column c.0, ap (option_map column) c.1, and_from _ _ (reach c.0 c.2) (rw c.1 at k))
   expression_known (tree.constant z) good = (constant z, refl, refl)
@@ -151,14 +149,14 @@ module _ (tables : List Name) (js : List Join) (reach : Reaches tables js) where
       let x = condition_known a pairs good in (not x.0, ap (option_map not) x.1, x.2)
   condition_known (tree.test (tree.pair m n)) pairs good = absurd (let j = pairs.0.1 in cc)
   condition_known (tree.test (tree.comparison (tree.compare n s l))) pairs good =
-      let c = scope_known tables n.place (column_at n) good.0.0 in
+      let c = scope_known tables (column_at n) _ _ good.0.0 in
       let k : is_of (kind_of_value l) (column_at n) ≡ true = named_of _ _ good.0.1 in (
         test (compare c.0 s l),
         ap (λ o. option_map test (option_map (λ d. compare d s l) o)) c.1,
         and_from _ _ (reach c.0 c.2) (rw c.1 at k),
       )
   condition_known (tree.test (tree.comparison (tree.between n from upto))) pairs good =
-      let c = scope_known tables n.place (column_at n) good.0.0 in
+      let c = scope_known tables (column_at n) _ _ good.0.0 in
       let k : (is_of (kind_of_value from) (column_at n)
       && is_of (kind_of_value upto) (column_at n)) ≡ true = named_of _ _ good.0.1 in (
         test (between c.0 from upto),
@@ -202,7 +200,7 @@ pub groups_known : (tables : List Name) (js : List Join) → Reaches tables js �
     × (list_all (λ c. in_scope js (table_of c)) cs ≡ true)
 groups_known tables js reach [] scoped = ([], refl, refl)
 groups_known tables js reach (n ∷ ns) scoped =
-    let c = scope_known tables n.place (column_at n) scoped.0 in
+    let c = scope_known tables (column_at n) _ _ scoped.0 in
     let cs = groups_known tables js reach ns scoped.1 in (
       c.0 ∷ cs.0,
       λ i. option_both (λ x xs. x ∷ xs) (c.1 i) (cs.1 i),
@@ -220,7 +218,7 @@ pub items_known : (groups : List Name) (before : ℕ) (is' : List Item)
 items_known groups before [] all = ([], refl)
 items_known groups before (tree.plain n ∷ is') all =
     let c = is_there (key_column groups n.text) (key_sought groups n.text ∙ all.0) in
-    let cs = items_known groups (before + 0) is' all.1 in
+    let cs = items_known groups before is' all.1 in
     (c.0 ∷ cs.0, λ i. option_both (λ x xs. x ∷ xs) (c.1 i) (cs.1 i))
 items_known groups before (tree.aggregate a ∷ is') all =
     let cs = items_known groups (before + 1) is' all.1 in (
@@ -251,17 +249,12 @@ joined_table (p ∷ ps) t = go p.join refl (joined_table ps t)
     go None h rest = rw h rest
     go (Some j) h rest = rw h (ap (λ b. is_table t (table_of j.key) || b) rest)
 
-missing_known : (ps : List Pair) (at : ℕ) (o : Option TableId) → of_missing ps at o ≡ None
-    → is_reached ps o ≡ true
-missing_known ps at None none = refl
-missing_known ps at (Some t) none = named_of (is_table t Lineorder || is_joined ps t) _ none
-
 pub reached_each : (ps : List Pair) (tables : List Name)
     → first_answer (missing_fault ps) tables ≡ None
     → AllByRecursion (λ n. is_reached ps (table_at n) ≡ true) tables
 reached_each ps tables none =
     each (λ n. missing_fault ps n ≡ None) (λ n. is_reached ps (table_at n) ≡ true)
-    (λ n e. missing_known ps n.place (table_at n) e) tables
+    (λ n e. named_of (is_reached ps (table_at n)) _ e) tables
     (each_none (missing_fault ps) tables none)
 
 named_reached : (ps : List Pair) (t : TableId) (tables : List Name)

@@ -5,6 +5,7 @@ pub mod Viewed
 pub mod Sought
 pub mod Known
 pub mod Options
+pub mod Related
 pub mod Whole
 pub mod KeptJoins
 pub mod KeptCounts

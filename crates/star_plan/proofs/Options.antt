@@ -107,6 +107,16 @@ pub mapped_gave : {A B : Type 0} (f : A → B) (o : Option A) (b : B) → option
 mapped_gave f None b e = absurd (cc)
 mapped_gave f (Some a) b e = (a, refl, cc)
 
+-- what each element came to, beside what it gave
+pub mapped_all : {A B C : Type 0} (f : A → Option B) (g : A → C) (h : B → C)
+    → ((x : A) (y : B) → f x ≡ Some y → g x ≡ h y) → (xs : List A) (ys : List B)
+    → option_all f xs ≡ Some ys → map g xs ≡ map h ys
+mapped_all f g h same [] ys e = let none : [] ≡ ys = cc in ap (map h) none
+mapped_all f g h same (x ∷ xs) ys e =
+    let both = both_gave (λ z zs. z ∷ zs) (f x) (option_all f xs) ys e in
+    (λ i. same x both.left both.first i ∷ mapped_all f g h same xs both.right both.second i)
+    ∙ ap (map h) both.made
+
 pub first_or_second : {A : Type 0} (o q : Option A) (x : A) → option_or o q ≡ Some x
     → (o ≡ Some x) ⊎ (q ≡ Some x)
 first_or_second None q x e = inr e

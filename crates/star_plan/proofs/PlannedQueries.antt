@@ -1,6 +1,5 @@
 -- What is planned is sound, within limits and spelled as queries are.
-use Rattle.std.proofs.Math.Logic.{∥∥₁_elim}
-use Rattle.std.proofs.Props.{props}
+use Rattle.std.proofs.{Math.Logic.∥∥₁_elim, Props.props}
 use Rattle.star_query.proofs.MeantTrees.{meant_spelled_so, meant_within}
 use Rattle.star_plan.specs.{Limits.IsPlanWithinLimits, Meaning.Plan, Planned.IsPlanned, Sound.IsSoundPlan, Spelled.IsSpelledPlan}
 use Rattle.star_plan.proofs.{Conditions.no_fault, Kept.kept_sound, Kept.kept_spelled, Kept.kept_within}

@@ -3,8 +3,7 @@ use Rattle.std.proofs.Common.{◌≡◌, ◌∙◌, sym, ap, ℕ, zero, suc, ◌
 use Rattle.std.specs.{List.list_any, List.position, List.position_or_len, Option.option_or, Result.IsErrAnd, Result.result_err}
 use Rattle.std.proofs.lemmas.List.{at_drop_all, length-map}
 use Rattle.star_common.specs.First.{first_answer}
-use Rattle.star_plan.specs.declared.fault.PlanFault.{PlanFault}
-use Rattle.star_plan.specs.First.{first_after, first_beside}
+use Rattle.star_plan.specs.{declared.fault.PlanFault.PlanFault, First.first_after, First.first_beside}
 use Rattle.star_plan.proofs.Exits.{error_is}
 
 -- ---- which of them

@@ -1,36 +1,28 @@
 -- What is wrong with a query's names, and which fault comes first (this project's profile of SQL).
-use Rattle.std.specs.Prelude.{ℕ, ◌+◌, Bool, ◌||◌, List, [], ◌∷◌, length, Option, Some, None, if◌then◌else◌}
-use Rattle.std.specs.Option.{option_or}
-use Rattle.star_schema.specs.declared.{table.TableId.TableId, table.TableId.TheVariants.Lineorder, column.ColumnId.ColumnId}
+use Rattle.std.specs.Prelude.{ℕ, ◌+◌, false, ◌||◌, List, [], ◌∷◌, length, Option, Some, None, if◌then◌else◌}
+use Rattle.std.specs.Option.{is_none, option_map_or, option_or}
+use Rattle.star_schema.specs.declared.table.TableId.TheVariants.{Lineorder}
 use Rattle.star_common.specs.First.{first_answer}
-use Rattle.star_schema.specs.Schema.{is_table, table_name, table_of}
+use Rattle.star_schema.specs.Schema.{table_name, table_of}
 use Rattle.star_query.specs.Tree.{Item, Name, SortKey, Tree, aggregate, plain}
-use Rattle.star_plan.specs.declared.{fault.PlanFault.PlanFault, tree.Join.Join}
+use Rattle.star_plan.specs.declared.fault.PlanFault.{PlanFault}
 use Rattle.star_plan.specs.declared.fault.PlanFault.TheVariants.{UnknownName, NoFactTable, TableTwice, TableNotNamed, JoinMissing, JoinTwice, NotAKeyPair, WrongKind, NotGrouped, DuplicateGroup, UnknownOrderKey, DuplicateAlias, NoAggregate}
-use Rattle.star_plan.specs.{First.first_beside, Names.has_name, Names.table_at, Uses.Use, Uses.uses_of, Joins.Pair, Joins.is_joined, Joins.where_pairs, Naming.name_of_aggregate, Naming.aggregate_names, Naming.has_text, Naming.name_place}
+use Rattle.star_plan.specs.{First.first_beside, Names.has_name, Names.table_at, Uses.Use, Uses.uses_of, Joins.Pair, Joins.is_joined, Joins.where_pairs, Naming.name_of_aggregate, Naming.aggregate_names, Naming.has_text, Naming.name_place, WellNamed.is_in_from, WellNamed.is_reached}
 
 -- ---- the names of FROM
 
-abbrev pub of_table : (at : ℕ) → (is_repeated : Bool) → Option TableId → Option PlanFault
-of_table at repeated None = Some (UnknownName at)
-of_table at repeated (Some t) = if repeated then Some (TableTwice at) else None
-
 -- a name is no table's, or stands there before
 abbrev pub from_table_fault : List Name → Name → Option PlanFault
-from_table_fault before n = of_table n.place (has_name before n.text) (table_at n)
+from_table_fault before n = if is_none (table_at n) then Some (UnknownName n.place) else if has_name before n.text then Some (TableTwice n.place) else None
 
 abbrev pub fact_fault : List Name → Option PlanFault
 fact_fault tables = if has_name tables (table_name Lineorder) then None else Some NoFactTable
 
 -- ---- the names of columns
 
-abbrev pub of_column : List Name → (at : ℕ) → Option ColumnId → Option PlanFault
-of_column tables at None = Some (UnknownName at)
-of_column tables at (Some c) = if has_name tables (table_name (table_of c)) then None else Some (TableNotNamed at)
-
 -- a name is no column's, or its table isn't in FROM
 abbrev pub scope_fault : List Name → Use → Option PlanFault
-scope_fault tables u = of_column tables u.at u.column
+scope_fault tables u = if is_none u.column then Some (UnknownName u.at) else if is_in_from tables u.column then None else Some (TableNotNamed u.at)
 
 -- a column isn't of the kind that is asked of it: a number inside an aggregate, beside a literal the literal's
 abbrev pub use_kind_fault : Use → Option PlanFault
@@ -38,21 +30,14 @@ use_kind_fault u = if u.fits then None else Some (WrongKind u.at)
 
 -- ---- comparisons of two columns
 
-abbrev pub of_pair : List Pair → (at : ℕ) → Option Join → Option PlanFault
-of_pair before at None = Some (NotAKeyPair at)
-of_pair before at (Some j) = if is_joined before (table_of j.key) then Some (JoinTwice at) else None
-
 -- two columns don't join, or their dimension has a join before
 abbrev pub pair_fault : List Pair → Pair → Option PlanFault
-pair_fault before p = of_pair before p.at p.join
-
-abbrev pub of_missing : List Pair → (at : ℕ) → Option TableId → Option PlanFault
-of_missing pairs at None = None
-of_missing pairs at (Some t) = if is_table t Lineorder || is_joined pairs t then None else Some (JoinMissing at)
+pair_fault before p =
+    if is_none p.join then Some (NotAKeyPair p.at) else if option_map_or (λ j. is_joined before (table_of j.key)) p.join false then Some (JoinTwice p.at) else None
 
 -- a dimension of FROM has no join
 abbrev pub missing_fault : List Pair → Name → Option PlanFault
-missing_fault pairs n = of_missing pairs n.place (table_at n)
+missing_fault pairs n = if is_reached pairs (table_at n) then None else Some (JoinMissing n.place)
 
 -- ---- groups, items and the order
 

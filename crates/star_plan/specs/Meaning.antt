@@ -1,5 +1,5 @@
 -- What a resolved query means over the rows of the tables (Star Schema Benchmark, revision 3, section 3; Gray et al. 1997).
-use Rattle.std.specs.Prelude.{ℕ, ℤ, pos, ◌+ℤ◌, ◌-ℤ◌, ◌*ℤ◌, Bool, ◌&&◌, List, [], ◌∷◌, filter, map, slice_index_or, if◌then◌else◌}
+use Rattle.std.specs.Prelude.{ℕ, ℤ, pos, Bool, ◌&&◌, List, [], ◌∷◌, filter, map, slice_index_or, if◌then◌else◌}
 use Rattle.std.specs.List.{flat_map, list_all}
 use Rattle.std.specs.declared.cmp.Ordering.{Ordering}
 use Rattle.std.specs.Ordering.{is_eq, is_ne, is_lt, is_le, is_gt, is_ge}
@@ -8,8 +8,8 @@ use Rattle.star_schema.specs.declared.group.Aggregate.TheVariants as aggregate
 use Rattle.star_schema.specs.{Groups.Entry, Order.value_cmp, Schema.is_table, Schema.place_of, Schema.table_of, Tables.Value, Tables.Number, Tables.Text}
 use Rattle.star_query.specs.declared.token.{Relation.Relation, Fold.TheVariants.Sum, Fold.TheVariants.Min, Fold.TheVariants.Max}
 use Rattle.star_query.specs.declared.token.Relation.TheVariants as sign
-use Rattle.star_query.specs.Leaves.{is_so}
-use Rattle.star_query.specs.Tree.{Expression, column, constant, add, sub, mul, Comparison, compare, between, Condition, Measure, fold, count}
+use Rattle.star_query.specs.Leaves.{fold_expression, is_so}
+use Rattle.star_query.specs.Tree.{Expression, Comparison, compare, between, Condition, Measure, fold, count}
 use Rattle.star_plan.specs.declared.tree.Join.{Join}
 
 -- ---- a query whose names are resolved
@@ -103,11 +103,7 @@ value_number (Text bytes) = pos 0
 
 -- the number of an expression whose columns have these values
 abbrev pub number_with : {C : Type 0} → (C → Value) → Expression C → ℤ
-number_with values (column c) = value_number (values c)
-number_with values (constant x) = x
-number_with values (add a b) = number_with values a +ℤ number_with values b
-number_with values (sub a b) = number_with values a -ℤ number_with values b
-number_with values (mul a b) = number_with values a *ℤ number_with values b
+number_with values e = fold_expression (λ c. value_number (values c)) (λ z. z) (λ op. op) e
 
 -- 1 to a count
 abbrev pub measured : {C : Type 0} → (C → Value) → Measure C → ℤ

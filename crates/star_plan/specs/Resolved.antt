@@ -3,7 +3,6 @@ use Rattle.std.specs.Prelude.{◌≡◌, ℕ, ◌+◌, List, [], ◌∷◌, ◌+
 use Rattle.star_schema.specs.declared.{column.ColumnId.ColumnId, group.GroupColumn.GroupColumn}
 use Rattle.star_schema.specs.declared.group.GroupColumn.TheVariants as group
 use Rattle.star_schema.specs.Tables.{Value}
-use Rattle.star_query.specs.Limits.{aggregates_in}
 use Rattle.star_query.specs.Tree as tree
 use Rattle.star_query.specs.Tree.{Item, Name, Tree, Expression, column, constant, add, sub, mul, Comparison, compare, between, Test, pair, comparison, Condition, or, and, not, test, Measure, fold, count}
 use Rattle.star_plan.specs.{Meaning.RowCondition, Meaning.Plan, Names.column_at, Joins.joins_of, Joins.where_pairs, Naming.aggregate_names, Naming.key_column, Naming.resolved_key}
@@ -55,19 +54,17 @@ where_conjuncts (Some c) = conjuncts_of c
 
 -- ---- groups, aggregates, items and the order
 
-abbrev pub resolved_measures : List Item → Option (List (Measure ColumnId))
-resolved_measures [] = Some []
-resolved_measures (tree.plain n ∷ is') = resolved_measures is'
-resolved_measures (tree.aggregate a ∷ is') = option_both (λ m ms. m ∷ ms) (resolved_measure a.measure) (resolved_measures is')
+-- what SELECT computes of each group, from the left
+abbrev pub measures_of : List Item → List (Measure Name)
+measures_of [] = []
+measures_of (tree.plain n ∷ is') = measures_of is'
+measures_of (tree.aggregate a ∷ is') = a.measure ∷ measures_of is'
 
--- what an item shows, where `before` aggregates come before it
-abbrev pub item_column : List Name → ℕ → Item → Option GroupColumn
-item_column groups before (tree.plain n) = key_column groups n.text
-item_column groups before (tree.aggregate a) = Some (group.Aggregate before)
-
+-- what the items show, where `before` aggregates come before them
 abbrev pub items_from : List Name → ℕ → List Item → Option (List GroupColumn)
 items_from groups before [] = Some []
-items_from groups before (i ∷ is') = option_both (λ c cs. c ∷ cs) (item_column groups before i) (items_from groups (before + aggregates_in i) is')
+items_from groups before (tree.plain n ∷ is') = option_both (λ c cs. c ∷ cs) (key_column groups n.text) (items_from groups before is')
+items_from groups before (tree.aggregate a ∷ is') = option_both (λ c cs. c ∷ cs) (Some (group.Aggregate before)) (items_from groups (before + 1) is')
 
 -- ---- a query
 
@@ -77,7 +74,7 @@ pub record IsResolved (t : Tree) (p : Plan) : Type 0 where
   pub conjuncts : where_conjuncts t.condition ≡ Some p.conjuncts
   pub shape : p.shape ≡ t.grouping.shape
   pub keys : option_all column_at t.grouping.columns ≡ Some p.keys
-  pub measures : resolved_measures t.items ≡ Some p.measures
+  pub measures : option_all resolved_measure (measures_of t.items) ≡ Some p.measures
   pub names : p.names ≡ aggregate_names t.items
   pub items : items_from t.grouping.columns 0 t.items ≡ Some p.items
   pub sorts : option_all (resolved_key t.grouping.columns (aggregate_names t.items)) t.keys ≡ Some p.sorts

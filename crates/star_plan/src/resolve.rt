@@ -6,6 +6,7 @@ ghost use Rattle.star_query.specs.Maxima.{most_items};
 ghost use Rattle.star_query.specs.Tree.{between, compare, comparison};
 ghost use Rattle.star_query.specs.Views.{aggregate_view, condition_view, expression_view, item_view, literal_view, measure_view, name_view, test_view};
 ghost use Rattle.star_plan.specs.Names.{column_at};
+ghost use Rattle.star_plan.specs.Private.Stages as stages;
 ghost use Rattle.star_plan.specs.Resolved as spec;
 ghost use Rattle.star_plan.specs.Views as shown;
 ghost use Rattle.star_plan.specs.WellNamed.{IsThere};
@@ -301,10 +302,10 @@ pub(crate) fn resolve_aggregates(
     alloc: Global,
     items: &[Item],
 ) -> Result<Vec<Aggregate>, AllocError>
-    requires there { IsThere (spec.resolved_measures (map item_view items.now)) }
+    requires there { IsThere (stages.resolved_measures (map item_view items.now)) }
     requires few { length items.now ≤ most_items }
     ensures measures { Resolves (λ aggregates. shown.measures_view aggregates.items)
-        (spec.resolved_measures (map item_view items.now)) result }
+        (stages.resolved_measures (map item_view items.now)) result }
     ensures names { IfOk result (λ aggregates. shown.names_view aggregates.items
         ≡ naming.aggregate_names (map item_view items.now)) }
     ensures few { IfOk result (λ aggregates. length aggregates.items ≤ length items.now) }

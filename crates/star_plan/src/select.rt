@@ -13,7 +13,6 @@ ghost use Rattle.star_plan.specs.Naming as spec;
 ghost use Rattle.star_plan.specs.Faults as faults;
 ghost use Rattle.star_plan.specs.Private.Stages as stages;
 ghost use Rattle.star_plan.specs.Resolved.{items_from};
-ghost use Rattle.star_plan.specs.Resolved as resolved;
 ghost use Rattle.star_plan.specs.Views.{names_view};
 ghost use Rattle.star_plan.specs.Private.Answers.{IsNamedAt, Resolves, Tells};
 
@@ -147,7 +146,7 @@ fn show_item(
     requires named { IsNamedAt (names_view aggregates.now) before (item_view item.now) }
     ensures told { result_err result ≡ faults.item_fault_after (map name_view groups.now)
         (take before (names_view aggregates.now)) (item_view item.now) }
-    ensures shown { Resolves (λ column. column) (resolved.item_column (map name_view groups.now)
+    ensures shown { Resolves (λ column. column) (stages.item_column (map name_view groups.now)
         before (item_view item.now)) result }
 {
     match item {

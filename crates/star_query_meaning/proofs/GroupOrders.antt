@@ -1,8 +1,7 @@
 -- Groups and their aggregates don't hang on the order of the rows.
 use Rattle.std.proofs.Common.{◌≡◌, ◌∙◌, ℕ, ◌+◌, List, [], ◌∷◌, Option, Some, None, refl, sym, ap, arith, inl, inr}
 use Rattle.std.specs.Prelude.{ℤ, pos, ◌+ℤ◌, slice_index_or}
-use Rattle.std.specs.{Int.int_min, Int.int_max, List.Sorted.IsPermutation}
-use Rattle.std.specs.declared.cmp.Ordering.{Ordering}
+use Rattle.std.specs.{Int.int_min, Int.int_max, List.Sorted.IsPermutation, declared.cmp.Ordering.Ordering}
 use Rattle.std.proofs.lemmas.{Int.ints, Int.clamps, List.Sorted.IsPermutation-map, List.Sorted.IsPermutation-sym, List.Sorted.Contains-permutation, List.Sorted.length_permutation}
 use Rattle.star_schema.specs.declared.group.{Shape.Shape, Aggregate.Aggregate, Aggregate.TheVariants.Sum, Aggregate.TheVariants.Count, Aggregate.TheVariants.Min, Aggregate.TheVariants.Max}
 use Rattle.star_schema.specs.Groups.{Entry, IsGroup, belongs, members, joined_with, joined, aggregate, numbers_for, totals_from, totals_of, GroupRow, AreGroups}

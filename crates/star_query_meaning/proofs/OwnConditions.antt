@@ -1,29 +1,19 @@
 -- WHERE, on a query's own tree, says of a row what the joins and the other conjuncts of the plan
 -- say.
 use Rattle.std.proofs.Common.{◌≡◌, ◌∙◌, Bool, true, false, ◌&&◌, ◌||◌, not as negated, inl, inr, List, [], ◌∷◌, ◌++◌, Option, Some, None, option_map, refl, sym, ap}
-use Rattle.std.specs.List.{AllByRecursion}
-use Rattle.std.specs.Prelude.{pos}
-use Rattle.std.specs.Option.{option_map_or, option_to_list}
-use Rattle.std.specs.Ordering.{is_eq, is_le, ordering_reverse}
-use Rattle.std.specs.declared.cmp.Ordering.{Ordering}
+use Rattle.std.specs.{List.AllByRecursion, Prelude.pos, Option.option_map_or, Option.option_to_list, Ordering.is_eq, Ordering.is_le, Ordering.ordering_reverse, declared.cmp.Ordering.Ordering}
 use Rattle.std.specs.declared.cmp.Ordering.TheVariants.{Less, Equal, Greater}
-use Rattle.std.proofs.lemmas.Grind.{flat_map-append}
-use Rattle.std.proofs.lemmas.List.Folds.{list_all-append}
-use Rattle.star_schema.specs.declared.column.ColumnId.{ColumnId}
-use Rattle.star_schema.specs.Order.{value_cmp}
-use Rattle.star_schema.specs.Tables.{Value, Number}
+use Rattle.std.proofs.{lemmas.Grind.flat_map-append, lemmas.List.Folds.list_all-append}
+use Rattle.star_schema.specs.{declared.column.ColumnId.ColumnId, Order.value_cmp, Tables.Value, Tables.Number}
 use Rattle.star_query.specs.Tree as tree
-use Rattle.star_query.specs.Tree.{Condition, Name, Test, or, and, not, test, compare, between}
+use Rattle.star_query.specs.Tree.{Comparison, Condition, Name, Test, or, and, not, test, compare, between}
 use Rattle.star_report.proofs.OneOrder.{value_turned}
-use Rattle.star_plan.specs.declared.tree.Join.{Join}
-use Rattle.star_plan.specs.Joins.{Pair, is_foreign, join_by, join_of, joins_of, pairs_of, where_pairs}
+use Rattle.star_plan.specs.{declared.tree.Join.Join, Joins.Pair, Joins.is_foreign, Joins.join_by, Joins.join_of, Joins.joins_of, Joins.pairs_of, Joins.where_pairs, Names.column_at}
 use Rattle.star_plan.specs.Meaning as plan
 use Rattle.star_plan.specs.Meaning.{Joined, all_hold, holds, tests, joined_value}
-use Rattle.star_plan.specs.Names.{column_at}
 use Rattle.star_plan.specs.Resolved.{conjuncts_of, resolved_condition, resolved_test, where_conjuncts}
-use Rattle.star_plan.proofs.Known.{each_left, each_right}
-use Rattle.star_plan.proofs.Options.{both_gave, first_or_second, mapped_gave}
-use Rattle.star_query_meaning.specs.Rows.{is_true, value_named, where_is_true}
+use Rattle.star_plan.proofs.{Known.each_left, Known.each_right, Options.both_gave, Options.first_or_second, Options.mapped_gave, Related.condition_related}
+use Rattle.star_query_meaning.specs.Rows.{is_true, test_is_true, value_named, where_is_true}
 use Rattle.star_query_meaning.proofs.Choices.{all_joined, is_joined_by}
 
 -- ---- names
@@ -37,32 +27,25 @@ named n c row e = ap (λ o. value_if o row) e
 
 -- ---- conditions in which no two columns are compared
 
-condition_same : (q : Condition Test) (x : plan.RowCondition) (row : Joined)
-    → resolved_condition q ≡ Some x → is_true q row ≡ holds x row
-condition_same (tree.or a b) x row e =
-    let g = both_gave or (resolved_condition a) (resolved_condition b) x e in
-    (λ i. condition_same a g.left row g.first i || condition_same b g.right row g.second i)
-    ∙ ap (λ y. holds y row) g.made
-condition_same (tree.and a b) x row e =
-    let g = both_gave and (resolved_condition a) (resolved_condition b) x e in
-    (λ i. condition_same a g.left row g.first i && condition_same b g.right row g.second i)
-    ∙ ap (λ y. holds y row) g.made
-condition_same (tree.not a) x row e =
-    let g = mapped_gave not (resolved_condition a) x e in
-    ap negated (condition_same a g.0 row g.1) ∙ ap (λ y. holds y row) g.2
-condition_same (tree.test (tree.pair m n)) x row e = absurd (cc)
-condition_same (tree.test (tree.comparison (tree.compare n s l))) x row e =
-    let t = mapped_gave test (resolved_test (tree.comparison (tree.compare n s l))) x e in
-    let g = mapped_gave (λ c. compare c s l) (column_at n) t.0 t.1 in
+test_same : (row : Joined) (t : Test) (c : Comparison ColumnId Value) → resolved_test t ≡ Some c
+    → test_is_true row t ≡ plan.comparison_holds (λ d. joined_value d row) (λ v. v) c
+test_same row (tree.pair m n) c e = absurd (cc)
+test_same row (tree.comparison (tree.compare n s l)) c e =
+    let g = mapped_gave (λ d. compare d s l) (column_at n) c e in
     (λ i. tests s (value_cmp (named n g.0 row g.1 i) l))
-    ∙ ap (λ y. holds (test y) row) g.2 ∙ ap (λ y. holds y row) t.2
-condition_same (tree.test (tree.comparison (tree.between n from upto))) x row e =
-    let t = mapped_gave test (resolved_test (tree.comparison (tree.between n from upto))) x e in
-    let g = mapped_gave (λ c. between c from upto) (column_at n) t.0
-    t.1 in
+    ∙ ap (plan.comparison_holds (λ d. joined_value d row) (λ v. v)) g.2
+test_same row (tree.comparison (tree.between n from upto)) c e =
+    let g = mapped_gave (λ d. between d from upto) (column_at n) c e in
     (λ i. is_le (value_cmp from (named n g.0 row g.1 i))
     && is_le (value_cmp (named n g.0 row g.1 i) upto))
-    ∙ ap (λ y. holds (test y) row) g.2 ∙ ap (λ y. holds y row) t.2
+    ∙ ap (plan.comparison_holds (λ d. joined_value d row) (λ v. v)) g.2
+
+condition_same : (q : Condition Test) (x : plan.RowCondition) (row : Joined)
+    → resolved_condition q ≡ Some x → is_true q row ≡ holds x row
+condition_same q x row =
+    condition_related (λ a b. a ≡ b) (test_is_true row)
+    (plan.comparison_holds (λ d. joined_value d row) (λ v. v)) negated ◌||◌ ◌&&◌ (test_same row)
+    (λ a b h. ap negated h) (λ a b c d l r. cc) (λ a b c d l r. cc) q x
 
 no_pairs : (q : Condition Test) (x : plan.RowCondition) (b : Bool) → resolved_condition q ≡ Some x
     → pairs_of b q ≡ []

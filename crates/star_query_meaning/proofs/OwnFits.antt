@@ -1,15 +1,13 @@
 -- A query fits tables by its own words where its plan does.
 use Rattle.std.proofs.Common.{◌≡◌, ◌∙◌, ◌↔◌, ℕ, List, [], ◌∷◌, Some, refl, sym, ap}
 use Rattle.std.specs.Prelude.{◌+ℤ◌, ◌-ℤ◌, ◌*ℤ◌, ◌&&◌}
-use Rattle.std.specs.List.{list_all}
-use Rattle.star_schema.specs.declared.column.ColumnId.{ColumnId}
-use Rattle.star_interval.specs.Range.{corner_range, fits_i64}
+use Rattle.std.specs.{List.list_all}
+use Rattle.star_schema.specs.{declared.column.ColumnId.ColumnId, Columns.bounds_in}
+use Rattle.star_interval.specs.Range.{corner_range, fits_i64, only}
 use Rattle.star_query.specs.Tree as tree
 use Rattle.star_query.specs.Tree.{Expression, Item, Measure, Name, Tree, add, column, constant, mul, sub}
-use Rattle.star_plan.specs.{Fits.measure_fits, Fits.nodes_fit, Fits.expression_range, Meaning.Plan, Meaning.Tables, Names.column_at, Resolved.IsResolved, Resolved.resolved_expression, Resolved.resolved_measure}
-use Rattle.star_plan.specs.Resolved as resolved
-use Rattle.star_plan.proofs.Options.{both_gave, mapped_gave}
-use Rattle.star_schema.specs.Columns.{bounds_in}
+use Rattle.star_plan.specs.{Fits.measure_fits, Fits.nodes_fit, Fits.expression_range, Meaning.Plan, Meaning.Tables, Names.column_at, Resolved.IsResolved, Resolved.resolved_expression, Resolved.option_all, Resolved.resolved_measure}
+use Rattle.star_plan.proofs.{Options.both_gave, Options.mapped_gave, Related.expression_related}
 use Rattle.star_query_meaning.specs.{Fitting.FitsTables, Fitting.PlanFitsTables, Fitting.range_named, Rows.measures_of}
 
 module _ (ts : Tables) where
@@ -18,23 +16,9 @@ module _ (ts : Tables) where
 
   ranges_same : (e : Expression Name) (x : Expression ColumnId) → resolved_expression e ≡ Some x
       → expression_range (range_named ts) e ≡ expression_range (bounds_in ts) x
-  ranges_same (tree.column n) x h =
-      let g = mapped_gave column (column_at n) x h in
-      named n g.0 g.1 ∙ ap (expression_range (bounds_in ts)) g.2
-  ranges_same (tree.constant z) x h = let same : constant z ≡ x = cc in
-      ap (expression_range (bounds_in ts)) same
-  ranges_same (tree.add a b) x h =
-      let g = both_gave add (resolved_expression a) (resolved_expression b) x h in
-      (λ i. corner_range ◌+ℤ◌ (ranges_same a g.left g.first i) (ranges_same b g.right g.second i))
-      ∙ ap (expression_range (bounds_in ts)) g.made
-  ranges_same (tree.sub a b) x h =
-      let g = both_gave sub (resolved_expression a) (resolved_expression b) x h in
-      (λ i. corner_range ◌-ℤ◌ (ranges_same a g.left g.first i) (ranges_same b g.right g.second i))
-      ∙ ap (expression_range (bounds_in ts)) g.made
-  ranges_same (tree.mul a b) x h =
-      let g = both_gave mul (resolved_expression a) (resolved_expression b) x h in
-      (λ i. corner_range ◌*ℤ◌ (ranges_same a g.left g.first i) (ranges_same b g.right g.second i))
-      ∙ ap (expression_range (bounds_in ts)) g.made
+  ranges_same =
+      expression_related (λ a b. a ≡ b) (range_named ts) (bounds_in ts) only corner_range named
+      (λ k. refl) (λ op a b c d l r. cc)
 
   nodes_same : (e : Expression Name) (x : Expression ColumnId) → resolved_expression e ≡ Some x
       → nodes_fit (range_named ts) e ≡ nodes_fit (bounds_in ts) x
@@ -80,7 +64,7 @@ module _ (ts : Tables) where
       nodes_same e g.0 g.1 ∙ ap (measure_fits (bounds_in ts)) g.2
 
   measures_same : (items : List Item) (ms : List (Measure ColumnId))
-      → resolved.resolved_measures items ≡ Some ms
+      → option_all resolved_measure (measures_of items) ≡ Some ms
       → list_all (measure_fits (range_named ts)) (measures_of items)
       ≡ list_all (measure_fits (bounds_in ts)) ms
   measures_same [] ms e = let none : [] ≡ ms = cc in
@@ -88,7 +72,7 @@ module _ (ts : Tables) where
   measures_same (tree.plain n ∷ items) ms e = measures_same items ms e
   measures_same (tree.aggregate a ∷ items) ms e =
       let g = both_gave (λ x xs. x ∷ xs) (resolved_measure a.measure)
-      (resolved.resolved_measures items) ms e in
+      (option_all resolved_measure (measures_of items)) ms e in
       (λ i. measure_same a.measure g.left g.first i && measures_same items g.right g.second i)
       ∙ ap (list_all (measure_fits (bounds_in ts))) g.made
 

@@ -1,6 +1,5 @@
 -- What a query shows by its own words is what its plan shows.
 use Rattle.std.proofs.Common.{◌≡◌, ◌∙◌, ℕ, zero, suc, ◌+◌, ◌<◌, List, [], ◌∷◌, ◌++◌, Some, get_or, length, map, nat_eq, refl, sym, ap, arith}
-use Rattle.std.specs.Prelude.{◌+ℤ◌, ◌-ℤ◌, ◌*ℤ◌}
 use Rattle.std.specs.{Cmp.Lexicographic.pointwise, Cmp.Lexicographic.same_text, List.flat_map, List.position, Option.option_to_list}
 use Rattle.std.proofs.lemmas.List.Quantifiers.{position-Some}
 use Rattle.star_schema.specs.declared.{column.ColumnId.ColumnId, column.ColumnId.TheVariants.DDatekey, column.TheConstants.COLUMNS, group.GroupColumn.GroupColumn}
@@ -8,15 +7,13 @@ use Rattle.star_schema.specs.declared.group.GroupColumn.TheVariants as group
 use Rattle.star_schema.specs.declared.group.SortKey as sorted
 use Rattle.star_schema.specs.Schema.{column_name}
 use Rattle.star_schema.proofs.NamesApart.{found_named}
-use Rattle.star_query.specs.declared.token.Fold.{Fold}
+use Rattle.star_query.specs.{declared.token.Fold.Fold, Tree.Expression, Tree.Item, Tree.Measure, Tree.Name, Tree.SortKey, Tree.Tree, Tree.add, Tree.column, Tree.constant, Tree.mul, Tree.sub}
 use Rattle.star_query.specs.declared.token.Fold.TheVariants as fold
 use Rattle.star_query.specs.Tree as tree
-use Rattle.star_query.specs.Tree.{Expression, Item, Measure, Name, SortKey, Tree, add, column, constant, mul, sub}
 use Rattle.star_plan.specs.Meaning as plan
 use Rattle.star_plan.specs.{Meaning.Joined, Meaning.Plan, Meaning.joined_value, Names.column_at, Names.column_called, Resolved.items_from, Resolved.option_all, Resolved.resolved_expression, Resolved.resolved_measure}
 use Rattle.star_plan.specs.Naming.{name_of_aggregate, aggregate_names, names_from, key_column, resolved_key}
-use Rattle.star_plan.specs.Resolved as resolved
-use Rattle.star_plan.proofs.Options.{both_gave, mapped_gave}
+use Rattle.star_plan.proofs.{Options.both_gave, Options.mapped_all, Options.mapped_gave, Related.expression_related}
 use Rattle.star_query_meaning.specs.{Answers.shown_name, Rows.measures_of, Rows.value_named, Shows.columns_from, Shows.item_names_from}
 use Rattle.star_query_meaning.proofs.OwnConditions.{named}
 
@@ -25,32 +22,17 @@ use Rattle.star_query_meaning.proofs.OwnConditions.{named}
 pub keys_same : (names : List Name) (cs : List ColumnId) (row : Joined)
     → option_all column_at names ≡ Some cs
     → map (λ n. value_named n row) names ≡ map (λ c. joined_value c row) cs
-keys_same [] cs row e = let none : [] ≡ cs = cc in ap (map (λ c. joined_value c row)) none
-keys_same (n ∷ ns) cs row e =
-    let g = both_gave (λ y ys. y ∷ ys) (column_at n) (option_all column_at ns) cs e in
-    (λ i. named n g.left row g.first i ∷ keys_same ns g.right row g.second i)
-    ∙ ap (map (λ c. joined_value c row)) g.made
+keys_same names cs row =
+    mapped_all column_at (λ n. value_named n row) (λ c. joined_value c row)
+    (λ n c h. named n c row h) names cs
 
 expression_same : (e : Expression Name) (x : Expression ColumnId) (row : Joined)
     → resolved_expression e ≡ Some x
     → plan.number_with (λ n. value_named n row) e ≡ plan.number_with (λ c. joined_value c row) x
-expression_same (tree.column n) x row e =
-    let g = mapped_gave column (column_at n) x e in
-    ap plan.value_number (named n g.0 row g.1) ∙ ap (plan.number_with (λ c. joined_value c row)) g.2
-expression_same (tree.constant z) x row e = let same : constant z ≡ x = cc in
-    ap (plan.number_with (λ c. joined_value c row)) same
-expression_same (tree.add a b) x row e =
-    let g = both_gave add (resolved_expression a) (resolved_expression b) x e in
-    (λ i. expression_same a g.left row g.first i +ℤ expression_same b g.right row g.second i)
-    ∙ ap (plan.number_with (λ c. joined_value c row)) g.made
-expression_same (tree.sub a b) x row e =
-    let g = both_gave sub (resolved_expression a) (resolved_expression b) x e in
-    (λ i. expression_same a g.left row g.first i -ℤ expression_same b g.right row g.second i)
-    ∙ ap (plan.number_with (λ c. joined_value c row)) g.made
-expression_same (tree.mul a b) x row e =
-    let g = both_gave mul (resolved_expression a) (resolved_expression b) x e in
-    (λ i. expression_same a g.left row g.first i *ℤ expression_same b g.right row g.second i)
-    ∙ ap (plan.number_with (λ c. joined_value c row)) g.made
+expression_same e x row =
+    expression_related (λ a b. a ≡ b) (λ n. plan.value_number (value_named n row))
+    (λ c. plan.value_number (joined_value c row)) (λ z. z) (λ op. op)
+    (λ n c h. ap plan.value_number (named n c row h)) (λ k. refl) (λ op a b c d l r. cc) e x
 
 measure_same : (m : Measure Name) (x : Measure ColumnId) (row : Joined)
     → resolved_measure m ≡ Some x
@@ -75,28 +57,20 @@ function_same (tree.fold f e) x h =
     folded_function f e g.0 ∙ ap plan.aggregate_of g.2
 
 pub values_same : (items : List Item) (ms : List (Measure ColumnId)) (row : Joined)
-    → resolved.resolved_measures items ≡ Some ms
+    → option_all resolved_measure (measures_of items) ≡ Some ms
     → map (plan.measured (λ n. value_named n row)) (measures_of items)
     ≡ map (plan.measured (λ c. joined_value c row)) ms
-values_same [] ms row e = let none : [] ≡ ms = cc in
-    ap (map (plan.measured (λ c. joined_value c row))) none
-values_same (tree.plain n ∷ items) ms row e = values_same items ms row e
-values_same (tree.aggregate a ∷ items) ms row e =
-    let g = both_gave (λ x xs. x ∷ xs) (resolved_measure a.measure)
-    (resolved.resolved_measures items) ms e in
-    (λ i. measure_same a.measure g.left row g.first i ∷ values_same items g.right row g.second i)
-    ∙ ap (map (plan.measured (λ c. joined_value c row))) g.made
+values_same items ms row =
+    mapped_all resolved_measure (plan.measured (λ n. value_named n row))
+    (plan.measured (λ c. joined_value c row)) (λ m x h. measure_same m x row h) (measures_of items)
+    ms
 
 pub functions_same : (items : List Item) (ms : List (Measure ColumnId))
-    → resolved.resolved_measures items ≡ Some ms
+    → option_all resolved_measure (measures_of items) ≡ Some ms
     → map plan.aggregate_of (measures_of items) ≡ map plan.aggregate_of ms
-functions_same [] ms e = let none : [] ≡ ms = cc in ap (map plan.aggregate_of) none
-functions_same (tree.plain n ∷ items) ms e = functions_same items ms e
-functions_same (tree.aggregate a ∷ items) ms e =
-    let g = both_gave (λ x xs. x ∷ xs) (resolved_measure a.measure)
-    (resolved.resolved_measures items) ms e in
-    (λ i. function_same a.measure g.left g.first i ∷ functions_same items g.right g.second i)
-    ∙ ap (map plan.aggregate_of) g.made
+functions_same items ms =
+    mapped_all resolved_measure plan.aggregate_of plan.aggregate_of function_same
+    (measures_of items) ms
 
 -- ---- the columns that are shown
 
@@ -105,12 +79,9 @@ pub columns_same : (groups : List Name) (before : ℕ) (items : List Item) (cs :
 columns_same groups before [] cs e = cc
 columns_same groups before (tree.plain n ∷ items) cs e =
     let g = both_gave (λ c cs. c ∷ cs) (key_column groups n.text)
-    (items_from groups (before + 0) items) cs e in
-    let same : before + 0 ≡ before = omega arith in
-    let rest : columns_from groups before items ≡ g.right =
-    columns_same groups before items g.right
-    (ap (λ k. items_from groups k items) (sym same) ∙ g.second) in
-    (λ i. option_to_list (g.first i) ++ rest i) ∙ g.made
+    (items_from groups before items) cs e in
+    (λ i. option_to_list (g.first i) ++ columns_same groups before items g.right g.second i)
+    ∙ g.made
 columns_same groups before (tree.aggregate a ∷ items) cs e =
     let g = both_gave (λ c cs. c ∷ cs) (Some (group.Aggregate before))
     (items_from groups (before + 1) items) cs e in
@@ -158,12 +129,10 @@ names_same groups p before [] cs keys e names = let none : [] ≡ cs = cc in
     ap (map (shown_name p)) none
 names_same groups p before (tree.plain n ∷ items) cs keys e names =
     let g = both_gave (λ c cs. c ∷ cs) (key_column groups n.text)
-    (items_from groups (before + 0) items) cs e in
+    (items_from groups before items) cs e in
     let at = mapped_gave (λ place. group.Key place)
     (position (λ m. pointwise nat_eq m.text n.text) groups) g.left g.first in
-    let same : before + 0 ≡ before = omega arith in
-    let rest = names_same groups p before items g.right keys
-    (ap (λ k. items_from groups k items) (sym same) ∙ g.second) names in
+    let rest = names_same groups p before items g.right keys g.second names in
     (λ i. (key_shown groups p.keys n.text at.0 keys at.1 ∙ ap (shown_name p) at.2) i ∷ rest i)
     ∙ ap (map (shown_name p)) g.made
 names_same groups p before (tree.aggregate a ∷ items) cs keys e names =

@@ -10,8 +10,7 @@ use Rattle.star_schema.specs.Schema.{column_of, is_table, table_name, table_of}
 use Rattle.star_schema.proofs.{NamesApart.found_named, Same.table_same, Same.table_itself}
 use Rattle.star_query.specs.Tree as tree
 use Rattle.star_query.specs.Tree.{Condition, Name, Test}
-use Rattle.star_plan.specs.declared.tree.Join.{Join}
-use Rattle.star_plan.specs.Joins.{Pair, join_by, join_of, joins_of, pairs_of, where_pairs}
+use Rattle.star_plan.specs.{declared.tree.Join.Join, Joins.Pair, Joins.join_by, Joins.join_of, Joins.joins_of, Joins.pairs_of, Joins.where_pairs}
 use Rattle.star_plan.specs.{Names.column_at, Names.has_name, Names.table_at, Names.table_called, Sound.in_scope, Sound.joins_table, Uses.where_uses, Private.Stages.condition_uses, WellNamed.IsThere, WellNamed.is_in_from, WellNamed.same_name}
 use Rattle.star_plan.proofs.{Known.Reaches, Known.each_left, Known.each_right, Options.first_or_second}
 use Rattle.star_query_meaning.specs.Rows.{tables_of}

@@ -1,16 +1,13 @@
 -- What a query answers by its own words is what its plan answers.
 use Rattle.std.proofs.Common.{◌≡◌, ◌∙◌, ℕ, ◌+◌, true, arith, get_or, List, [], ◌∷◌, ◌++◌, length, map, sym, ap, subst}
-use Rattle.std.specs.Prelude.{filter}
-use Rattle.std.specs.List.{AllByRecursion, Sorted.IsPermutation}
+use Rattle.std.specs.{Prelude.filter, List.AllByRecursion, List.Sorted.IsPermutation}
 use Rattle.std.proofs.lemmas.List.Sorted.{IsPermutation-map, IsPermutation-sym}
-use Rattle.star_schema.specs.declared.table.TableId.TheVariants.{Lineorder}
-use Rattle.star_schema.specs.{Groups.AreGroups, Groups.Entry, Groups.GroupRow, Order.AreInOrder, Order.value_cmp, Schema.table_of, Tables.Value}
+use Rattle.star_schema.specs.{declared.table.TableId.TheVariants.Lineorder, Groups.AreGroups, Groups.Entry, Groups.GroupRow, Order.AreInOrder, Order.value_cmp, Schema.table_of, Tables.Value}
 use Rattle.star_query.specs.Tree.{Tree}
 use Rattle.star_plan.specs.{Joins.joins_of, Joins.where_pairs, Meaning.Plan, Meaning.Tables, Meaning.all_hold, Meaning.joined_rows, Names.column_at, Resolved.IsResolved, Uses.where_uses, Private.Stages.groups_uses, Private.Stages.items_uses, WellNamed.IsWellNamed, WellNamed.is_in_from}
 use Rattle.star_plan.specs.Meaning as plan
 use Rattle.star_plan.proofs.{Conditions.no_fault, Known.each_left, Known.each_right, KeptCounts.all_counted, KeptJoins.where_foreign, Whole.parts}
-use Rattle.star_program.specs.declared.outcome.Cell.{Cell}
-use Rattle.star_program.specs.RowCells.{cell_of}
+use Rattle.star_program.specs.{declared.outcome.Cell.Cell, RowCells.cell_of}
 use Rattle.star_query_meaning.specs.{Answers.IsAnswer, Answers.IsPlanAnswer, Answers.shown_name, Shows.item_columns, Shows.item_names, Shows.sorts_of}
 use Rattle.star_query_meaning.specs.Rows.{query_entry, measures_of, product, selected, tables_of}
 use Rattle.star_query_meaning.proofs.Choices.{IsStar, all_joined, dimensions_apart, dimensions_of, filter_both, is_star, joined_product, no_fact_among, product_reordered}

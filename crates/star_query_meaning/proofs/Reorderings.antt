@@ -1,9 +1,7 @@
 -- What stays where the elements of a list change places.
 use Rattle.std.proofs.Common.{◌≡◌, ℕ, zero, suc, ◌<◌, Bool, true, false, List, [], ◌∷◌, ◌++◌, length, get_or, refl, sym, subst, arith, cond}
-use Rattle.std.specs.Prelude.{filter}
-use Rattle.std.specs.List.{flat_map, swap, Sorted.IsPermutation}
-use Rattle.std.proofs.Math.ListN.{set}
-use Rattle.std.proofs.lemmas.List.{append_assoc, Edits.swap_is}
+use Rattle.std.specs.{Prelude.filter, List.flat_map, List.swap, List.Sorted.IsPermutation}
+use Rattle.std.proofs.{Math.ListN.set, lemmas.List.append_assoc, lemmas.List.Edits.swap_is}
 use Rattle.std.proofs.lemmas.List.Sorted.{IsPermutation-refl, IsPermutation-trans, IsPermutation-cons, IsPermutation-middle, IsPermutation-append, IsPermutation-append_comm, IsPermutation-append_left, IsPermutation-append_right, IsPermutation-keeps}
 
 -- ---- a relation that holds of equal lists, and where two neighbours change places

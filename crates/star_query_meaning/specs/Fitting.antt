@@ -6,8 +6,7 @@ use Rattle.star_schema.specs.declared.table.TableId.TheVariants.{Lineorder}
 use Rattle.star_schema.specs.Columns.{bounds_in}
 use Rattle.star_interval.specs.Range.{Range, only}
 use Rattle.star_query.specs.Tree.{Name, Tree}
-use Rattle.star_plan.specs.{Fits.Fits, Fits.measure_fits, Meaning.Plan, Meaning.Tables, Names.column_at}
-use Rattle.star_query_meaning.specs.Rows.{measures_of}
+use Rattle.star_plan.specs.{Fits.Fits, Fits.measure_fits, Meaning.Plan, Meaning.Tables, Names.column_at, Resolved.measures_of}
 
 -- the bounds of the column with this name; no other name stands in a well named query
 abbrev pub range_named : Tables → Name → Range

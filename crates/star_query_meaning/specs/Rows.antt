@@ -9,9 +9,10 @@ use Rattle.star_schema.specs.Groups.{Entry}
 use Rattle.star_schema.specs.Order.{value_cmp}
 use Rattle.star_schema.specs.Tables.{Value, Number}
 use Rattle.star_query.specs.Leaves.{is_so}
-use Rattle.star_query.specs.Tree.{Name, Test, pair, comparison, Condition, Measure, Item, plain, aggregate, Tree}
+use Rattle.star_query.specs.Tree.{Name, Test, pair, comparison, Condition, Tree}
 use Rattle.star_plan.specs.Meaning.{Joined, Tables, comparison_holds, measured, joined_value, with_row}
 use Rattle.star_plan.specs.Names.{column_at, table_at}
+pub use Rattle.star_plan.specs.Resolved.{measures_of}
 
 -- ---- the product
 
@@ -52,12 +53,6 @@ abbrev pub selected : Tables → Tree → List Joined
 selected ts q = filter (where_is_true q.condition) (product ts (tables_of q.tables))
 
 -- ---- what a selected row adds to its groups
-
--- what SELECT computes of each group, from the left
-abbrev pub measures_of : List Item → List (Measure Name)
-measures_of [] = []
-measures_of (plain n ∷ items) = measures_of items
-measures_of (aggregate a ∷ items) = a.measure ∷ measures_of items
 
 -- the values of the group columns, and a number for each aggregate
 abbrev pub query_entry : Tree → Joined → Entry Value

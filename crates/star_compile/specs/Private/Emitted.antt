@@ -1,12 +1,13 @@
 -- The code that an emitter has written, and the piece of a program that it writes next.
 use Rattle.std.specs.Prelude.{◌≡◌, ℕ, ◌+◌, ◌≤◌, List, [], ◌∷◌, ◌++◌}
-use Rattle.star_schema.specs.declared.column.ColumnId.{ColumnId}
+use Rattle.star_schema.specs.declared.{column.ColumnId.ColumnId, table.TableId.TableId}
 use Rattle.star_plan.specs.declared.tree.Join.{Join}
 use Rattle.star_query.specs.Tree.{Measure, count, fold}
-use Rattle.star_program.specs.Code.{Code}
+use Rattle.star_program.specs.Code.{Code, Then}
+use Rattle.star_program.specs.declared.op.{Op.TheVariants.Assign, Operation.TheVariants.Find}
 use Rattle.star_program.specs.CodeOfSteps as step
 use Rattle.star_program.specs.declared.body.Step.{Step}
-use Rattle.star_compile_laws.specs.Compiled.{Env, Rests, column_code, expression_code, register_count}
+use Rattle.star_compile_laws.specs.Compiled.{Env, Rest, column_code, expression_code, register_count, with_found}
 use Rattle.star_compile.specs.declared.emitter.Emitter.{Emitter}
 
 -- some steps, and the code after them
@@ -45,20 +46,24 @@ pub record HasRegisterRoom {K : Type 0} (e : Emitter) (piece : Env → K → Cod
   pub rest : K
   pub fits : (completed e (piece (env_of e) rest)).registers ≤ 4096
 
+-- a row is found, by the register of its key
+abbrev pub find_code : TableId → ℕ → Env → Rest ℕ → Code
+find_code t key env k = Then (Assign env.next (Find t key)) (k (with_found env t) env.next)
+
 -- columns, after some registers
-abbrev pub keys_after : List Join → List ColumnId → List ℕ → Env → Rests → Code
+abbrev pub keys_after : List Join → List ColumnId → List ℕ → Env → Rest (List ℕ) → Code
 keys_after js [] so_far env k = k env so_far
 keys_after js (c ∷ cs) so_far env k =
     column_code js c env (λ e x. keys_after js cs (so_far ++ x ∷ []) e k)
 
 -- the value of an aggregate, after some registers
-abbrev pub value_after : List Join → Measure ColumnId → List ℕ → Env → Rests → Code
+abbrev pub value_after : List Join → Measure ColumnId → List ℕ → Env → Rest (List ℕ) → Code
 value_after js count so_far env k = k env so_far
 value_after js (fold f a) so_far env k =
     expression_code js a env (λ e x. k e (so_far ++ x ∷ []))
 
 -- the values of aggregates, after some registers
-abbrev pub values_after : List Join → List (Measure ColumnId) → List ℕ → Env → Rests → Code
+abbrev pub values_after : List Join → List (Measure ColumnId) → List ℕ → Env → Rest (List ℕ) → Code
 values_after js [] so_far env k = k env so_far
 values_after js (m ∷ ms) so_far env k =
     value_after js m so_far env (λ e rs. values_after js ms rs e k)

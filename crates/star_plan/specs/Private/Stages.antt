@@ -2,12 +2,14 @@
 use Rattle.std.specs.Prelude.{ℕ, ◌+◌, ◌||◌, ◌&&◌, ◌++◌, true, List, length, map, Option, Some, None, if◌then◌else◌}
 use Rattle.std.specs.{List.flat_map, Option.option_or}
 use Rattle.star_common.specs.First.{first_answer}
-use Rattle.star_schema.specs.declared.column.Kind.{Kind}
+use Rattle.star_schema.specs.declared.{column.ColumnId.ColumnId, column.Kind.Kind, group.GroupColumn.GroupColumn}
+use Rattle.star_schema.specs.declared.group.GroupColumn.TheVariants as group
 use Rattle.star_query.specs.Leaves.{of_tests}
 use Rattle.star_schema.specs.Tables.{Value, kind_of_value}
-use Rattle.star_query.specs.Tree.{Aggregate, Condition, Item, Name, SortKey, Test}
+use Rattle.star_query.specs.Tree.{Aggregate, Condition, Item, Measure, Name, SortKey, Test, aggregate, plain}
 use Rattle.star_plan.specs.declared.fault.PlanFault.{PlanFault, TheVariants.DuplicateAlias}
-use Rattle.star_plan.specs.{First.first_beside, Joins.Pair, Names.has_name, Names.is_of, Naming.aggregate_names, Naming.has_text, Naming.name_of_aggregate, Naming.name_place, Uses.Use, Uses.item_uses, Uses.test_uses, Uses.use_when}
+use Rattle.star_plan.specs.{First.first_beside, Joins.Pair, Names.has_name, Names.is_of, Naming.aggregate_names, Naming.has_text, Naming.key_column, Naming.name_of_aggregate, Naming.name_place, Uses.Use, Uses.item_uses, Uses.test_uses, Uses.use_when}
+use Rattle.star_plan.specs.Resolved.{measures_of, option_all, resolved_measure}
 use Rattle.star_plan.specs.Faults.{aggregates_fault, fact_fault, from_table_fault, group_fault, item_fault, key_fault, missing_fault, pair_fault, scope_fault, use_kind_fault}
 
 -- ---- the columns that a query names
@@ -30,6 +32,16 @@ items_uses items = flat_map item_uses items
 
 abbrev pub groups_uses : List Name → List Use
 groups_uses names = map any_use names
+
+-- ---- items and aggregates
+
+-- what an item shows, where `before` aggregates come before it
+abbrev pub item_column : List Name → ℕ → Item → Option GroupColumn
+item_column groups before (plain n) = key_column groups n.text
+item_column groups before (aggregate a) = Some (group.Aggregate before)
+
+abbrev pub resolved_measures : List Item → Option (List (Measure ColumnId))
+resolved_measures items = option_all resolved_measure (measures_of items)
 
 -- ---- the fault of an aggregate
 

@@ -1,5 +1,4 @@
-use Rattle.std.proofs.Common.{arith}
-use Rattle.std.proofs.lemmas.Grind.{common_steps}
+use Rattle.std.proofs.{Common.arith, lemmas.Grind.common_steps}
 use Rattle.star_compile.proofs.columns.foreign_key.Goals as goal
 
 pub returns-then-is_table : goal.returns-then-is_table

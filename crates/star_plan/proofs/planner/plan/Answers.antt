@@ -1,5 +1,4 @@
-use Rattle.std.proofs.Common.{subst}
-use Rattle.std.proofs.lemmas.Grind.{merely}
+use Rattle.std.proofs.{Common.subst, lemmas.Grind.merely}
 use Rattle.star_query.specs.Views.{tree_view}
 use Rattle.star_plan.specs.WellNamed.{IsWellNamed}
 use Rattle.star_plan.proofs.Conditions.{well_named}

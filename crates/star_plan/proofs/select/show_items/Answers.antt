@@ -1,8 +1,8 @@
 use Rattle.std.proofs.Common.{◌∙◌, ◌+◌, ap, arith, map, sym}
-use Rattle.std.proofs.lemmas.Grind.{common_steps}
+use Rattle.std.proofs.{lemmas.Grind.common_steps}
 use Rattle.star_query.specs.Views.{item_view, name_view}
 use Rattle.star_plan.specs.{Faults.item_fault, Views.names_view}
-use Rattle.star_plan.proofs.{Aggregates.item_passed, Aggregates.names_taken, Aggregates.next_counted, Aggregates.next_named, Exits.tells, Viewed.beside_found}
+use Rattle.star_plan.proofs.{Aggregates.item_passed, Aggregates.items_next, Aggregates.names_taken, Aggregates.next_counted, Aggregates.next_named, Exits.tells, Viewed.beside_found}
 use Rattle.star_plan.proofs.select.show_items.Goals as goal
 
 pub show_item-requires-clause-named : goal.show_item-requires-clause-named
@@ -34,5 +34,5 @@ loop-item-preserved c = record {
       c.loop-item.invariant.counted
       (map name_view c.args.groups.now) c.loop-item.invariant.right
       (sym c.in_ok-show_item.ensures.told);
-  shown = grind (arith, common_steps);
+  shown = grind (arith, common_steps, items_next);
 }

@@ -1,5 +1,4 @@
-use Rattle.std.proofs.Common.{arith}
-use Rattle.std.proofs.lemmas.Grind.{common_steps}
+use Rattle.std.proofs.{Common.arith, lemmas.Grind.common_steps}
 use Rattle.star_compile.proofs.emitter.Emitter.conjuncts.Goals as goal
 
 pub loop-condition-preserved : goal.loop-condition-preserved

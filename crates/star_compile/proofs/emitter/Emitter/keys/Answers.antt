@@ -1,5 +1,4 @@
-use Rattle.std.proofs.Common.{arith, drop, refl, drop_of_length-le}
-use Rattle.std.proofs.lemmas.{Grind.common_steps, List.drop_more}
+use Rattle.std.proofs.{Common.arith, Common.drop, Common.refl, Common.drop_of_length-le, lemmas.Grind.common_steps, lemmas.List.drop_more}
 use Rattle.star_schema.specs.declared.column.ColumnId.TheVariants.{DDatekey}
 use Rattle.star_compile_laws.specs.Compiled.{keys_code}
 use Rattle.star_compile.specs.Private.Emitted.{keys_after}

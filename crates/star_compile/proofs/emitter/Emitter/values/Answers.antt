@@ -1,5 +1,5 @@
 use Rattle.std.proofs.Common.{◌+◌, drop, ◌∷◌, refl, sym, ap, ◌∙◌, drop_of_length-le}
-use Rattle.std.proofs.lemmas.List.{drop_more}
+use Rattle.std.proofs.{lemmas.List.drop_more}
 use Rattle.star_plan.specs.Views.{column_measure_view, measures_view}
 use Rattle.star_compile_laws.specs.Compiled.{values_code}
 use Rattle.star_compile.specs.Private.Emitted.{values_after}
