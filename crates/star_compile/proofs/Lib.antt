@@ -1,3 +1,4 @@
 pub mod Numbers
 pub mod Emits
 pub mod Turns
+pub mod Plain

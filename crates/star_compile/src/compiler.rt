@@ -1,22 +1,24 @@
 // The program of a plan.
 
-ghost use Rattle.std.specs.Prelude.{◌≡◌, ◌+◌, ◌≤◌, true, IfOk};
+ghost use Rattle.std.specs.Prelude.{◌≡◌, ◌+◌, ◌≤◌, true, IfOk, length};
 ghost use Rattle.std.specs.List.{list_all};
 ghost use Rattle.star_schema.specs.declared.table.TableId.TheVariants.{Lineorder};
 ghost use Rattle.star_plan.specs.Limits.{IsPlanWithinLimits};
 ghost use Rattle.star_plan.specs.Views.{plan_view};
-ghost use Rattle.star_plan.specs.Sound.{IsSoundPlan};
+ghost use Rattle.star_plan.specs.Sound.{IsSoundPlan, is_group_column};
 ghost use Rattle.star_plan.specs.Spelled.{IsSpelledPlan, condition_is_spelled};
 ghost use Rattle.star_program.specs.Code.{Each, Stop};
 ghost use Rattle.star_program.specs.CodeOfSteps.{code_of_steps};
 ghost use Rattle.star_compile_laws.specs.Compiled.{compiled, register_count, turn_code};
+ghost use Rattle.star_merge_laws.specs.Plain.{plain_plan};
+ghost use Rattle.star_compile.specs.Private.Shown.{plan_shown};
 
-use crate::declarations::{group, shows};
+use crate::declarations::{group, plain_columns, shows};
 use crate::emitter::Emitter;
 use star_plan::law::planned_queries_are_sound;
 use star_plan::{Plan, PlanTree};
 use star_program::{Body, Items, Parts, Program, Step};
-use star_schema::TableId;
+use star_schema::{GroupColumn, Shape, SortKey, TableId};
 use std::alloc::{AllocError, Global};
 
 // Compiles the body of the scan: the filters, the keys, the aggregates' numbers, and one put.
@@ -49,24 +51,54 @@ fn scan(alloc: Global, turn: Vec<Step>) -> Result<Body, AllocError>
     Ok(Body::from_vec(steps))
 }
 
-// Returns the parts of the program.
-fn parts(alloc: Global, tree: &PlanTree) -> Result<Parts, AllocError>
-    requires sound { IsSoundPlan (plan_view tree.now) }
+// Returns the parts of the program with this shape, these items and these sort keys.
+fn parts(
+    alloc: Global,
+    tree: &PlanTree,
+    shape: Shape,
+    items: &[GroupColumn],
+    sorts: &[SortKey],
+) -> Result<Parts, AllocError>
     requires limits { IsPlanWithinLimits (plan_view tree.now) }
     requires spelled { IsSpelledPlan (plan_view tree.now) }
-    ensures { IfOk result (λ parts. parts ≡ compiled (plan_view tree.now)) }
+    requires there { list_all
+        (is_group_column (length tree.now.keys.items) (length tree.now.aggregates.items))
+        items.now ≡ true }
+    ensures { IfOk result (λ parts. parts
+        ≡ compiled (plan_shown (plan_view tree.now) shape items.now sorts.now)) }
 {
     let Emitter { steps, next, .. } = turn(alloc, tree)?;
     let mut groups = Vec::new(alloc);
-    groups.push(group(alloc, tree)?)?;
+    groups.push(group(alloc, tree, shape)?)?;
     Ok(Parts {
         registers: next,
         groups: Items::from_vec(groups),
         body: scan(alloc, steps)?,
         report: 0,
-        shows: Items::from_vec(shows(alloc, tree)?),
-        sorts: Items::from_vec(tree.sorts.iter().copied().collect(alloc)?),
+        shows: Items::from_vec(shows(alloc, tree, items)?),
+        sorts: Items::from_vec(sorts.iter().copied().collect(alloc)?),
     })
+}
+
+fn program(
+    alloc: Global,
+    tree: &PlanTree,
+    shape: Shape,
+    items: &[GroupColumn],
+    sorts: &[SortKey],
+) -> Result<Program, AllocError>
+    requires limits { IsPlanWithinLimits (plan_view tree.now) }
+    requires spelled { IsSpelledPlan (plan_view tree.now) }
+    requires there { list_all
+        (is_group_column (length tree.now.keys.items) (length tree.now.aggregates.items))
+        items.now ≡ true }
+    requires few { IsPlanWithinLimits
+        (plan_shown (plan_view tree.now) shape items.now sorts.now) }
+    ensures { IfOk result (λ program. program
+        ≡ compiled (plan_shown (plan_view tree.now) shape items.now sorts.now)) }
+{
+    let program = Program::new(parts(alloc, tree, shape, items, sorts)?);
+    Ok(program.unwrap())
 }
 
 /// Compiles a plan: one group, one scan of lineorder that puts each selected row, and the items and
@@ -76,6 +108,17 @@ pub fn compile(alloc: Global, plan: &Plan) -> Result<Program, AllocError>
     ensures { IfOk result (λ program. program ≡ compiled (plan_view plan.now)) }
 {
     planned_queries_are_sound();
-    let program = Program::new(parts(alloc, plan.tree())?);
-    Ok(program.unwrap())
+    let tree = plan.tree();
+    program(alloc, tree, tree.shape, &tree.items, &tree.sorts)
+}
+
+/// Returns the program of a plan without CUBE, ROLLUP and ORDER BY, which shows all keys and then
+/// all aggregates. It fails only if memory runs out.
+pub fn compile_plain(alloc: Global, plan: &Plan) -> Result<Program, AllocError>
+    ensures { IfOk result (λ program. program ≡ compiled (plain_plan (plan_view plan.now))) }
+{
+    planned_queries_are_sound();
+    let tree = plan.tree();
+    let items = plain_columns(alloc, tree)?;
+    program(alloc, tree, Shape::Plain, &items, &[])
 }

@@ -1,17 +1,18 @@
 // The declarations of a program: its group, and the shown columns and their order.
 
-ghost use Rattle.std.specs.Prelude.{◌≡◌, true, length, map, IfOk};
+ghost use Rattle.std.specs.Prelude.{◌≡◌, ◌≤◌, true, length, map, IfOk};
 ghost use Rattle.std.specs.List.{list_all};
 ghost use Rattle.star_plan.specs.Meaning.{aggregate_of};
 ghost use Rattle.star_plan.specs.Views.{column_measure_view, measures_view, plan_view};
 ghost use Rattle.star_plan.specs.Sound.{is_group_column};
 ghost use Rattle.star_compile_laws.specs.Compiled as spec;
+ghost use Rattle.star_merge_laws.specs.Plain.{plain_plan};
 ghost use Rattle.star_query_meaning.specs.Answers.{shown_name};
 
 use star_plan::PlanTree;
 use star_program::{GroupDecl, GroupKey, Items, Show};
 use star_query::{Fold, Measure};
-use star_schema::{Aggregate, ColumnId, GroupColumn, is_text, name_of};
+use star_schema::{Aggregate, ColumnId, GroupColumn, Shape, is_text, name_of};
 use std::alloc::{AllocError, Global};
 
 fn key_of(column: ColumnId) -> GroupKey
@@ -55,12 +56,17 @@ fn aggregates(
     Ok(declared)
 }
 
-/// Returns the group of a plan: its keys as texts or numbers, and its aggregates.
-pub(crate) fn group(alloc: Global, tree: &PlanTree) -> Result<GroupDecl, AllocError>
-    ensures { IfOk result (λ group. group ≡ spec.plan_group (plan_view tree.now)) }
+/// Returns the group of a plan with a shape: its keys as texts or numbers, and its aggregates.
+pub(crate) fn group(alloc: Global, tree: &PlanTree, shape: Shape) -> Result<GroupDecl, AllocError>
+    ensures { IfOk result (λ group. group
+        ≡ record {
+          shape = shape;
+          keys = map spec.key_of_group tree.now.keys.items;
+          aggregates = map aggregate_of (measures_view tree.now.aggregates.items);
+        }) }
 {
     Ok(GroupDecl {
-        shape: tree.shape,
+        shape,
         keys: Items::from_vec(keys(alloc, &tree.keys)?),
         aggregates: Items::from_vec(aggregates(alloc, &tree.aggregates)?),
     })
@@ -81,15 +87,19 @@ fn name(alloc: Global, tree: &PlanTree, column: GroupColumn) -> Result<Vec<u8>, 
 }
 
 /// Returns the shown columns of the group, each with its name.
-pub(crate) fn shows(alloc: Global, tree: &PlanTree) -> Result<Vec<Show>, AllocError>
+pub(crate) fn shows(
+    alloc: Global,
+    tree: &PlanTree,
+    items: &[GroupColumn],
+) -> Result<Vec<Show>, AllocError>
     requires there { list_all
         (is_group_column (length tree.now.keys.items) (length tree.now.aggregates.items))
-        tree.now.items.items ≡ true }
+        items.now ≡ true }
     ensures { IfOk result (λ shows.
-        shows.items ≡ map (spec.plan_show (plan_view tree.now)) tree.now.items.items) }
+        shows.items ≡ map (spec.plan_show (plan_view tree.now)) items.now) }
 {
     let mut shows = Vec::new(alloc);
-    for column in &tree.items {
+    for column in items {
         let name = Items::from_vec(name(alloc, tree, *column)?);
         let show = Show {
             name,
@@ -98,4 +108,21 @@ pub(crate) fn shows(alloc: Global, tree: &PlanTree) -> Result<Vec<Show>, AllocEr
         shows.push(show)?;
     }
     Ok(shows)
+}
+
+/// Returns the columns of a plan's groups: all keys, and then all aggregates.
+pub(crate) fn plain_columns(alloc: Global, tree: &PlanTree) -> Result<Vec<GroupColumn>, AllocError>
+    requires keys { length tree.now.keys.items ≤ 6 }
+    requires aggregates { length tree.now.aggregates.items ≤ 8 }
+    ensures { IfOk result (λ columns. columns.items
+        ≡ (plain_plan (plan_view tree.now)).items) }
+{
+    let mut columns = Vec::new(alloc);
+    for place in 0..tree.keys.len() {
+        columns.push(GroupColumn::Key(place as u16))?;
+    }
+    for place in 0..tree.aggregates.len() {
+        columns.push(GroupColumn::Aggregate(place as u16))?;
+    }
+    Ok(columns)
 }

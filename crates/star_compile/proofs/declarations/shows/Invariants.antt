@@ -6,4 +6,4 @@ use Rattle.star_compile.proofs.declarations.shows.Given as goal
 
 abbrev pub invariant-loop-column : goal.invariant-loop-column
 invariant-loop-column l =
-    l.shows.items ≡ map (plan_show (plan_view l.tree)) (take l.column-index l.tree.items.items)
+    l.shows.items ≡ map (plan_show (plan_view l.tree)) (take l.column-index l.items)

@@ -1,0 +1,27 @@
+use Rattle.std.proofs.Common.{[], List, ℕ, string_bytes}
+use Rattle.std.proofs.lemmas.Option.{slice_get-get_or}
+use Rattle.star_schema.specs.declared.table.TableId.{TableId}
+use Rattle.star_schema.specs.declared.table.TableId.TheVariants.{Date}
+use Rattle.star_schema.specs.declared.table.TheConstants.{TABLES}
+use Rattle.star_schema.specs.Sizes.{size_of}
+use Rattle.star_partial.specs.Contents.{bounds_at}
+use Rattle.star_partial.specs.Listing.{listing_text, table_text}
+use Rattle.star_report.proofs.Parts.{all_parts, one_more}
+use Rattle.star_partial.proofs.listing.list_tables.Goals as goal
+
+pub loop-table-preserved : goal.loop-table-preserved
+loop-table-preserved c =
+    let part : TableId → List ℕ =
+    λ table. table_text (size_of c.args.sizes) (bounds_at c.args.bounds.now) table in
+    let at = slice_get-get_or TABLES c.loop-table.table-index Date c.loop-table-test.true in
+    rw c.in_ok-push_table.ensures
+    (one_more part TABLES c.loop-table.table-index _ []
+    (string_bytes c.loop-table.text) at c.loop-table.invariant)
+
+pub returns : goal.returns
+unfolding listing_text
+returns c =
+    let part : TableId → List ℕ =
+    λ table. table_text (size_of c.args.sizes) (bounds_at c.args.bounds.now) table in
+    all_parts part TABLES c.loop-table.table-index []
+    (string_bytes c.loop-table.text) c.loop-table-test.false c.loop-table.invariant
