@@ -1,6 +1,6 @@
 -- What each command asks of the engine, what is told of a fault or a failure and with which status,
 -- and what sessions and reports of files tell: each type is the one on the right.
-use Rattle.std.proofs.Common.{◌≡◌, ◌⊎◌, ◌<◌, ◌≤◌, ◌&&◌, ◌↔◌, ℕ, Bool, true, false, List, [], ◌∷◌, Option, Some, None, Result, Ok, Err, arith, inl, inr, length, refl}
+use Rattle.std.proofs.Common.{◌≡◌, ◌⊎◌, ◌≤◌, ◌&&◌, ◌↔◌, ℕ, Bool, true, false, List, [], ◌∷◌, Option, Some, None, Result, Ok, Err, arith, inl, inr, refl}
 use Rattle.std.specs.Prelude.{IfOk, IsTrue, codes}
 use Rattle.std.specs.Borrow.{Bor}
 use Rattle.star_common.proofs.Tables.{Gives}
@@ -31,8 +31,6 @@ use Rattle.star_engine.specs.Noted.{IsNoted}
 use Rattle.star_engine.specs.Queries.{IsExplained, IsNoQuery, IsQueryQuote, IsQueryQuoteOver, IsQueryTold, IsQueryToldOver, IsUnanswered, IsUnansweredOver}
 use Rattle.star_engine.specs.QuoteTexts.{IsQuoteTextOver, IsUnquotedOver}
 use Rattle.star_engine.specs.Tellings.{IsJudgedOver}
-use Rattle.star_words.specs.Requests.{HasTaskFolder, IsOfMostRows}
-use Rattle.star_words.specs.declared.request.Request.TheVariants.{Answer as Answered}
 use Rattle.star_words.specs.declared.request.Task.TheVariants as task
 use Rattle.star_service.specs.Lines.{IsFaultTold, IsTextTold, fault_line, fault_status}
 use Rattle.star_service.specs.Reports.{AreAllDelivered, AreAllJudged, AreDelivered, AreJudged, IsDelivered, IsJudged, IsJudgedLine, IsRefusedLine, IsReportKept, IsReportUnkept, named_line}
@@ -136,19 +134,17 @@ module _ {S : Type 0} (out : Change S) (texts : TableTexts) (result : Result Boo
       × IfOk result (λ fits. IsTrue fits ↔ AllFit most_visits (database_of texts))
   each_query_answered = (benched.answered, benched.fits)
 
--- ---- tables: which tasks load some, no folder without a name; what a load gives
+-- ---- tables: which tasks load some; what a load gives
 
 module _ (folder path : Bor (List ℕ)) (limits : Limits) (loaded : Loaded) (d : Database) where
   folders : (IsOfTables task.Sample ≡ Unit {0}) × (IsOfTables (task.Explain path) ≡ ⊥)
       × (IsOfTables (task.Bench folder) ≡ Unit {0})
       × (IsOfTables (task.Trial folder path limits) ≡ (limits.rows ≡ most_rows))
-      × (IsOfMostRows (Answered (task.Trial folder path limits)) ≡ (limits.rows ≡ most_rows))
-      × (HasTaskFolder (task.Bench folder) ≡ (0 < length folder.now))
       × (AreLoadableRows d
       ≡ ((texts : TableTexts) × IsLoadable most_rows texts × (d ≡ database_of texts)))
       × (IsWidest loaded ≡ (AreLoadableRows loaded.database × (loaded.rows ≡ most_rows)
       × (loaded.visits ≡ most_visits)))
-  folders = (refl, refl, refl, refl, refl, refl, refl, refl)
+  folders = (refl, refl, refl, refl, refl, refl)
 
 -- ---- shelves of reports
 

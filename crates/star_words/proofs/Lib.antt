@@ -1,3 +1,2 @@
-mod Asking
-mod Limits
+mod Arguments
 mod Worked

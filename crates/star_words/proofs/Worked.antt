@@ -1,78 +1,88 @@
--- Which command asks for what, by the first word; that no folder's name is empty; and what is told of
--- words that ask for nothing.
-use Rattle.std.proofs.Common.{◌≡◌, ◌<◌, [], ◌∷◌, Option, Some, None, true, false, length, refl}
+-- What arguments ask for, one by one; that no folder's name is empty; and what is said of arguments
+-- that ask for nothing.
+use Rattle.std.proofs.Common.{◌≡◌, [], ◌∷◌, Some, None, true, false, refl}
 use Rattle.std.specs.Borrow.{Bor}
-use Rattle.std.specs.Prelude.{ℕ, List, codes, map}
+use Rattle.std.specs.Prelude.{List, codes}
 use Rattle.clap.specs.Values.{kind_of}
 use Rattle.clap.specs.declared.error.Error.{Error}
 use Rattle.clap.specs.declared.error.kind.ErrorKind.TheVariants.{DisplayHelp, DisplayVersion, UnknownArgument, OutOfMemory as NoMemory}
 use Rattle.star_common.proofs.Tables.{Gives}
+use Rattle.star_schema.specs.Most.{most_rows}
 use Rattle.star_schema.specs.declared.limits.Limits.{Limits}
 use Rattle.star_words.specs.Faults.{fault_of_kind, words_fault_status, words_fault_text, words_status}
-use Rattle.star_words.specs.Requests.{HasFolders, HasTaskFolder, IsNamed, IsWordsFault, folder_commands, is_in, known_commands, request_name, task_name}
+use Rattle.star_words.specs.Requests.{Asked, HasMostRows, IsWordsFault, Word, asked, bench, check, exec, explain, limit_of, may_ask_help, names_folders, query, quote, reports, sample, session, trial}
 use Rattle.star_words.specs.declared.fault.WordsFault.TheVariants.{EmptyFolder, NoCommand, NotText, OutOfMemory}
-use Rattle.star_words.specs.declared.request.Reports.{Reports}
-use Rattle.star_words.specs.declared.request.Request.TheVariants as requests
-use Rattle.star_words.specs.declared.request.Request.TheVariants.{Answer, Session}
-use Rattle.star_words.specs.declared.request.Task.TheVariants.{Bench, Check, Exec, Explain, Query, Quote, Sample, Trial}
+use Rattle.star_words.specs.declared.request.Request.TheVariants.{Answer}
+use Rattle.star_words.specs.declared.request.Task.TheVariants.{Trial}
 
--- ---- the names of commands, and of folders: none is empty, and a file's may be
+-- ---- the arguments of each command, in order
 
-abbrev none : Option (List ℕ)
-none = None
+abbrev a : Word
+a = codes "a"
 
-module _ (folder file : Bor (List ℕ)) (limits : Limits) (reports : Reports) where
-  names : Gives task_name (
-      (Sample, None) ∷ (Check folder, Some (codes "check")) ∷ (Bench folder, Some (codes "bench"))
-      ∷ (Query folder file, Some (codes "query")) ∷ (Explain file, Some (codes "explain"))
-      ∷ (Exec folder file, Some (codes "exec")) ∷ (Quote folder file, Some (codes "quote"))
-      ∷ (Trial folder file limits, Some (codes "trial")) ∷ [])
-      × Gives request_name (
-      (Answer (Explain file), Some (codes "explain")) ∷ (Answer Sample, None)
-      ∷ (Session folder, Some (codes "session"))
-      ∷ (requests.Reports reports, Some (codes "reports")) ∷ [])
-  names = (refl, refl)
+abbrev b : Word
+b = codes "b"
 
-  -- by the first word, whatever follows it; the sample by none, and where there is a word it is not
-  by_words : (IsNamed (codes "query" ∷ codes "exec" ∷ []) (Answer (Query folder file))
-      ≡ (Some (codes "query") ≡ Some (codes "query")))
-      × (IsNamed (codes "query" ∷ codes "exec" ∷ []) (Answer (Exec folder file))
-      ≡ (Some (codes "exec") ≡ Some (codes "query")))
-      × (IsNamed [] (Answer Sample) ≡ (none ≡ none))
-      × (IsNamed (codes "sample" ∷ []) (Answer Sample) ≡ (none ≡ Some (codes "sample")))
-  by_words = (refl, refl, refl, refl)
+commands : Gives asked (
+    ([], Some sample) ∷ (codes "check" ∷ a ∷ [], Some (check a))
+    ∷ (codes "bench" ∷ a ∷ [], Some (bench a)) ∷ (codes "session" ∷ a ∷ [], Some (session a))
+    ∷ (codes "explain" ∷ a ∷ [], Some (explain a))
+    ∷ (codes "query" ∷ a ∷ b ∷ [], Some (query a b)) ∷ (codes "exec" ∷ a ∷ b ∷ [], Some (exec a b))
+    ∷ (codes "quote" ∷ a ∷ b ∷ [], Some (quote a b))
+    ∷ (codes "trial" ∷ a ∷ b ∷ codes "7" ∷ [], Some (trial a b 7))
+    ∷ (codes "reports" ∷ a ∷ b ∷ a ∷ b ∷ [], Some (reports a b (a ∷ b ∷ []) false)) ∷ [])
+unfolding limit_of
+commands = refl
 
-  folders : (HasTaskFolder (Check folder) ≡ (0 < length folder.now))
-      × (HasTaskFolder (Trial folder file limits) ≡ (0 < length folder.now))
-      × (HasTaskFolder (Explain file) ≡ Unit {0})
-      × (HasFolders (Session folder) ≡ (0 < length folder.now))
-      × (HasFolders (Answer (Bench folder)) ≡ (0 < length folder.now))
-      × (HasFolders (requests.Reports reports)
-      ≡ ((0 < length reports.folder.now) × (0 < length reports.target.now)))
-  folders = (refl, refl, refl, refl, refl, refl)
+-- a hyphen and what follows `--` are operands; `--quote` is an option of `reports`, once
+hyphens : Gives asked (
+    (codes "check" ∷ codes "-" ∷ [], Some (check (codes "-")))
+    ∷ (codes "check" ∷ codes "--" ∷ codes "-x" ∷ [], Some (check (codes "-x")))
+    ∷ (codes "query" ∷ a ∷ codes "--" ∷ codes "--" ∷ [], Some (query a (codes "--")))
+    ∷ (codes "reports" ∷ a ∷ codes "--quote" ∷ b ∷ a ∷ [], Some (reports a b (a ∷ []) true))
+    ∷ (codes "check" ∷ a ∷ codes "--quote" ∷ [], None)
+    ∷ (codes "reports" ∷ a ∷ b ∷ a ∷ codes "--quote" ∷ codes "--quote" ∷ [], None)
+    ∷ (codes "check" ∷ codes "-x" ∷ [], None) ∷ [])
+hyphens = refl
 
--- ---- which fault may be told, by the words
+-- no command has this name, or an argument is missing, or one too many
+no_commands : Gives asked (
+    (codes "no" ∷ a ∷ [], None) ∷ (codes "check" ∷ [], None) ∷ (codes "check" ∷ a ∷ b ∷ [], None)
+    ∷ (codes "query" ∷ a ∷ [], None) ∷ (codes "reports" ∷ a ∷ b ∷ [], None)
+    ∷ (codes "trial" ∷ a ∷ b ∷ [], None) ∷ (codes "tables" ∷ [], None) ∷ [])
+no_commands = refl
 
-abbrev commands : List (List ℕ)
-commands = codes "check" ∷ codes "bench" ∷ codes "query" ∷ codes "explain" ∷ codes "exec"
-    ∷ codes "quote" ∷ codes "trial" ∷ codes "session" ∷ codes "reports" ∷ codes "tables" ∷ []
+limits : Gives limit_of (
+    (codes "0", Some 0) ∷ (codes "+010", Some 10)
+    ∷ (codes "1000000000000000", Some 1000000000000000) ∷ (codes "1000000000000001", None)
+    ∷ (codes "-1", None) ∷ (codes "x", None) ∷ (codes "", None) ∷ (codes "+", None) ∷ [])
+unfolding limit_of
+limits = refl
 
-kinds_of_commands : Gives (λ some. map (is_in some) commands) ((
-  folder_commands,
-  true ∷ true ∷ true ∷ false ∷ true ∷ true ∷ true ∷ true ∷ true ∷ false ∷ [],
-)
-    ∷ (
-      known_commands,
-      true ∷ true ∷ true ∷ true ∷ true ∷ true ∷ true ∷ true ∷ false ∷ false ∷ [],
-    ) ∷ [])
-kinds_of_commands = refl
+folders : Gives names_folders (
+    (sample, true) ∷ (explain [], true) ∷ (check a, true) ∷ (check [], false) ∷ (session [], false)
+    ∷ (query a [], true) ∷ (query [] a, false) ∷ (trial [] a 1, false)
+    ∷ (reports a b [] false, true) ∷ (reports [] b [] false, false) ∷ (reports a [] [] true, false)
+    ∷ [])
+folders = refl
 
-module _ (name : List ℕ) (words : List (List ℕ)) where
-  faults : (IsWordsFault (name ∷ words) EmptyFolder ≡ (is_in folder_commands name ≡ true))
-      × (IsWordsFault (name ∷ words) NoCommand ≡ (is_in known_commands name ≡ false))
-      × (IsWordsFault (name ∷ words) NotText ≡ ⊥)
-      × (IsWordsFault (name ∷ words) OutOfMemory ≡ Unit {0}) × (IsWordsFault [] OutOfMemory ≡ ⊥)
-  faults = (refl, refl, refl, refl, refl)
+helps : Gives may_ask_help (
+    (codes "help" ∷ [], true) ∷ (codes "tables" ∷ [], true) ∷ (codes "--version" ∷ [], true)
+    ∷ (codes "check" ∷ codes "-h" ∷ [], true) ∷ (codes "check" ∷ [], false)
+    ∷ (codes "check" ∷ codes "--" ∷ codes "-h" ∷ [], false) ∷ ([], false) ∷ [])
+helps = refl
+
+module _ (words : List Word) where
+  faults : (IsWordsFault words NotText ≡ ⊥) × (IsWordsFault words OutOfMemory ≡ Unit {0})
+      × (IsWordsFault words EmptyFolder
+      ≡ ((it : Asked) × (asked words ≡ Some it) × (names_folders it ≡ false)))
+      × (IsWordsFault words NoCommand ≡ (words_fault_status NoCommand ≡ 0 → may_ask_help words ≡ true))
+  faults = (refl, refl, refl, refl)
+
+-- no argument bounds the rows of a trial's tables
+module _ (folder file : Bor Word) (limits : Limits) where
+  rows : HasMostRows (Answer (Trial folder file limits)) ≡ (limits.rows ≡ most_rows)
+  rows = refl
 
 -- ---- lines and statuses; what the parser of words lets not pass has its own text, and its status by
 -- its kind, and want of memory is as any other

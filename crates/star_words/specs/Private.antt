@@ -1,2 +1,2 @@
 -- What the contracts of functions that are not public cite.
-pub mod Asked
+pub mod Parting

@@ -1,96 +1,171 @@
--- What the words of a command line ask for.
-use Rattle.std.specs.Prelude.{◌≡◌, ⊤, ℕ, List, [], ◌∷◌, Option, Some, None, codes, ◌<◌, length, true, false, Bool}
-use Rattle.std.specs.List.{list_any}
+-- What the arguments of a command line ask for, one by one.
+use Rattle.std.specs.Prelude.{◌≡◌, ⊤, ◌&&◌, ◌||◌, ◌==◌, ℕ, Bool, true, false, List, [], ◌∷◌, Option, Some, None, if◌then◌else◌, codes, length, map, nat_le, nat_lt, slice_index}
+use Rattle.std.specs.Char.{digit_value}
+use Rattle.std.specs.List.{list_all}
+use Rattle.std.specs.Option.{option_map}
 use Rattle.std.specs.Str.{bytes_eq}
+use Rattle.std.specs.Str.Parse.{digits_value, without_leading_plus}
 use Rattle.star_schema.specs.Most.{most_rows}
+use Rattle.star_words.specs.Faults.{words_fault_status}
 use Rattle.star_words.specs.declared.fault.WordsFault.{WordsFault}
-use Rattle.star_words.specs.declared.fault.WordsFault.TheVariants.{EmptyFolder, NoCommand, NotText}
+use Rattle.star_words.specs.declared.fault.WordsFault.TheVariants.{EmptyFolder, NotText, OutOfMemory}
 use Rattle.star_words.specs.declared.request.Request.{Request}
-use Rattle.star_words.specs.declared.request.Request.TheVariants.{Answer, Reports, Session}
+use Rattle.star_words.specs.declared.request.Request.TheVariants as request
 use Rattle.star_words.specs.declared.request.Task.{Task}
-use Rattle.star_words.specs.declared.request.Task.TheVariants.{Bench, Check, Exec, Explain, Query, Quote, Sample, Trial}
+use Rattle.star_words.specs.declared.request.Task.TheVariants as task
 
--- a task over tables of as many rows as there may be: no word bounds them
-abbrev pub HasMostRows : Task → Type 0
-HasMostRows (Trial folder file limits) = limits.rows ≡ most_rows
-HasMostRows task = ⊤
+abbrev pub Word : Type 0
+Word = List ℕ
 
-abbrev pub IsOfMostRows : Request → Type 0
-IsOfMostRows (Answer task) = HasMostRows task
-IsOfMostRows request = ⊤
+-- what a command line asks for: without arguments the sample, and else what its command does
+pub data Asked : Type 0 where
+  sample : Asked
+  check : (folder : Word) → Asked
+  bench : (folder : Word) → Asked
+  query : (folder file : Word) → Asked
+  explain : (file : Word) → Asked
+  exec : (folder file : Word) → Asked
+  quote : (folder file : Word) → Asked
+  trial : (folder file : Word) (visits : ℕ) → Asked
+  session : (folder : Word) → Asked
+  reports : (folder target : Word) (files : List Word) (is_quote : Bool) → Asked
 
--- ---- the name of the command that asks for something
+-- ---- operands and options
 
--- no command asks for the sample
-abbrev pub task_name : Task → Option (List ℕ)
-task_name Sample = None
-task_name (Check folder) = Some (codes "check")
-task_name (Bench folder) = Some (codes "bench")
-task_name (Query folder file) = Some (codes "query")
-task_name (Explain file) = Some (codes "explain")
-task_name (Exec folder file) = Some (codes "exec")
-task_name (Quote folder file) = Some (codes "quote")
-task_name (Trial folder file limits) = Some (codes "trial")
+-- an option begins with a hyphen; a hyphen by itself is an operand
+abbrev pub is_option : Word → Bool
+is_option word = nat_lt 1 (length word) && (slice_index word 0 == 45)
 
-abbrev pub request_name : Request → Option (List ℕ)
-request_name (Answer task) = task_name task
-request_name (Session folder) = Some (codes "session")
-request_name (Reports reports) = Some (codes "reports")
+-- after `--` every argument is an operand
+abbrev pub ends_options : Word → Bool
+ends_options word = bytes_eq word (codes "--")
 
--- the first word, if there is one
-abbrev pub first_word : List (List ℕ) → Option (List ℕ)
-first_word [] = None
-first_word (word ∷ words) = Some word
+abbrev pub operands : List Word → List Word
+operands [] = []
+operands (word ∷ words) = if ends_options word then words
+    else (if is_option word then operands words else word ∷ operands words)
 
--- the first word is the name of the command that asks for it; where there is none, the sample is
--- asked for
-abbrev pub IsNamed : List (List ℕ) → Request → Type 0
-IsNamed words request = request_name request ≡ first_word words
+abbrev pub options : List Word → List Word
+options [] = []
+options (word ∷ words) = if ends_options word then []
+    else (if is_option word then word ∷ options words else options words)
+
+-- ---- the commands
+
+-- LIMIT is a whole number from 0 to 10^15, in decimal digits after an optional plus
+unfoldable pub limit_of : Word → Option ℕ
+limit_of word =
+    let digits = without_leading_plus word in
+    if nat_lt 0 (length digits) && list_all (λ digit. nat_lt (digit_value digit) 10) digits
+    && nat_le (digits_value 10 digits) 1000000000000000
+    then Some (digits_value 10 digits) else None
+
+abbrev pub with_one : (command operand : Word) → Option Asked
+with_one command operand =
+    if bytes_eq command (codes "check") then Some (check operand)
+    else (if bytes_eq command (codes "bench") then Some (bench operand)
+    else (if bytes_eq command (codes "session") then Some (session operand)
+    else (if bytes_eq command (codes "explain") then Some (explain operand) else None)))
+
+abbrev pub with_two : (command folder file : Word) → Option Asked
+with_two command folder file =
+    if bytes_eq command (codes "query") then Some (query folder file)
+    else (if bytes_eq command (codes "exec") then Some (exec folder file)
+    else (if bytes_eq command (codes "quote") then Some (quote folder file) else None))
+
+abbrev pub with_three : (command folder file limit : Word) → Option Asked
+with_three command folder file limit =
+    if bytes_eq command (codes "trial") then option_map (trial folder file) (limit_of limit) else None
+
+-- a command without options
+abbrev pub plain : (command : Word) → (operands : List Word) → Option Asked
+plain command (one ∷ []) = with_one command one
+plain command (one ∷ two ∷ []) = with_two command one two
+plain command (one ∷ two ∷ three ∷ []) = with_three command one two three
+plain command operands = None
+
+-- `reports`, of 1 to 1,000 files
+abbrev pub reports_of : (is_quote : Bool) → (operands : List Word) → Option Asked
+reports_of is_quote (folder ∷ target ∷ file ∷ files) =
+    if nat_lt (length files) 1000 then Some (reports folder target (file ∷ files) is_quote) else None
+reports_of is_quote operands = None
+
+-- the one option is `--quote` of `reports`
+abbrev pub asked_by : (command : Word) → (options operands : List Word) → Option Asked
+asked_by command [] operands =
+    if bytes_eq command (codes "reports") then reports_of false operands else plain command operands
+asked_by command (option ∷ []) operands =
+    if bytes_eq command (codes "reports") && bytes_eq option (codes "--quote")
+    then reports_of true operands else None
+asked_by command options operands = None
+
+-- what a command line asks for, if it is a command
+abbrev pub asked : List Word → Option Asked
+asked [] = Some sample
+asked (command ∷ words) = asked_by command (options words) (operands words)
+
+-- ---- the request that is made of it
+
+abbrev pub task_asked : Task → Asked
+task_asked task.Sample = sample
+task_asked (task.Check folder) = check folder.now
+task_asked (task.Bench folder) = bench folder.now
+task_asked (task.Query folder file) = query folder.now file.now
+task_asked (task.Explain file) = explain file.now
+task_asked (task.Exec folder file) = exec folder.now file.now
+task_asked (task.Quote folder file) = quote folder.now file.now
+task_asked (task.Trial folder file limits) = trial folder.now file.now limits.visits
+
+abbrev pub request_asked : Request → Asked
+request_asked (request.Answer task) = task_asked task
+request_asked (request.Session folder) = session folder.now
+request_asked (request.Reports given) = reports given.folder.now given.target.now
+    (map (λ file. file.now) given.files.items) given.is_quote
+
+-- a task over tables of as many rows as there may be: no argument bounds them
+abbrev pub HasMostRows : Request → Type 0
+HasMostRows (request.Answer (task.Trial folder file limits)) = limits.rows ≡ most_rows
+HasMostRows request = ⊤
 
 -- ---- the names of folders
 
--- a folder's name is not empty: its files would be those at the root of the file system
-abbrev pub IsFolderName : List ℕ → Type 0
-IsFolderName name = 0 < length name
+abbrev pub is_named : Word → Bool
+is_named name = nat_lt 0 (length name)
 
--- so is none of a task, if it has one
-abbrev pub HasTaskFolder : Task → Type 0
-HasTaskFolder Sample = ⊤
-HasTaskFolder (Check folder) = IsFolderName folder.now
-HasTaskFolder (Bench folder) = IsFolderName folder.now
-HasTaskFolder (Query folder file) = IsFolderName folder.now
-HasTaskFolder (Explain file) = ⊤
-HasTaskFolder (Exec folder file) = IsFolderName folder.now
-HasTaskFolder (Quote folder file) = IsFolderName folder.now
-HasTaskFolder (Trial folder file limits) = IsFolderName folder.now
+-- the names of its folders are not empty: their files would be those at the root of the file system
+abbrev pub names_folders : Asked → Bool
+names_folders sample = true
+names_folders (check folder) = is_named folder
+names_folders (bench folder) = is_named folder
+names_folders (session folder) = is_named folder
+names_folders (explain file) = true
+names_folders (query folder file) = is_named folder
+names_folders (exec folder file) = is_named folder
+names_folders (quote folder file) = is_named folder
+names_folders (trial folder file visits) = is_named folder
+names_folders (reports folder target files is_quote) = is_named folder && is_named target
 
-abbrev pub HasFolders : Request → Type 0
-HasFolders (Answer task) = HasTaskFolder task
-HasFolders (Session folder) = IsFolderName folder.now
-HasFolders (Reports reports) = IsFolderName reports.folder.now × IsFolderName reports.target.now
+-- ---- requests and refusals
 
--- ---- what is told of words that ask for nothing
+-- the request is what the arguments ask for
+pub record IsRequest (words : List Word) (request : Request) : Type 0 where
+  pub asked_for : asked words ≡ Some (request_asked request)
+  pub named : names_folders (request_asked request) ≡ true
+  pub rows : HasMostRows request
 
--- the commands that ask for a folder
-abbrev pub folder_commands : List (List ℕ)
-folder_commands = codes "check" ∷ codes "bench" ∷ codes "query" ∷ codes "exec" ∷ codes "quote"
-    ∷ codes "trial" ∷ codes "session" ∷ codes "reports" ∷ []
+-- help or the version may be asked for: by a command, or by an option
+abbrev pub may_ask_by : (command : Word) → (options : List Word) → Bool
+may_ask_by command options = bytes_eq command (codes "help") || (bytes_eq command (codes "tables")
+    || (is_option command || nat_lt 0 (length options)))
 
--- the name is that of one of the commands
-abbrev pub is_in : List (List ℕ) → List ℕ → Bool
-is_in commands name = list_any (bytes_eq name) commands
+abbrev pub may_ask_help : List Word → Bool
+may_ask_help [] = false
+may_ask_help (command ∷ words) = may_ask_by command (options words)
 
--- the commands whose words are never told to be no command: all but `reports` and `tables`
-abbrev pub known_commands : List (List ℕ)
-known_commands = codes "check" ∷ codes "bench" ∷ codes "query" ∷ codes "explain" ∷ codes "exec"
-    ∷ codes "quote" ∷ codes "trial" ∷ codes "session" ∷ []
-
--- what may be told of words: that the name of a folder is empty, where the first is a command that
--- asks for one; that they are no command, where the first is none of `known_commands`; what the
--- parser tells, and want of memory; of no words nothing
-abbrev pub IsWordsFault : List (List ℕ) → WordsFault → Type 0
-IsWordsFault [] fault = ⊥
-IsWordsFault (name ∷ words) NotText = ⊥
-IsWordsFault (name ∷ words) EmptyFolder = is_in folder_commands name ≡ true
-IsWordsFault (name ∷ words) NoCommand = is_in known_commands name ≡ false
-IsWordsFault (name ∷ words) fault = ⊤
+-- a folder's name is empty; or the parser refused the arguments, or they make no request, and the
+-- status is 0 only if they may ask for help
+abbrev pub IsWordsFault : List Word → WordsFault → Type 0
+IsWordsFault words OutOfMemory = ⊤
+IsWordsFault words NotText = ⊥
+IsWordsFault words EmptyFolder = (it : Asked) × (asked words ≡ Some it) × (names_folders it ≡ false)
+IsWordsFault words fault = words_fault_status fault ≡ 0 → may_ask_help words ≡ true

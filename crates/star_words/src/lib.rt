@@ -4,6 +4,7 @@
 mod fault;
 mod help;
 mod parser;
+mod refusal;
 mod request;
 
 pub use crate::fault::WordsFault;

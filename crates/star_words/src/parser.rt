@@ -1,7 +1,4 @@
-// The words of each command, by their names, as the parser of command lines reads them.
-
-ghost use Rattle.std.specs.Prelude.{◌∷◌, [], IfOk, codes};
-ghost use Rattle.star_words.specs.Private.Asked.{Asks, AsksForLimit, IsLimit, IsWord, IsWordless};
+// The arguments of each command, by their names, as the parser of command lines reads them.
 
 use crate::help::Help;
 use clap::{Arg, ArgAction, Command, value_parser};
@@ -9,18 +6,14 @@ use star_schema::MOST_VISITS;
 use std::alloc::{AllocError, Global};
 
 // A word that has to be there, as it stands.
-fn word<'a>(alloc: Global, name: &'a str, help: &'a str) -> Arg<'a>
-    ensures { IsWord name.entry.now result }
-{
+fn word<'a>(alloc: Global, name: &'a str, help: &'a str) -> Arg<'a> {
     Arg::new(alloc, name)
         .help(help)
         .required(true)
         .action(ArgAction::Set)
 }
 
-fn folder_word<'a>(alloc: Global) -> Arg<'a>
-    ensures { IsWord (codes "FOLDER") result }
-{
+fn folder_word<'a>(alloc: Global) -> Arg<'a> {
     word(
         alloc,
         "FOLDER",
@@ -28,16 +21,12 @@ fn folder_word<'a>(alloc: Global) -> Arg<'a>
     )
 }
 
-fn file_word<'a>(alloc: Global, help: &'a str) -> Arg<'a>
-    ensures { IsWord (codes "FILE") result }
-{
+fn file_word<'a>(alloc: Global, help: &'a str) -> Arg<'a> {
     word(alloc, "FILE", help)
 }
 
 // A negative number is taken for the value that is none, and not for an option.
-fn limit_word<'a>(alloc: Global) -> Arg<'a>
-    ensures { IsLimit (codes "LIMIT") result }
-{
+fn limit_word<'a>(alloc: Global) -> Arg<'a> {
     word(
         alloc,
         "LIMIT",
@@ -48,45 +37,12 @@ fn limit_word<'a>(alloc: Global) -> Arg<'a>
 }
 
 /// A command that has no words yet: the one that has commands of its own has none.
-pub(crate) fn wordless<'a>(alloc: Global, help: Help) -> Result<Command<'a>, AllocError>
-    ensures { IfOk result IsWordless }
-{
+pub(crate) fn wordless<'a>(alloc: Global, help: Help) -> Result<Command<'a>, AllocError> {
     Command::new(alloc, help.name)
         .about(help.about)
         .after_help(help.after)
         .no_binary_name(true)
         .bin_name(help.called)
-}
-
-/// A command that asks for a folder.
-pub(crate) fn over_folder<'a>(alloc: Global, help: Help) -> Result<Command<'a>, AllocError>
-    ensures { IfOk result (Asks (codes "FOLDER" ∷ [])) }
-{
-    let start = wordless(alloc, help)?;
-    start.arg(folder_word(alloc))
-}
-
-/// A command that asks for a file.
-pub(crate) fn over_file<'a>(
-    alloc: Global,
-    help: Help,
-    file: &'a str,
-) -> Result<Command<'a>, AllocError>
-    ensures { IfOk result (Asks (codes "FILE" ∷ [])) }
-{
-    let start = wordless(alloc, help)?;
-    start.arg(file_word(alloc, file))
-}
-
-/// A command that asks for a folder and a file.
-pub(crate) fn over_folder_and_file<'a>(
-    alloc: Global,
-    help: Help,
-    file: &'a str,
-) -> Result<Command<'a>, AllocError>
-    ensures { IfOk result (Asks (codes "FOLDER" ∷ codes "FILE" ∷ [])) }
-{
-    over_folder(alloc, help)?.arg(file_word(alloc, file))
 }
 
 // Some words, as they stand.
@@ -107,25 +63,6 @@ fn quote_flag<'a>(alloc: Global) -> Arg<'a> {
         .action(ArgAction::SetTrue)
 }
 
-/// A command that asks for a folder, a folder for reports, and files.
-pub(crate) fn over_files<'a>(alloc: Global, help: Help) -> Result<Command<'a>, AllocError> {
-    over_folder(alloc, help)?
-        .arg(word(alloc, "TARGET", "An existing folder for the reports"))?
-        .arg(file_words(alloc))?
-        .arg(quote_flag(alloc))
-}
-
-/// A command that asks for a folder, a file and a limit on visits.
-pub(crate) fn under_limit<'a>(
-    alloc: Global,
-    help: Help,
-    file: &'a str,
-) -> Result<Command<'a>, AllocError>
-    ensures { IfOk result AsksForLimit }
-{
-    over_folder_and_file(alloc, help, file)?.arg(limit_word(alloc))
-}
-
 /// What a command asks for.
 #[derive(Clone, Copy)]
 pub(crate) enum Asked {
@@ -139,15 +76,27 @@ pub(crate) enum Asked {
     FoldersAndFiles,
 }
 
-// Makes a command that asks for what `asked` says.
-fn asking<'a>(alloc: Global, help: Help, asked: Asked) -> Result<Command<'a>, AllocError> {
+/// Makes a command that asks for what `asked` says.
+pub(crate) fn asking<'a>(
+    alloc: Global,
+    help: Help,
+    asked: Asked,
+) -> Result<Command<'a>, AllocError> {
+    let start = wordless(alloc, help)?;
     match asked {
-        Asked::Nothing => wordless(alloc, help),
-        Asked::Folder => over_folder(alloc, help),
-        Asked::File(file) => over_file(alloc, help, file),
-        Asked::FolderAndFile(file) => over_folder_and_file(alloc, help, file),
-        Asked::FolderFileAndLimit(file) => under_limit(alloc, help, file),
-        Asked::FoldersAndFiles => over_files(alloc, help),
+        Asked::Nothing => Ok(start),
+        Asked::Folder => start.arg(folder_word(alloc)),
+        Asked::File(file) => start.arg(file_word(alloc, file)),
+        Asked::FolderAndFile(file) => start.arg(folder_word(alloc))?.arg(file_word(alloc, file)),
+        Asked::FolderFileAndLimit(file) => start
+            .arg(folder_word(alloc))?
+            .arg(file_word(alloc, file))?
+            .arg(limit_word(alloc)),
+        Asked::FoldersAndFiles => start
+            .arg(folder_word(alloc))?
+            .arg(word(alloc, "TARGET", "An existing folder for the reports"))?
+            .arg(file_words(alloc))?
+            .arg(quote_flag(alloc)),
     }
 }
 

@@ -1,25 +1,14 @@
-// What the words of a command line ask for.
+// What the arguments of a command line ask for.
 
-ghost use Rattle.std.specs.Prelude.{◌≡◌, [], Ok, Some, IfErr, IfOk, codes, map, string_bytes};
-ghost use Rattle.star_words.specs.Private.Asked.{HasLimit, HasWord, IsCommandFault, IsFolderFault, IsParsersFault, IsReportsFault};
-ghost use Rattle.star_schema.specs.Most.{most_rows};
-ghost use Rattle.star_words.specs.Requests.{HasFolders, HasMostRows, HasTaskFolder, IsFolderName, IsNamed, IsOfMostRows, IsWordsFault, task_name};
-ghost use Rattle.star_words.specs.declared.request.Request.TheVariants.{Answer};
-ghost use Rattle.star_words.specs.declared.request.Task.TheVariants.{Sample};
+ghost use Rattle.std.specs.Prelude.{◌≡◌, ◌∷◌, IfOk, MatchResult, OnOk, map, string_bytes};
+ghost use Rattle.star_words.specs.Private.Parting.{AreArguments, IsAdded, IsLimited, IsMade, texts};
+ghost use Rattle.star_words.specs.Requests as spec;
+ghost use Rattle.star_words.specs.Requests.{IsRequest, IsWordsFault, request_asked};
 
 use crate::fault::WordsFault;
-use crate::help::{
-    BENCH, CHECK, EITHER_FILE, EXEC, EXPLAIN, Help, PROGRAM_FILE, QUERY, QUERY_FILE, QUOTE,
-    REPORTS, SESSION, STAR, TABLES, TRIAL,
-};
-use crate::parser::{
-    Asked, asking_all, over_file, over_files, over_folder, over_folder_and_file, under_limit,
-    wordless,
-};
-use clap::{ArgMatches, Command};
-use star_schema::{Limits, MOST_ROWS};
+use crate::refusal::parsed;
+use star_schema::{Limits, MOST_ROWS, MOST_VISITS};
 use std::alloc::{AllocError, Global};
-use std::convert::AsStr;
 
 /// What the program is to do.
 #[derive(Clone, Copy)]
@@ -84,231 +73,207 @@ pub struct Reports<'a> {
     pub is_quote: bool,
 }
 
-// The commands, in the order in which help lists them.
-const COMMANDS: [(Help, Asked); 10] = [
-    (CHECK, Asked::Folder),
-    (BENCH, Asked::Folder),
-    (QUERY, Asked::FolderAndFile(QUERY_FILE)),
-    (EXPLAIN, Asked::File(QUERY_FILE)),
-    (EXEC, Asked::FolderAndFile(PROGRAM_FILE)),
-    (QUOTE, Asked::FolderAndFile(EITHER_FILE)),
-    (TRIAL, Asked::FolderFileAndLimit(PROGRAM_FILE)),
-    (SESSION, Asked::Folder),
-    (REPORTS, Asked::FoldersAndFiles),
-    (TABLES, Asked::Nothing),
-];
+/// The most files that reports are asked of.
+const MOST_FILES: usize = 1_000;
 
-// Apart from the chain of calls, in which its clause, over all fields of a command, is dear to prove.
-fn versioned<'a>(star: Command<'a>) -> Command<'a> {
-    star.version("0.1.0")
+// The arguments of a command: after `--`, which ends the options, every one is an operand.
+#[derive(Drop)]
+struct Arguments<'a> {
+    operands: Vec<&'a str>,
+    options: Vec<&'a str>,
+    is_ended: bool,
 }
 
-// The program with its commands, for help and for what is wrong with words that name none.
-fn star_command<'a>(alloc: Global) -> Result<Command<'a>, AllocError> {
-    let commands = asking_all(alloc, &COMMANDS)?;
-    versioned(wordless(alloc, STAR)?).subcommands(commands)
-}
-
-// The value of a word that the parser lets not be missing.
-fn given<'a>(matches: &ArgMatches<'a>, name: &str) -> &'a str
-    requires { HasWord matches.now name.now }
+// Whether an argument is an option.
+fn is_option(word: &str) -> bool
+    ensures { result ≡ spec.is_option word.now }
 {
-    matches.get_str(name).unwrap()
+    word.len() > 1 && word.as_bytes()[0] == b'-'
 }
 
-fn folder_given<'a>(matches: &ArgMatches<'a>) -> Result<&'a str, WordsFault>
-    requires { HasWord matches.now (codes "FOLDER") }
-    ensures name { IfOk result (λ folder. IsFolderName folder.now) }
-    ensures fault { IfErr result IsFolderFault }
-{
-    let folder = given(matches, "FOLDER");
-    if folder.is_empty() {
-        return Err(WordsFault::EmptyFolder);
-    }
-    Ok(folder)
-}
-
-// The widest limits, but for the visits of LIMIT, which the parser lets be no other number.
-fn limits_given(matches: &ArgMatches<'_>) -> Limits
-    requires { HasLimit matches.now (codes "LIMIT") }
-    ensures { result.rows ≡ most_rows }
-{
-    Limits {
-        rows: MOST_ROWS,
-        visits: matches.get_one("LIMIT").unwrap(),
+impl<'a> Arguments<'a> {
+    // Adds the next argument.
+    fn add(&mut self, word: &'a str) -> Result<(), AllocError>
+        ensures { OnOk result (IsAdded self.old word.now self.new) }
+    {
+        if self.is_ended {
+            self.operands.push(word)?;
+        } else if word == "--" {
+            self.is_ended = true;
+        } else if is_option(word) {
+            self.options.push(word)?;
+        } else {
+            self.operands.push(word)?;
+        }
+        Ok(())
     }
 }
 
-fn folder_of<'a>(alloc: Global, help: Help, words: &'a [String]) -> Result<&'a str, WordsFault>
-    ensures name { IfOk result (λ folder. IsFolderName folder.now) }
-    ensures fault { IfErr result IsFolderFault }
+// Separates the operands and the options of a command.
+fn arguments_of<'a>(alloc: Global, words: &'a [String]) -> Result<Arguments<'a>, AllocError>
+    ensures { IfOk result (AreArguments (map string_bytes words.now)) }
 {
-    let command = over_folder(alloc, help)?;
-    let matches = command.try_get_matches_from(words)?;
-    folder_given(&matches)
+    let mut arguments = Arguments {
+        operands: Vec::new(alloc),
+        options: Vec::new(alloc),
+        is_ended: false,
+    };
+    for word in words {
+        arguments.add(word.as_str())?;
+    }
+    Ok(arguments)
 }
 
-fn file_of<'a>(
-    alloc: Global,
-    help: Help,
-    file: &'a str,
-    words: &'a [String],
-) -> Result<&'a str, WordsFault>
-    ensures { IfErr result IsParsersFault }
+// The limits of a trial: the widest, but for the visits.
+fn limits_of(limit: &str) -> Option<Limits>
+    ensures { IsLimited (spec.limit_of limit.now) result }
 {
-    let command = over_file(alloc, help, file)?;
-    let matches = command.try_get_matches_from(words)?;
-    Ok(given(&matches, "FILE"))
+    match limit.parse::<u64>() {
+        Ok(visits) if visits <= MOST_VISITS => Some(Limits {
+            rows: MOST_ROWS,
+            visits,
+        }),
+        _ => None,
+    }
 }
 
-fn folder_and_file_of<'a>(
-    alloc: Global,
-    help: Help,
-    file: &'a str,
-    words: &'a [String],
-) -> Result<(&'a str, &'a str), WordsFault>
-    ensures name { IfOk result (λ named. IsFolderName named.0.now) }
-    ensures fault { IfErr result IsFolderFault }
+fn with_one<'a>(command: &str, operand: &'a str) -> Option<Request<'a>>
+    ensures { IsMade (spec.with_one command.now operand.now) result }
 {
-    let command = over_folder_and_file(alloc, help, file)?;
-    let matches = command.try_get_matches_from(words)?;
-    Ok((folder_given(&matches)?, given(&matches, "FILE")))
+    Some(match command {
+        "check" => Request::Answer(Task::Check { folder: operand }),
+        "bench" => Request::Answer(Task::Bench { folder: operand }),
+        "session" => Request::Session { folder: operand },
+        "explain" => Request::Answer(Task::Explain { file: operand }),
+        _ => return None,
+    })
 }
 
-fn trial_given<'a>(matches: &ArgMatches<'a>) -> Result<Task<'a>, WordsFault>
-    requires folder { HasWord matches.now (codes "FOLDER") }
-    requires file { HasWord matches.now (codes "FILE") }
-    requires limit { HasLimit matches.now (codes "LIMIT") }
-    ensures named { IfOk result (λ task. task_name task ≡ Some (codes "trial")) }
-    ensures folder { IfOk result HasTaskFolder }
-    ensures fault { IfErr result IsFolderFault }
-    ensures rows { IfOk result HasMostRows }
+fn with_two<'a>(command: &str, folder: &'a str, file: &'a str) -> Option<Request<'a>>
+    ensures { IsMade (spec.with_two command.now folder.now file.now) result }
 {
-    let folder = folder_given(matches)?;
-    let file = given(matches, "FILE");
-    let limits = limits_given(matches);
-    Ok(Task::Trial {
+    Some(Request::Answer(match command {
+        "query" => Task::Query { folder, file },
+        "exec" => Task::Exec { folder, file },
+        "quote" => Task::Quote { folder, file },
+        _ => return None,
+    }))
+}
+
+fn with_three<'a>(command: &str, folder: &'a str, file: &'a str, limit: &str) -> Option<Request<'a>>
+    ensures { IsMade (spec.with_three command.now folder.now file.now limit.now) result }
+{
+    if command != "trial" {
+        return None;
+    }
+    let limits = limits_of(limit)?;
+    Some(Request::Answer(Task::Trial {
         folder,
         file,
         limits,
-    })
+    }))
 }
 
-fn trial_of<'a>(alloc: Global, words: &'a [String]) -> Result<Task<'a>, WordsFault>
-    ensures named { IfOk result (λ task. task_name task ≡ Some (codes "trial")) }
-    ensures folder { IfOk result HasTaskFolder }
-    ensures fault { IfErr result IsFolderFault }
-    ensures rows { IfOk result HasMostRows }
+// What a command without options asks for.
+fn plain<'a>(command: &str, operands: &[&'a str]) -> Option<Request<'a>>
+    ensures { IsMade (spec.plain command.now (texts operands.now)) result }
 {
-    let command = under_limit(alloc, TRIAL, PROGRAM_FILE)?;
-    let matches = command.try_get_matches_from(words)?;
-    trial_given(&matches)
-}
-
-fn parsed<'a, S: AsStr>(alloc: Global, words: &'a [S]) -> Result<ArgMatches<'a>, WordsFault>
-    ensures { IfErr result IsParsersFault }
-{
-    Ok(star_command(alloc)?.try_get_matches_from(words)?)
-}
-
-// What is said of words whose first names no command: they may ask for help or the version.
-fn no_command<'a, S: AsStr>(alloc: Global, words: &'a [S]) -> WordsFault
-    ensures { IsCommandFault result }
-{
-    match parsed(alloc, words) {
-        Ok(_) => WordsFault::NoCommand,
-        Err(fault) => fault,
+    match operands {
+        [one] => with_one(command, one),
+        [one, two] => with_two(command, one, two),
+        [one, two, three] => with_three(command, one, two, three),
+        _ => None,
     }
 }
 
-// The folder that a word names. The parser lets no word be missing.
-fn folder_named<'a>(matches: &ArgMatches<'a>, name: &str) -> Result<&'a str, WordsFault>
-    ensures name { IfOk result (λ folder. IsFolderName folder.now) }
-    ensures fault { IfErr result IsReportsFault }
+// What `reports` asks for.
+fn reports_of<'a>(
+    alloc: Global,
+    is_quote: bool,
+    operands: &[&'a str],
+) -> Result<Option<Request<'a>>, AllocError>
+    ensures { IfOk result (IsMade (spec.reports_of is_quote (texts operands.now))) }
 {
-    match matches.get_str(name) {
-        Some("") => Err(WordsFault::EmptyFolder),
-        Some(folder) => Ok(folder),
-        None => Err(WordsFault::NoCommand),
-    }
-}
-
-fn reports_given<'a>(alloc: Global, matches: &ArgMatches<'a>) -> Result<Reports<'a>, WordsFault>
-    ensures names { IfOk result (λ asked. IsFolderName asked.folder.now × IsFolderName asked.target.now) }
-    ensures fault { IfErr result IsReportsFault }
-{
-    let Some(files) = matches.get_strs("FILE") else {
-        return Err(WordsFault::NoCommand);
+    let [folder, target, files @ ..] = operands else {
+        return Ok(None);
     };
-    let folder = folder_named(matches, "FOLDER")?;
-    let target = folder_named(matches, "TARGET")?;
-    Ok(Reports {
+    if files.is_empty() || files.len() > MOST_FILES {
+        return Ok(None);
+    }
+    Ok(Some(Request::Reports(Reports {
         folder,
         target,
         files: files.to_vec(alloc)?,
-        is_quote: matches.get_flag("quote"),
-    })
+        is_quote,
+    })))
 }
 
-fn reports_of<'a>(alloc: Global, words: &'a [String]) -> Result<Reports<'a>, WordsFault>
-    ensures names { IfOk result (λ asked. IsFolderName asked.folder.now × IsFolderName asked.target.now) }
-    ensures fault { IfErr result IsReportsFault }
+// What a command asks for, if its arguments are right.
+fn asked_by<'a>(
+    alloc: Global,
+    command: &str,
+    arguments: &Arguments<'a>,
+) -> Result<Option<Request<'a>>, AllocError>
+    ensures { IfOk result (IsMade (spec.asked_by command.now (texts arguments.now.options.items)
+        (texts arguments.now.operands.items))) }
 {
-    let command = over_files(alloc, REPORTS)?;
-    let matches = command.try_get_matches_from(words)?;
-    reports_given(alloc, &matches)
+    let operands = arguments.operands.as_slice();
+    match arguments.options.as_slice() {
+        [] if command == "reports" => reports_of(alloc, false, operands),
+        [] => Ok(plain(command, operands)),
+        [option] if command == "reports" && *option == "--quote" => {
+            reports_of(alloc, true, operands)
+        }
+        _ => Ok(None),
+    }
 }
 
-// Each command's words are parsed by themselves: of the command that is parsed the parser's clauses
-// say that the required words are there, and of one inside it little more than its name.
-/// Tells what `words` ask for, which are those of a command line without the program's own name: the
-/// first is the name of a command, and of no words an answer over the sample is asked for. The name of
-/// no folder is empty. Only the visits of a trial have a limit that is asked for. On `Err` the words ask
-/// for nothing that can be done, or for help or the version, or memory was refused.
+// Whether the names of the folders of a request are not empty.
+fn names_folders(request: &Request<'_>) -> bool
+    ensures { result ≡ spec.names_folders (request_asked request.now) }
+{
+    match request {
+        Request::Answer(Task::Sample | Task::Explain { .. }) => true,
+        Request::Answer(
+            Task::Check { folder }
+            | Task::Bench { folder }
+            | Task::Query { folder, .. }
+            | Task::Exec { folder, .. }
+            | Task::Quote { folder, .. }
+            | Task::Trial { folder, .. },
+        )
+        | Request::Session { folder } => !folder.is_empty(),
+        Request::Reports(asked) => !asked.folder.is_empty() && !asked.target.is_empty(),
+    }
+}
+
+// Whether help or the version may be asked for.
+fn may_ask_help(command: &str, arguments: &Arguments<'_>) -> bool
+    ensures { result ≡ spec.may_ask_by command.now (texts arguments.now.options.items) }
+{
+    command == "help" || command == "tables" || is_option(command) || !arguments.options.is_empty()
+}
+
+/// Returns the request in the arguments of a command line, `words`, without the program's own name.
+/// The first is the name of a command; without arguments the sample is asked for.
+///
+/// `clap` parses the arguments first, and its error is returned if there is one. On `Ok` the request
+/// is `asked words`, a function of the arguments alone. On `Err` the parser refused the arguments or
+/// printed help, they make no request, a folder's name is empty, or memory ran out.
 pub fn request_of<'a>(alloc: Global, words: &'a [String]) -> Result<Request<'a>, WordsFault>
-    ensures none { words.now ≡ [] → result ≡ Ok (Answer Sample) }
-    ensures fault { IfErr result (IsWordsFault (map string_bytes words.now)) }
-    ensures named { IfOk result (IsNamed (map string_bytes words.now)) }
-    ensures folders { IfOk result HasFolders }
-    ensures rows { IfOk result IsOfMostRows }
+    ensures { MatchResult result (IsRequest (map string_bytes words.now))
+        (IsWordsFault (map string_bytes words.now)) }
 {
-    let Some((name, rest)) = words.split_first() else {
+    let Some((command, rest)) = words.split_first() else {
         return Ok(Request::Answer(Task::Sample));
     };
-    let task = match name.as_str() {
-        "check" => {
-            let folder = folder_of(alloc, CHECK, rest)?;
-            Task::Check { folder }
-        }
-        "bench" => {
-            let folder = folder_of(alloc, BENCH, rest)?;
-            Task::Bench { folder }
-        }
-        "query" => {
-            let (folder, file) = folder_and_file_of(alloc, QUERY, QUERY_FILE, rest)?;
-            Task::Query { folder, file }
-        }
-        "explain" => {
-            let file = file_of(alloc, EXPLAIN, QUERY_FILE, rest)?;
-            Task::Explain { file }
-        }
-        "exec" => {
-            let (folder, file) = folder_and_file_of(alloc, EXEC, PROGRAM_FILE, rest)?;
-            Task::Exec { folder, file }
-        }
-        "quote" => {
-            let (folder, file) = folder_and_file_of(alloc, QUOTE, EITHER_FILE, rest)?;
-            Task::Quote { folder, file }
-        }
-        "trial" => trial_of(alloc, rest)?,
-        "session" => {
-            let folder = folder_of(alloc, SESSION, rest)?;
-            return Ok(Request::Session { folder });
-        }
-        "reports" => return Ok(Request::Reports(reports_of(alloc, rest)?)),
-        // What help says of the tables is all that there is to say of them.
-        "tables" if rest.is_empty() => return Err(no_command(alloc, &["help", "tables"])),
-        _ => return Err(no_command(alloc, words)),
-    };
-    Ok(Request::Answer(task))
+    let arguments = arguments_of(alloc, rest)?;
+    if let Err(fault) = parsed(alloc, words, may_ask_help(command.as_str(), &arguments)) {
+        return Err(fault);
+    }
+    match asked_by(alloc, command.as_str(), &arguments)? {
+        Some(request) if names_folders(&request) => Ok(request),
+        Some(_) => Err(WordsFault::EmptyFolder),
+        None => Err(WordsFault::NoCommand),
+    }
 }
