@@ -1,7 +1,6 @@
 -- The rows of a deferred store in the end are those of an eager one.
-use Rattle.std.proofs.Common.{◌≡◌, ℕ, ◌-◌, ◌≤◌, Bool, true, false, ◌&&◌, ℤ, List, [], ◌∷◌, Option, length, take, ap, sym, ◌∙◌, subst, refl, arith}
-use Rattle.star_group.proofs.Common.{list_any, AllByRecursion, and-false, or-false, ∥∥₁_map, map-id, at_each, of_each, Aggregate, Shape, Plain, Cube, Rollup, is_grouping, KeyValue, KeyPart, AreGrouped, HasBaseWithRoom, IsRowOver, puts_with, row_found, is_of_put, key_eq, padded}
-use Rattle.star_group.proofs.Common.{vary, IsRolledUp, IsRolledUpWithRoom, first_hidden, is_among, keys_from, group_with, Update, Group}
+use Rattle.star_group.proofs.Common.{◌≡◌, ℕ, ◌-◌, ◌≤◌, Bool, true, false, ◌&&◌, ℤ, List, [], ◌∷◌, Option, length, take, ap, sym, ◌∙◌, subst, refl, arith, list_any, AllByRecursion, and-false, or-false, ∥∥₁_map, map-id, at_each, of_each, Aggregate, Shape, Plain, Cube, Rollup, is_grouping}
+use Rattle.star_group.proofs.Common.{KeyValue, KeyPart, AreGrouped, HasBaseWithRoom, IsRowOver, puts_with, row_found, is_of_put, key_eq, padded, vary, IsRolledUp, IsRolledUpWithRoom, first_hidden, is_among, keys_from, group_with, Update, Group, AreOnce}
 use Rattle.star_group.proofs.GroupKeys.{key_decides, own_grouping, plain_among}
 use Rattle.star_group.proofs.OwnKeyLemmas.{vary-start}
 use Rattle.star_group.proofs.Passes.{filter_same}
@@ -28,9 +27,9 @@ base_among s count q ks fits few =
 
 pub base_rolled : (d : Group) (es : List (List KeyPart × List (Option ℤ))) (us : List Update)
     → d.count ≤ 6 → AllByRecursion (λ u. length u.keys ≡ d.count) us
-    → ((q : List (Option KeyValue)) → IsRowOver d (puts_with q us) (row_found es q))
+    → ((q : List (Option KeyValue)) → IsRowOver d (puts_with q us) (row_found es q)) → AreOnce es
     → IsRolledUp d d.count es us
-base_rolled d es us few fit rows = record {
+base_rolled d es us few fit rows once = record {
   fit = fit;
   rows = λ q. subst (λ ps. IsRowOver d ps (row_found es q))
       (filter_same (λ u. key_eq q (padded 6 u.keys))
@@ -39,17 +38,18 @@ base_rolled d es us few fit rows = record {
       (λ u c. sym (base_among d.shape d.count q u.keys
       (at_each (λ w. length w.keys ≡ d.count) us u fit c) few))))
       (rows q);
+  once = once;
 }
 
 pub base_room : (shape : Shape) (count : ℕ) (gs : List Aggregate)
     (es : List (List KeyPart × List (Option ℤ))) (all : List (Option ℤ)) → count ≤ 6
-    → HasBaseWithRoom (group_with shape count gs) es all
+    → HasBaseWithRoom (group_with shape count gs) es all → AreOnce es
     → ∥ IsRolledUpWithRoom shape count gs count es ∥₁
-base_room shape count gs es all few room = ∥∥₁_map room (λ r. record {
+base_room shape count gs es all few room once = ∥∥₁_map room (λ r. record {
   puts = r.0;
   below = omega arith;
   few = few;
-  rows = base_rolled (group_with shape count gs) es r.0 few r.1.fit r.1.rows;
+  rows = base_rolled (group_with shape count gs) es r.0 few r.1.fit r.1.rows once;
   room = r.2;
 })
 

@@ -1,12 +1,9 @@
 -- The base rows of puts, with one put more.
-use Rattle.std.proofs.Common.{◌≡◌, ℕ, Bool, true, false, ℤ, List, [], ◌∷◌, Option, Some, None, Result, Ok, Err, OnOk, OnErr, length, get_or, cond, ap, sym, ◌∙◌, refl, subst, true≢false, arith}
-use Rattle.star_group.proofs.Common.{filter, list_any, unwrap_or, or_left, Aggregate, numbers_for, KeyValue, leaves, Update, aggregate_at, KeyPart, AreGrouped, HasAggregates, HasBaseWithRoom, IsBase, IsRowOver, key_view, puts_with, row_found, held, key_eq, padded, Shape, TakesPut}
-use Rattle.star_group.proofs.Common.{group_with, IsMerged, IsMergedAt, IsMergedInto, IsRowOfOnePut, MergeStays, RowsStay, cell_of_one_put, merged, Group, HasRoom, put_number, AddUp, IsContent, key_lists, same_keys}
-use Rattle.star_group.specs.Stores.{above_zero, below_zero}
-use Rattle.star_group.proofs.KeyLists.{keys_equiv}
+use Rattle.star_group.proofs.Common.{◌≡◌, ℕ, Bool, true, false, ℤ, List, [], ◌∷◌, Option, Some, None, length, get_or, cond, ap, sym, ◌∙◌, refl, subst, filter, unwrap_or, Aggregate, numbers_for, KeyValue, leaves, Update, aggregate_at, KeyPart, AreGrouped, HasAggregates, HasBaseWithRoom, IsBase}
+use Rattle.star_group.proofs.Common.{IsRowOver, key_view, puts_with, row_found, key_eq, padded, IsMerged, IsMergedAt, IsMergedInto, IsRowOfOnePut, MergeStays, RowsStay, cell_of_one_put, merged, Group, put_number, AreInBits, Sum, Count, Min, Max}
+use Rattle.star_group.specs.Cells.{held}
 use Rattle.star_group.proofs.GroupKeys.{key_decides, key_equiv}
 use Rattle.star_group.proofs.Merging.{held_none, held_one, merged_comm, merged_more, no_puts, row_of_one}
-use Rattle.star_group.proofs.Rooms.{held_stays}
 
 -- ---- look-ups after a row was merged in
 
@@ -46,7 +43,7 @@ module _ (d : Group) (us : List Update) (u : Update) (row : List (Option ℤ))
       (refl, merged_more d u us held_row row m.0 one was.1 m.2)
 
   -- no SUM and no COUNT leaves its bits
-  pub merge_stays : (all : List Update) (p : List KeyValue → Bool) → HasRoom d all
+  pub merge_stays : (all : List Update) (p : List KeyValue → Bool) → AreInBits d all
       → filter (λ w. p w.keys) all ≡ u ∷ us → (held_row : List (Option ℤ))
       → HasAggregates d us held_row → MergeStays d.aggregates held_row row
   merge_stays all p room is held_row so_far = λ place h.
@@ -57,15 +54,15 @@ module _ (d : Group) (us : List Update) (u : Update) (row : List (Option ℤ))
       (Some (cell_of_one_put g (put_number place u)))
       ∙ sym (held_one g (put_number place u) (numbers_for place us))
       ∙ ap (λ ws. held g (numbers_for place ws)) (sym is))
-      ∙ held_stays d all room p place h
+      ∙ room p place h
 
-  pub rows_stay : (all : List Update) (p : List KeyValue → Bool) → HasRoom d all
+  pub rows_stay : (all : List Update) (p : List KeyValue → Bool) → AreInBits d all
       → filter (λ w. p w.keys) all ≡ u ∷ us → (found : Option (List (Option ℤ)))
       → IsRowOver d us found → RowsStay d.aggregates found row
   rows_stay all p room is None was = tt
   rows_stay all p room is (Some held_row) was = merge_stays all p room is held_row was.1
 
-  pub total_stays : HasRoom d (u ∷ us) → (all : List (Option ℤ)) → HasAggregates d us all
+  pub total_stays : AreInBits d (u ∷ us) → (all : List (Option ℤ)) → HasAggregates d us all
       → MergeStays d.aggregates all row
   total_stays room = merge_stays (u ∷ us) (λ ks. true) room (filter_all (u ∷ us))
 
@@ -102,7 +99,7 @@ module _ (d : Group) (us : List Update) (u : Update) (key : List KeyPart) (row :
           (sym (other_row d.aggregates (key_view key) row es fs at q
           (ap (key_eq q) is_key ∙ e))) (base.rows q))
 
-  pub base_stays : HasRoom d (u ∷ us) → RowsStay d.aggregates (row_found es (key_view key)) row
+  pub base_stays : AreInBits d (u ∷ us) → RowsStay d.aggregates (row_found es (key_view key)) row
   base_stays room =
       let q : List (Option KeyValue) = padded 6 u.keys in
       subst (λ r. RowsStay d.aggregates r row) (sym (ap (row_found es) is_key))
@@ -126,43 +123,17 @@ no_base d es blank e none =
           λ place h. none place ∙ sym (held_none (aggregate_at d.aggregates place));
     })
 
--- ---- room
+-- ---- no puts are in their bits
 
--- after a put that is taken, or refused
-pub room_after : {T E : Type 0} (r : Result T E) (shape : Shape) (n : ℕ) (gs hs : List Aggregate)
-    (u : Update) (us : List Update) (es fs : List (List KeyPart × List (Option ℤ)))
-    (all total : List (Option ℤ)) → length u.keys ≡ n → gs ≡ hs
-    → IsBase (group_with shape n hs) es all us → HasRoom (group_with shape n hs) (u ∷ us)
-    → HasBaseWithRoom (group_with shape n hs) es all
-    → OnOk r (TakesPut gs u es all fs total) → OnErr r (fs ≡ es) → OnErr r (total ≡ all)
-    → HasBaseWithRoom (group_with shape n hs) fs total
-room_after (Ok x) shape n gs hs u us es fs all total fits same base room has takes e h =
-    let d : group_with shape (length u.keys) gs ≡ group_with shape n hs =
-    (λ i. group_with shape (fits i) (same i)) in
-    ∣ (
-      u ∷ us,
-      subst (λ g. IsBase g fs total (u ∷ us)) d
-          (takes shape us (subst (λ g. IsBase g es all us) (sym d) base)),
-      room,
-    ) ∣₁
-room_after (Err x) shape n gs hs u us es fs all total fits same base room has takes e h =
-    subst (λ xs. HasBaseWithRoom (group_with shape n hs) xs total) (sym e)
-    (subst (HasBaseWithRoom (group_with shape n hs) es) (sym h) has)
-
-no_content : (d : Group) (content : List Update) → IsContent d [] content → content ≡ []
-no_content d [] is = refl
-no_content d (e ∷ es) is =
-    absurd (true≢false (sym (or_left (same_keys e.keys e.keys)
-    (list_any (same_keys e.keys) (key_lists es)) (keys_equiv.refl e.keys)) ∙ is.keys e.keys))
-
-pub no_room : (d : Group) → HasRoom d []
-unfolding above_zero below_zero
-no_room d = record {
-  sums = λ content is place h same.
-      subst (λ es. AddUp (numbers_for place es)) (sym (no_content d content is))
-      (record { above = omega arith; below = omega arith });
-  counts = λ place h same. omega arith;
-}
+pub no_room : (d : Group) → AreInBits d []
+unfolding held
+no_room d p place h = by (aggregate_at d.aggregates place)
+  where
+    by : (g : Aggregate) → leaves g (held g []) ≡ false
+    by Sum = refl
+    by Count = refl
+    by Min = refl
+    by Max = refl
 
 pub new_room : (d : Group) (es : List (List KeyPart × List (Option ℤ))) (blank : List (Option ℤ))
     → es ≡ [] → ((place : ℕ) → get_or blank place None ≡ None) → HasBaseWithRoom d es blank

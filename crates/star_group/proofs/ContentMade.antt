@@ -1,7 +1,6 @@
 -- Each list of puts has a content.
-use Rattle.std.proofs.Common.{◌≡◌, ℕ, zero, suc, ◌+◌, ◌<◌, Bool, true, false, ◌||◌, ℤ, pos, ◌+ℤ◌, List, [], ◌∷◌, Option, Some, None, length, map, get_or, cond, ap, sym, ◌∙◌, subst, refl, arith, true≢false}
-use Rattle.star_group.proofs.Common.{int_min, int_max, list_any, AllByRecursion, unwrap_or, false_from_ne_true, list_any-from_Any, list_any-from_Contains, from_contains_map, of_each, Aggregate, Sum, Count, Min, Max, aggregate, joined, numbers_for, KeyValue, same_keys, Update, aggregate_at}
-use Rattle.star_group.proofs.Common.{Group, IsContent, key_lists, put_number, puts_of}
+use Rattle.star_group.proofs.Common.{◌≡◌, ℕ, zero, suc, ◌+◌, ◌<◌, Bool, true, false, ◌||◌, ℤ, pos, ◌+ℤ◌, List, [], ◌∷◌, Option, Some, None, length, map, get_or, cond, ap, sym, ◌∙◌, subst, refl, arith, true≢false, int_min, int_max, list_any, AllByRecursion, unwrap_or, false_from_ne_true}
+use Rattle.star_group.proofs.Common.{list_any-from_Any, list_any-from_Contains, from_contains_map, of_each, Aggregate, Sum, Count, Min, Max, aggregate, joined, numbers_for, KeyValue, same_keys, Update, aggregate_at, Group, IsContent, key_lists, put_number, puts_of}
 use Rattle.std.specs.List.{IsDistinct}
 use Rattle.star_group.proofs.JoinedParts.{joined_more, more}
 use Rattle.star_group.proofs.KeyLists.{keys_decide, keys_equiv, some_put}

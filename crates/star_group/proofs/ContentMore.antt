@@ -1,7 +1,6 @@
 -- A content with one put more is a content of the puts and it.
-use Rattle.std.proofs.Common.{◌≡◌, ℕ, ◌<◌, Bool, true, false, ◌||◌, ℤ, List, [], ◌∷◌, Some, None, length, cond, ap, sym, ◌∙◌, subst, refl, true≢false}
-use Rattle.star_group.proofs.Common.{list_any, AllByRecursion, Aggregate, aggregate, numbers_for, KeyValue, same_keys, step, IsWithPut, Update, aggregate_at, Group, IsContent, key_lists, put_number, puts_of}
-use Rattle.std.specs.Prelude.{if◌then◌else◌}
+use Rattle.star_group.proofs.Common.{◌≡◌, ℕ, ◌<◌, Bool, true, false, ◌||◌, ℤ, List, [], ◌∷◌, Some, None, length, cond, ap, sym, ◌∙◌, subst, refl, true≢false, list_any, AllByRecursion, Aggregate, aggregate, numbers_for, KeyValue, same_keys, step, IsWithPut, Update, aggregate_at, Group, IsContent}
+use Rattle.star_group.proofs.Common.{key_lists, put_number, puts_of, if◌then◌else◌}
 use Rattle.std.specs.List.{IsDistinct}
 use Rattle.star_group.specs.Cells.{held}
 use Rattle.star_group.specs.OneMore.{group_aggregate}

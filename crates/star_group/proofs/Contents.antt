@@ -1,7 +1,7 @@
 -- From the rows of a map to the content of a store.
-use Rattle.std.proofs.Common.{◌≡◌, ◌⊎◌, ℕ, ◌<◌, ◌≤◌, Bool, true, false, ℤ, List, [], ◌∷◌, Option, Some, None, Result, Ok, Err, OnOk, IfErr, IfOk, length, get_or, replicate, ap, sym, ◌∙◌, subst, refl, cond, arith, inl, inr, true≢false}
-use Rattle.star_group.proofs.Common.{unwrap_or, false_from_ne_true, UnlessMemory, Aggregate, IsMasked, aggregate, is_grouping, members, numbers_for, KeyValue, key_value_cmp, IsOwn, leaves, Update, overflows, aggregate_at, overflow_somewhere, somewhere_overflows, held, AreGrouped}
-use Rattle.star_group.proofs.Common.{HasAggregates, IsRowOver, puts_in, row_found, EagerStore, KeyPart, entries_of, is_of_put, IsMerged, IsRowOfOnePut, MergeLeaves, MergeStays, cell_of_one_put, merged, merged_at, AllStay, MergesAll, PutsRows, SomeLeaves, Group, put_number}
+use Rattle.star_group.proofs.Common.{◌≡◌, ◌⊎◌, ℕ, ◌<◌, ◌≤◌, Bool, true, false, ℤ, List, [], ◌∷◌, Option, Some, None, Result, Ok, Err, OnOk, IfErr, IfOk, length, get_or, replicate, ap, sym, ◌∙◌, subst, refl, cond, arith, inl, inr, true≢false, unwrap_or, false_from_ne_true, UnlessMemory}
+use Rattle.star_group.proofs.Common.{Aggregate, IsMasked, aggregate, is_grouping, members, numbers_for, KeyValue, key_value_cmp, IsOwn, leaves, Update, overflows, aggregate_at, overflow_somewhere, somewhere_overflows, held, AreGrouped, HasAggregates, IsRowOver, puts_in, row_found, EagerStore}
+use Rattle.star_group.proofs.Common.{KeyPart, entries_of, is_of_put, IsMerged, IsRowOfOnePut, MergeLeaves, MergeStays, cell_of_one_put, merged, merged_at, AllStay, MergesAll, PutsRows, SomeLeaves, Group, put_number}
 use Rattle.star_group.specs.Eager.{group_view, Has}
 use Rattle.star_group.proofs.Bases.{more_over}
 use Rattle.star_group.proofs.GroupKeys.{all_members, in_places, masked_length, members_at, of_put, own_belongs, put_belongs}
@@ -148,7 +148,7 @@ module _ (s : EagerStore) (u : Update) (gs : List Aggregate) (row : List (Option
   one_put = subst (λ g. IsRowOfOnePut g u.values row) is_gs is_row
 
   few_keys : s.key_count ≤ 6
-  few_keys = omega (arith, s.wide, s.rows.trie.few)
+  few_keys = omega (arith, s.wide, s.rows.listed.few)
 
   abbrev Puts : List Aggregate → (List (Option KeyValue) → Option (List (Option ℤ))) → Type 0
   Puts g new = PutsRows (is_of_put s.shape u.keys) g row (row_found (entries_of s.rows)) new

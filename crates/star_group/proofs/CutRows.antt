@@ -1,8 +1,16 @@
 -- Flat lists cut into rows.
-use Rattle.std.proofs.Common.{◌≡◌, ℕ, zero, suc, ◌+◌, ◌-◌, ◌*◌, ◌<◌, ◌≤◌, List, [], ◌∷◌, ◌++◌, length, get_or, set, take, drop, ap, sym, ◌∙◌, arith, refl}
-use Rattle.star_group.proofs.Common.{put_mid, append_assoc, drop-append-le, drop_at, drop-drop, get_or-drop, get_or-take, length-append, length-drop, length-take-le, take-append-drop, take-append-le, take_all, take_at, drop-put_mid, take-put_mid, mul-le-mul_right, suc-mul, zero-mul}
-use Rattle.star_group.proofs.Common.{cut_at}
+use Rattle.star_group.proofs.Common.{◌≡◌, ℕ, zero, suc, ◌+◌, ◌-◌, ◌*◌, ◌<◌, ◌≤◌, List, [], ◌∷◌, ◌++◌, length, get_or, set, take, drop, ap, sym, ◌∙◌, arith, put_mid, append_assoc, drop-append-le, drop_at, drop-drop, get_or-drop, get_or-take, length-drop, length-take-le, take-append-drop}
+use Rattle.star_group.proofs.Common.{take-append-le, take_all, take_at, drop-put_mid, take-put_mid, mul-le-mul_right, suc-mul, zero-mul, cut_at}
 use Rattle.star_program.specs.Rows.{cut}
+
+-- the length of more rows
+pub rows_long : (w m n total : ℕ) → total ≡ m + n → total * w ≡ m * w + n * w
+rows_long w m zero total all =
+    let same : total ≡ m = omega (arith, all) in
+    omega (arith, ap (λ k. k * w) same, zero-mul w)
+rows_long w m (suc n) zero all = absurd (omega (arith, all))
+rows_long w m (suc n) (suc total) all =
+    omega (arith, rows_long w m n total (omega (arith, all)), suc-mul total w, suc-mul n w)
 
 module _ {T : Type 0} (w : ℕ) where
   enough : (n : ℕ) (ps : List T) → length ps ≡ suc n * w → w ≤ length ps
@@ -18,37 +26,21 @@ module _ {T : Type 0} (w : ℕ) where
   cut_wide (suc n) ps zero long h = length-take-le w ps (enough n ps long)
   cut_wide (suc n) ps (suc i) long h = cut_wide n (drop w ps) i (fewer n ps long) (omega (arith, h))
 
-  -- the rows from one on
-  pub cut_from : (n i : ℕ) (ps : List T) → i ≤ n
-      → cut w (n - i) (drop (i * w) ps) ≡ drop i (cut w n ps)
+  pub cut_append : (m n total : ℕ) (ps qs : List T) → total ≡ n + m → length ps ≡ n * w
+      → cut w total (ps ++ qs) ≡ cut w n ps ++ cut w m qs
   unfolding cut
-  cut_from n zero ps h = let all : n - 0 ≡ n = omega arith in rw (all, zero-mul w) refl
-  cut_from zero (suc i) ps h = absurd (omega (arith, h))
-  cut_from (suc n) (suc i) ps h =
-      let less : suc n - suc i ≡ n - i = omega arith in
-      let more : suc i * w ≡ w + i * w = omega (arith, suc-mul i w) in
-      (λ k. cut w (less k) ((ap (λ m. drop m ps) more ∙ sym (drop-drop (i * w) w ps)) k))
-      ∙ cut_from n i (drop w ps) (omega (arith, h))
+  cut_append m zero total [] qs all long =
+      ap (λ k. cut w k qs) (let same : total ≡ m = omega (arith, all) in same)
+  cut_append m zero total (p ∷ ps) qs all long = absurd (omega (arith, long, zero-mul w))
+  cut_append m (suc n) zero ps qs all long = absurd (omega (arith, all))
+  cut_append m (suc n) (suc total) ps qs all long =
+      λ i. take-append-le w ps qs (enough n ps long) i
+      ∷ (ap (cut w total) (drop-append-le w ps qs (enough n ps long))
+      ∙ cut_append m n total (drop w ps) qs (omega (arith, all)) (fewer n ps long)) i
 
-  pub length-from : (n i : ℕ) (ps : List T) → i ≤ n → length ps ≡ n * w
-      → length (drop (i * w) ps) ≡ (n - i) * w
-  length-from n zero ps h long = let all : n - 0 ≡ n = omega arith in rw (all, zero-mul w) long
-  length-from zero (suc i) ps h long = absurd (omega (arith, h))
-  length-from (suc n) (suc i) ps h long =
-      let less : suc n - suc i ≡ n - i = omega arith in
-      let more : suc i * w ≡ w + i * w = omega (arith, suc-mul i w) in
-      ap length (ap (λ m. drop m ps) more ∙ sym (drop-drop (i * w) w ps))
-      ∙ length-from n i (drop w ps) (omega (arith, h)) (fewer n ps long)
-      ∙ ap (λ m. m * w) (sym less)
-
-  pub cut_more : (n : ℕ) (ps row : List T) → length ps ≡ n * w → length row ≡ w
-      → cut w (suc n) (ps ++ row) ≡ cut w n ps ++ row ∷ []
+  pub cut_one : (row : List T) → length row ≡ w → cut w 1 row ≡ row ∷ []
   unfolding cut
-  cut_more zero [] row long wide = ap (λ r. r ∷ []) (take_all w row (omega (arith, wide)))
-  cut_more zero (p ∷ ps) row long wide = absurd (omega (arith, long, zero-mul w))
-  cut_more (suc n) ps row long wide = λ i. take-append-le w ps row (enough n ps long) i
-      ∷ (ap (cut w (suc n)) (drop-append-le w ps row (enough n ps long))
-      ∙ cut_more n (drop w ps) row (fewer n ps long) wide) i
+  cut_one row wide = ap (λ r. r ∷ []) (take_all w row (omega (arith, wide)))
 
   -- a row in place of another
   pub cut_set : (n : ℕ) (before old row after : List T) (i : ℕ) → i < n → length before ≡ i * w
@@ -69,26 +61,6 @@ module _ {T : Type 0} (w : ℕ) where
       ∙ sym (take-append-le w before (old ++ after) some)) k
       ∷ (ap (cut w n) (drop-append-le w before (row ++ after) some) ∙ rest
       ∙ ap (λ ps. set (cut w n ps) i row) (sym (drop-append-le w before (old ++ after) some))) k
-
-  pub cut_one : (n : ℕ) (ps qs row : List T) → length ps ≡ n * w → length row ≡ w → qs ≡ ps ++ row
-      → cut w (n + 1) qs ≡ cut w n ps ++ row ∷ []
-  cut_one n ps qs row long wide is =
-      (λ i. cut w ((let one : n + 1 ≡ suc n = omega arith in one) i) (is i))
-      ∙ cut_more n ps row long wide
-
-  pub more_long : (n : ℕ) (ps qs row : List T) → length ps ≡ n * w → length row ≡ w → qs ≡ ps ++ row
-      → length qs ≡ (n + 1) * w
-  more_long n ps qs row long wide is =
-      let one : n + 1 ≡ suc n = omega arith in
-      omega (
-        arith,
-        ap length is,
-        length-append ps row,
-        long,
-        wide,
-        ap (λ m. m * w) one,
-        suc-mul n w,
-      )
 
   module _ (n i : ℕ) (ps : List T) (h : i < n) (long : length ps ≡ n * w) where
     room : i * w + w ≤ length ps

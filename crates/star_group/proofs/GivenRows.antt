@@ -1,6 +1,5 @@
 -- What stands in a row that a store gives.
-use Rattle.std.proofs.Common.{◌≡◌, ℕ, zero, suc, ◌<◌, ◌≤◌, ℤ, List, [], ◌∷◌, ◌++◌, Option, Some, None, length, get_or, map, take, ap, refl, sym, ◌∙◌, arith}
-use Rattle.star_group.proofs.Common.{get_or-take, get_or_past, length-take, Aggregate, KeyPart, key_view, all_hidden, nothing_given, row_shown, shown, row_at}
+use Rattle.star_group.proofs.Common.{◌≡◌, ℕ, zero, suc, ◌<◌, ◌≤◌, ℤ, List, [], ◌∷◌, ◌++◌, Option, Some, None, length, get_or, map, take, ap, refl, sym, ◌∙◌, arith, get_or-take, get_or_past, length-take, Aggregate, KeyPart, key_view, all_hidden, nothing_given, row_shown, shown, row_at}
 
 module _ (nothing : Option (List (Option ℤ))) (count : ℕ) where
   pub keys_shown : (es : List (List KeyPart × List (Option ℤ))) (number : ℕ) → number < length es

@@ -1,6 +1,6 @@
 -- Numbers of puts, joined by an operation: by key lists first, or all at once.
-use Rattle.std.proofs.Common.{◌≡◌, Bool, true, false, ◌&&◌, ◌||◌, ℤ, List, [], ◌∷◌, Option, Some, None, map, cond, ap, sym, ◌∙◌, refl, true≢false}
-use Rattle.star_group.proofs.Common.{list_any, AllByRecursion, IsDistinct, filter, and-false, All-from_recursion, list_any_none, IsDistinct-head, IsDistinct-tail, joined, KeyValue, same_keys, Update, key_lists}
+use Rattle.star_group.proofs.Common.{◌≡◌, Bool, true, false, ◌&&◌, ◌||◌, ℤ, List, [], ◌∷◌, Option, Some, None, map, cond, ap, sym, ◌∙◌, refl, true≢false, list_any, AllByRecursion, IsDistinct, filter, and-false, All-from_recursion, list_any_none, IsDistinct-head, IsDistinct-tail, joined}
+use Rattle.star_group.proofs.Common.{KeyValue, same_keys, Update, key_lists}
 use Rattle.star_group.proofs.KeyLists.{keys_decide, keys_equiv}
 use Rattle.star_group.proofs.Totals.{joined_none, joined_some}
 

@@ -1,16 +1,14 @@
 -- Rows in flat storage with their keys: what stands at a number, one row more, and one changed.
-use Rattle.std.proofs.Common.{◌≡◌, ℕ, zero, suc, ◌-◌, ◌*◌, ◌<◌, ◌≤◌, Bool, true, false, ℤ, List, [], ◌∷◌, ◌++◌, Option, Some, None, Result, Ok, Err}
-use Rattle.std.proofs.Common.{OnOk, cond, length, get_or, get_or-set_same, set, slice_get, map, take, drop, ap, sym, ◌∙◌, subst, refl, arith}
-use Rattle.star_group.proofs.Common.{AllByRecursion, filter, list_any, keys_of, lookup, drop_at, get_or-take, length-map, length-set, length-take-le, take-append-drop, take_at, lookup_from_place, place_from_lookup, slice_get-get_or, slice_get-map, slice_get_within, KeyValue, KeyPart, All}
-use Rattle.star_group.proofs.Common.{KeyedRows, key_view, row_found, key_value_view, entries_of, all_hidden, filled, key_eq, padded, vary, AreOnce, shown_entries, IsMerged, IsMergedAt, IsWithRow, MergeStays, RowsStay, Aggregate, Shape, option_map, unwrap_or, with_items, and_parts}
-use Rattle.star_group.proofs.Common.{false_from_ne_true, list_any-from_Contains, contains_mapped, of_each, AreNarrow, IsNarrow, is_row_key, IsHeld, IsMissing, length-cut}
+use Rattle.star_group.proofs.Common.{◌≡◌, ℕ, zero, suc, ◌-◌, ◌<◌, ◌≤◌, Bool, true, false, ◌||◌, ℤ, List, [], ◌∷◌, ◌++◌, Option, Some, None, Result, Ok, Err, OnOk, cond, length, get_or, get_or-set_same, set, slice_get, map, take, drop, ap, sym, ◌∙◌, subst, refl, arith, true≢false, AllByRecursion}
+use Rattle.star_group.proofs.Common.{filter, list_any, keys_of, lookup, get_or-take, length-map, length-set, take_at, lookup_from_place, place_from_lookup, slice_get-get_or, slice_get-map, slice_get_within, KeyValue, KeyPart, All, KeyedRows, key_view, row_found, key_value_view, entries_of}
+use Rattle.star_group.proofs.Common.{all_hidden, filled, key_eq, padded, vary, AreOnce, shown_entries, IsMerged, IsMergedAt, IsWithRow, Aggregate, Shape, option_map, unwrap_or, with_items, and_parts, false_from_ne_true, list_any-from_Contains, contains_mapped, of_each, AreNarrow, IsNarrow}
+use Rattle.star_group.proofs.Common.{is_row_key, IsHeld, IsMissing, keys_in, IsDistinct-push, IsDistinct-head, IsDistinct-tail, Contains, get_or_from_slice_get, at_each, append_assoc, cut, append-nil}
 use Rattle.std.specs.List.{IsDistinct}
 use Rattle.star_group.specs.declared.keyed.key.KeyPart.TheVariants.{Number, Code}
-use Rattle.star_program.specs.Rows.{cut}
 use Rattle.star_group.specs.Keyed.{keyed}
-use Rattle.star_group.proofs.CutRows.{cut_from, cut_wide}
 use Rattle.star_group.proofs.GroupKeys.{among_vary, any_kept, in_padded, in_places, key_decides, key_equiv, masked_length}
 use Rattle.star_group.proofs.Passes.{IsOnceAt}
+use Rattle.star_group.proofs.ListedRows.{key_count, key_wide, keyed_at, length-keyed, narrow_filled, row_count, same}
 
 -- ---- entries, each of whose keys is there once
 
@@ -59,56 +57,40 @@ row_once es once j e at =
     ∙ lookup_from_place key_equiv (shown_entries es) j (key_view e.0) e.1
     once (slice_get-map show es j ∙ ap (option_map show) at)
 
-pub row_there : (es : List (List KeyPart × List (Option ℤ))) → IsOnceAt es
-    → (j : ℕ) (e : List KeyPart × List (Option ℤ)) → slice_get es j ≡ Some e
-    → row_found es (key_view e.0) ≡ Some e.1
-row_there es once = row_once es (distinct_once es once)
+contained : {A : Type 0} (xs : List A) (i : ℕ) (x : A) → slice_get xs i ≡ Some x → Contains xs x
+contained xs i x e = (i, slice_get_within xs i x e, get_or_from_slice_get xs i x x e)
+
+distinct_at : (ks : List (List (Option KeyValue))) (i j : ℕ) (k : List (Option KeyValue))
+    → slice_get ks i ≡ Some k → slice_get ks j ≡ Some k → IsDistinct key_eq ks → i ≡ j
+distinct_at [] i j k a b d = absurd (let no : ⊥ = cc a in no)
+distinct_at (x ∷ ks) zero zero k a b d = refl
+distinct_at (x ∷ ks) zero (suc j) k a b d =
+    let is : x ≡ k = cc a in
+    absurd (true≢false (sym (key_equiv.refl k) ∙ ap (λ y. key_eq y k) (sym is)
+    ∙ at_each (λ y. key_eq x y ≡ false) ks k (IsDistinct-head key_eq x ks d)
+    (contained ks j k b)))
+distinct_at (x ∷ ks) (suc i) zero k a b d =
+    let is : x ≡ k = cc b in
+    absurd (true≢false (sym (key_equiv.refl k) ∙ ap (λ y. key_eq y k) (sym is)
+    ∙ at_each (λ y. key_eq x y ≡ false) ks k (IsDistinct-head key_eq x ks d)
+    (contained ks i k a)))
+distinct_at (x ∷ ks) (suc i) (suc j) k a b d =
+    ap suc (distinct_at ks i j k a b (IsDistinct-tail key_eq x ks d))
+
+pub once_at : (es : List (List KeyPart × List (Option ℤ))) → AreOnce es → IsOnceAt es
+once_at es once i j e f at_i at_j same =
+    distinct_at (keys_of (shown_entries es)) i j (key_view e.0) (key_at i e at_i)
+    (key_at j f at_j ∙ ap Some (sym same)) once
+  where
+    key_at : (n : ℕ) (e : List KeyPart × List (Option ℤ)) → slice_get es n ≡ Some e
+        → slice_get (keys_of (shown_entries es)) n ≡ Some (key_view e.0)
+    key_at n e at =
+        slice_get-map (λ (p : List (Option KeyValue) × List (Option ℤ)). p.0) (shown_entries es) n
+        ∙ ap (option_map (λ (p : List (Option KeyValue) × List (Option ℤ)). p.0))
+        (slice_get-map (λ (e : List KeyPart × List (Option ℤ)). (key_view e.0, e.1)) es n
+        ∙ ap (option_map (λ (e : List KeyPart × List (Option ℤ)). (key_view e.0, e.1))) at)
 
 -- ---- keys beside rows
-
-pub length-keyed : (ks : List (List KeyPart)) (cs : List (List (Option ℤ))) → length ks ≡ length cs
-    → length (keyed ks cs) ≡ length ks
-unfolding keyed
-length-keyed [] cs e = refl
-length-keyed (k ∷ ks) [] e = absurd (omega (arith, e))
-length-keyed (k ∷ ks) (c ∷ cs) e = ap suc (length-keyed ks cs (omega (arith, e)))
-
-pub keyed_at : (ks : List (List KeyPart)) (cs : List (List (Option ℤ))) (i : ℕ)
-    → length ks ≡ length cs → i < length ks
-    → get_or (keyed ks cs) i ([], []) ≡ (filled (get_or ks i []), get_or cs i [])
-unfolding keyed
-keyed_at [] cs i e h = absurd (omega (arith, h))
-keyed_at (k ∷ ks) [] i e h = absurd (omega (arith, e))
-keyed_at (k ∷ ks) (c ∷ cs) zero e h = refl
-keyed_at (k ∷ ks) (c ∷ cs) (suc i) e h = keyed_at ks cs i (omega (arith, e)) (omega (arith, h))
-
--- those from one on
-pub keyed_from : (ks : List (List KeyPart)) (cs : List (List (Option ℤ))) (i : ℕ)
-    → length ks ≡ length cs → keyed (drop i ks) (drop i cs) ≡ drop i (keyed ks cs)
-unfolding keyed
-keyed_from ks cs zero e = refl
-keyed_from [] cs (suc i) e = refl
-keyed_from (k ∷ ks) [] (suc i) e = absurd (omega (arith, e))
-keyed_from (k ∷ ks) (c ∷ cs) (suc i) e = keyed_from ks cs i (omega (arith, e))
-
-pub keyed_more : (ks : List (List KeyPart)) (cs : List (List (Option ℤ))) (k : List KeyPart)
-    (c : List (Option ℤ)) → length ks ≡ length cs
-    → keyed (ks ++ k ∷ []) (cs ++ c ∷ []) ≡ keyed ks cs ++ (filled k, c) ∷ []
-unfolding keyed
-keyed_more [] [] k c e = refl
-keyed_more [] (x ∷ cs) k c e = absurd (omega (arith, e))
-keyed_more (j ∷ ks) [] k c e = absurd (omega (arith, e))
-keyed_more (j ∷ ks) (x ∷ cs) k c e =
-    ap (λ es. (filled j, x) ∷ es) (keyed_more ks cs k c (omega (arith, e)))
-
-none_keyed : (w m : ℕ) (ps : List KeyPart) (ns : List (Option ℤ))
-    → keyed (cut w 0 ps) (cut m 0 ns) ≡ []
-unfolding cut keyed
-none_keyed w m ps ns = refl
-
-pub no_entries : (w m n : ℕ) (ps : List KeyPart) (ns : List (Option ℤ)) → n ≡ 0
-    → keyed (cut w n ps) (cut m n ns) ≡ []
-no_entries w m n ps ns e = ap (λ k. keyed (cut w k ps) (cut m k ns)) e ∙ none_keyed w m ps ns
 
 -- a row of another key is as it was
 others_set : (ks : List (List KeyPart)) (cs : List (List (Option ℤ))) (n : ℕ)
@@ -141,6 +123,61 @@ row_more (e ∷ es) k c q new =
     by true false never later = refl
     by false b never later = later never
 
+-- a row of a key that no row has
+pub merged_new : (gs : List Aggregate) (es : List (List KeyPart × List (Option ℤ)))
+    (k : List KeyPart) (more row : List (Option ℤ)) → row_found es (key_view k) ≡ None
+    → ((place : ℕ) → place < length gs → get_or row place None ≡ get_or more place None)
+    → IsMergedAt gs (key_view k) more es (es ++ (k, row) ∷ [])
+merged_new gs es k more row none all = (
+  row,
+  subst (λ found. IsMerged gs (unwrap_or found []) more row) (sym none) all,
+  λ q. row_more es k row q (λ e. ap (row_found es) ((key_decides q (key_view k)).0 e) ∙ none),
+)
+
+keys_more : (fs : List (List KeyPart × List (Option ℤ))) (k : List KeyPart) (r : List (Option ℤ))
+    → keys_of (shown_entries (fs ++ (k, r) ∷ [])) ≡ keys_of (shown_entries fs) ++ key_view k ∷ []
+keys_more [] k r = refl
+keys_more (f ∷ fs) k r = ap (λ ks. key_view f.0 ∷ ks) (keys_more fs k r)
+
+none_among : (fs : List (List KeyPart × List (Option ℤ))) (q : List (Option KeyValue))
+    → row_found fs q ≡ None → list_any (key_eq q) (keys_of (shown_entries fs)) ≡ false
+none_among [] q e = refl
+none_among (f ∷ fs) q e = by (key_eq q (key_view f.0)) e (none_among fs q)
+  where
+    by : (b : Bool) → cond b (Some f.1) (row_found fs q) ≡ None
+        → (row_found fs q ≡ None → list_any (key_eq q) (keys_of (shown_entries fs)) ≡ false)
+        → (b || list_any (key_eq q) (keys_of (shown_entries fs))) ≡ false
+    by true e later = absurd (let no : Some f.1 ≡ None = e in cc no)
+    by false e later = later e
+
+pub once_more : (fs : List (List KeyPart × List (Option ℤ))) (k : List KeyPart) (r : List (Option ℤ))
+    → row_found fs (key_view k) ≡ None → AreOnce fs → AreOnce (fs ++ (k, r) ∷ [])
+once_more fs k r none once =
+    subst (IsDistinct key_eq) (sym (keys_more fs k r))
+    (IsDistinct-push key_equiv (keys_of (shown_entries fs)) (key_view k) once
+    (none_among fs (key_view k) none))
+
+all_after : (es fs : List (List KeyPart × List (Option ℤ))) (k : List KeyPart)
+    (c : List (Option ℤ)) → AllByRecursion (λ f. row_found es (key_view f.0) ≡ None) fs
+    → AllByRecursion (λ m. key_eq (key_view k) m ≡ false) (keys_of (shown_entries fs))
+    → AllByRecursion (λ f. row_found (es ++ (k, c) ∷ []) (key_view f.0) ≡ None) fs
+all_after es [] k c none apart = tt
+all_after es (f ∷ fs) k c none apart = (
+  row_more es k c (key_view f.0) (λ e. none.0)
+      ∙ (λ i. cond ((key_equiv.symm (key_view f.0) (key_view k) ∙ apart.0) i) (Some c) (none.0 i)),
+  all_after es fs k c none.1 apart.1,
+)
+
+-- rows after others whose keys they do not have
+pub once_joined : (es fs : List (List KeyPart × List (Option ℤ))) → AreOnce es → AreOnce fs
+    → AllByRecursion (λ f. row_found es (key_view f.0) ≡ None) fs → AreOnce (es ++ fs)
+unfolding IsDistinct
+once_joined es [] once others none = subst AreOnce (sym (append-nil es)) once
+once_joined es (f ∷ fs) once others none =
+    subst AreOnce (append_assoc es (f ∷ []) fs)
+    (once_joined (es ++ f ∷ []) fs (once_more es f.0 f.1 none.0 once) others.1
+    (all_after es fs f.0 f.1 none.1 others.0))
+
 -- ---- keys in six places
 
 value_once : (p r : KeyPart) → key_value_view p ≡ key_value_view r → p ≡ r
@@ -162,18 +199,6 @@ key_once (p ∷ ps) (r ∷ rs) e =
     let first : key_value_view p ≡ key_value_view r = cc e in
     let rest : key_view ps ≡ key_view rs = cc e in
     λ i. value_once p r first i ∷ key_once ps rs rest i
-
--- a key in six places is its first parts, where past them there is ALL
-pub narrow_filled : (w : ℕ) (key : List KeyPart) → w ≤ length key → drop w key ≡ drop w all_hidden
-    → filled (take w key) ≡ key
-narrow_filled w key few narrow =
-    ap (λ n. take w key ++ drop n all_hidden) (length-take-le w key few)
-    ∙ ap (λ ps. take w key ++ ps) (sym narrow) ∙ take-append-drop w key
-
-pub filled_narrow : (w : ℕ) (key : List KeyPart) → length key ≡ w
-    → drop w (filled key) ≡ drop w all_hidden
-filled_narrow w key long =
-    drop_at key (drop (length key) all_hidden) w long ∙ ap (λ n. drop n all_hidden) long
 
 -- ---- rows with each key once
 
@@ -206,7 +231,7 @@ module _ (w : ℕ) (ks : List (List KeyPart)) (cs : List (List (Option ℤ)))
       → row_found (keyed ks cs) (key_view (filled (get_or ks n []))) ≡ Some (get_or cs n [])
   held_row n h =
       let among : n < length (keyed ks cs) = omega (arith, h, length-keyed ks cs same) in
-      row_there (keyed ks cs) once_keyed n (filled (get_or ks n []), get_or cs n [])
+      row_once (keyed ks cs) (distinct_once (keyed ks cs) once_keyed) n (filled (get_or ks n []), get_or cs n [])
       (slice_get-get_or (keyed ks cs) n ([], []) among ∙ ap Some (keyed_at ks cs n same h))
 
   pub no_row : (key : List KeyPart) → ((n : ℕ) → n < length ks → get_or ks n [] ≡ take w key → ⊥)
@@ -247,137 +272,74 @@ module _ (w : ℕ) (ks : List (List KeyPart)) (cs : List (List (Option ℤ)))
       by true e = ap (row_found (keyed ks (set cs n row)))
           ((key_decides q (key_view key)).0 e ∙ ap key_view (sym is)) ∙ set_found n row h
 
-  -- one row more
-  pub with_one : (key : List KeyPart) (row : List (Option ℤ)) → filled (take w key) ≡ key
-      → ((n : ℕ) → n < length ks → get_or ks n [] ≡ take w key → ⊥)
-      → IsWithRow (key_view key) row (keyed ks cs) (keyed (ks ++ take w key ∷ []) (cs ++ row ∷ []))
-  with_one key row whole none q =
-      ap (λ es. row_found es q)
-      (keyed_more ks cs (take w key) row same ∙ ap (λ k. keyed ks cs ++ (k, row) ∷ []) whole)
-      ∙ row_more (keyed ks cs) key row q
-      (λ e. ap (row_found (keyed ks cs)) ((key_decides q (key_view key)).0 e)
-      ∙ no_row w ks cs same wide once key none)
-
 -- ---- the rows of a store
 
 module _ (rows : KeyedRows) where
   abbrev ks : List (List KeyPart)
-  ks = cut rows.trie.width rows.trie.len rows.trie.keys.items
+  ks = keys_in rows
 
   abbrev cs : List (List (Option ℤ))
-  cs = cut rows.aggregate_count rows.trie.len rows.cells.items
+  cs = cut rows.listed.aggregate_count rows.listed.len rows.listed.cells.items
 
-  key_count : length ks ≡ rows.trie.len
-  key_count = length-cut rows.trie.width rows.trie.len rows.trie.keys.items
-
-  same : length ks ≡ length cs
-  same = key_count ∙ sym (length-cut rows.aggregate_count rows.trie.len rows.cells.items)
-
-  wide : (i : ℕ) → i < length ks → length (get_or ks i []) ≡ rows.trie.width
-  wide i h = cut_wide rows.trie.width rows.trie.len rows.trie.keys.items i rows.trie.long
-      (omega (arith, h, key_count))
+  wide : (i : ℕ) → i < length ks → length (get_or ks i []) ≡ rows.listed.width
+  wide i h = key_wide rows.listed i (omega (arith, h, key_count rows.listed, row_count rows.listed))
 
   pub once_rows : IsOnceAt (entries_of rows)
-  once_rows = once_keyed rows.trie.width ks cs same wide rows.trie.trie.once
+  once_rows = once_keyed rows.listed.width ks cs (same rows.listed) wide rows.trie.once
 
   pub rows_once : AreOnce (entries_of rows)
   rows_once = distinct_once (entries_of rows) once_rows
 
-  pub row_count : length (entries_of rows) ≡ rows.trie.len
-  row_count = length-keyed ks cs same ∙ key_count
-
-  pub entry_at : (number : ℕ) → number < length (entries_of rows)
-      → get_or (entries_of rows) number ([], [])
-      ≡ (filled (get_or ks number []), get_or cs number [])
-  entry_at number h = keyed_at ks cs number same (omega (arith, h, row_count, key_count))
-
-  -- the rows from one on, listed
-  pub rows_from : (from : ℕ) → from ≤ length (entries_of rows)
-      → (js : List KeyPart) (ds : List (Option ℤ))
-      → js ≡ drop (from * rows.trie.width) rows.trie.keys.items
-      → ds ≡ drop (from * rows.aggregate_count) rows.cells.items
-      → keyed (cut rows.trie.width (rows.trie.len - from) js)
-      (cut rows.aggregate_count (rows.trie.len - from) ds) ≡ drop from (entries_of rows)
-  rows_from from within js ds keys cells =
-      let few : from ≤ rows.trie.len = omega (arith, within, row_count) in
-      (λ i. keyed ((ap (cut rows.trie.width (rows.trie.len - from)) keys
-      ∙ cut_from rows.trie.width rows.trie.len from rows.trie.keys.items few) i)
-      ((ap (cut rows.aggregate_count (rows.trie.len - from)) cells
-      ∙ cut_from rows.aggregate_count rows.trie.len from rows.cells.items few) i))
-      ∙ keyed_from ks cs from same
-
-  pub cells_wide : (number : ℕ) → number < length (entries_of rows)
-      → length (get_or cs number []) ≡ rows.aggregate_count
-  cells_wide number h = cut_wide rows.aggregate_count rows.trie.len rows.cells.items number
-      rows.long (omega (arith, h, row_count))
-
   module _ (key : List KeyPart) (long : length key ≡ 6)
-      (narrow : drop rows.trie.width key ≡ drop rows.trie.width all_hidden) where
-    whole : filled (take rows.trie.width key) ≡ key
-    whole = narrow_filled rows.trie.width key (omega (arith, rows.trie.few, long)) narrow
-
-    module _ (number : ℕ) (held : IsHeld ks (take rows.trie.width key) number) where
+      (narrow : drop rows.listed.width key ≡ drop rows.listed.width all_hidden) where
+    module _ (number : ℕ) (held : IsHeld ks (take rows.listed.width key) number) where
       is : filled (get_or ks number []) ≡ key
-      is = ap filled held.is ∙ whole
+      is = ap filled held.is
+          ∙ narrow_filled rows.listed.width key (omega (arith, rows.listed.few, long)) narrow
 
-      pub number_within : number < rows.trie.len
-      number_within = omega (arith, held.within, key_count)
+      pub number_within : number < rows.listed.len
+      number_within = omega (arith, held.within, key_count rows.listed)
+
+      pub number_among : number < length (entries_of rows)
+      number_among = omega (arith, number_within, row_count rows.listed)
 
       pub row_held : row_found (entries_of rows) (key_view key) ≡ Some (get_or cs number [])
       row_held = ap (λ k. row_found (entries_of rows) (key_view k)) (sym is)
-          ∙ held_row rows.trie.width ks cs same wide rows.trie.trie.once number held.within
-
-      pub number_among : number < length (entries_of rows)
-      number_among = omega (arith, number_within, row_count)
-
-      pub held_stays : (gs : List Aggregate) (more : List (Option ℤ))
-          → RowsStay gs (row_found (entries_of rows) (key_view key)) more
-          → MergeStays gs (get_or (entries_of rows) number ([], [])).1 more
-      held_stays gs more stays =
-          subst (λ (e : List KeyPart × List (Option ℤ)). MergeStays gs e.1 more)
-          (sym (entry_at number number_among)) (subst (λ r. RowsStay gs r more) row_held stays)
+          ∙ held_row rows.listed.width ks cs (same rows.listed) wide rows.trie.once number
+          held.within
 
       pub set_held : (row : List (Option ℤ)) (ns : List (Option ℤ))
-          → cut rows.aggregate_count rows.trie.len ns ≡ set cs number row
-          → length ns ≡ rows.cells.len
+          → cut rows.listed.aggregate_count rows.listed.len ns ≡ set cs number row
+          → length ns ≡ rows.listed.cells.len
           → IsWithRow (key_view key) row (entries_of rows)
-          (keyed ks (cut rows.aggregate_count rows.trie.len (with_items rows.cells ns).items))
+          (keyed ks (cut rows.listed.aggregate_count rows.listed.len
+          (with_items rows.listed.cells ns).items))
       set_held row ns e many =
           subst (λ xs. IsWithRow (key_view key) row (entries_of rows) (keyed ks xs))
-          (sym (ap (cut rows.aggregate_count rows.trie.len)
-          (take_at ns (drop (length ns) rows.cells.items) rows.cells.len many) ∙ e))
-          (with_set rows.trie.width ks cs same wide rows.trie.trie.once number key row held.within
-          is)
+          (sym (ap (cut rows.listed.aggregate_count rows.listed.len)
+          (take_at ns (drop (length ns) rows.listed.cells.items) rows.listed.cells.len many) ∙ e))
+          (with_set rows.listed.width ks cs (same rows.listed) wide rows.trie.once number key row
+          held.within is)
 
     module _ (node digit : ℕ)
-        (slot : IsMissing rows.trie.width ks rows.trie.links.items (take rows.trie.width key) node
+        (slot : IsMissing rows.listed.width ks rows.links.items (take rows.listed.width key) node
         digit) where
       pub row_missing : row_found (entries_of rows) (key_view key) ≡ None
-      row_missing = no_row rows.trie.width ks cs same wide rows.trie.trie.once key slot.none
-
-      pub push_missing : (row : List (Option ℤ)) (js : List (List KeyPart))
-          (ds : List (List (Option ℤ))) → js ≡ ks ++ take rows.trie.width key ∷ []
-          → ds ≡ cs ++ row ∷ [] → IsWithRow (key_view key) row (entries_of rows) (keyed js ds)
-      push_missing row js ds keys cells =
-          subst (λ xs. IsWithRow (key_view key) row (entries_of rows) (keyed xs ds)) (sym keys)
-          (subst (λ xs. IsWithRow (key_view key) row (entries_of rows)
-          (keyed (ks ++ take rows.trie.width key ∷ []) xs)) (sym cells)
-          (with_one rows.trie.width ks cs same wide rows.trie.trie.once key row whole slot.none))
+      row_missing = no_row rows.listed.width ks cs (same rows.listed) wide rows.trie.once key
+          slot.none
 
       -- what is merged in is all that there is
       pub merged_missing : {T E : Type 0} (r : Result T E) (gs : List Aggregate)
           (more : List (Option ℤ)) (fs : List (List KeyPart × List (Option ℤ)))
-          → length gs ≡ rows.aggregate_count
-          → OnOk r (IsWithRow (key_view key) (take rows.aggregate_count more) (entries_of rows) fs)
+          → length gs ≡ rows.listed.aggregate_count
+          → OnOk r (fs ≡ entries_of rows ++ (key, take rows.listed.aggregate_count more) ∷ [])
           → OnOk r (IsMergedAt gs (key_view key) more (entries_of rows) fs)
-      merged_missing (Err x) gs more fs count with_row = tt
-      merged_missing (Ok x) gs more fs count with_row = (
-        take rows.aggregate_count more,
-        subst (λ found. IsMerged gs (unwrap_or found []) more (take rows.aggregate_count more))
-            (sym row_missing) (λ place h.
-            get_or-take rows.aggregate_count more place None (omega (arith, h, count))),
-        with_row,
-      )
+      merged_missing (Err x) gs more fs count is = tt
+      merged_missing (Ok x) gs more fs count is =
+          subst (IsMergedAt gs (key_view key) more (entries_of rows)) (sym is)
+          (merged_new gs (entries_of rows) key more (take rows.listed.aggregate_count more)
+          row_missing (λ place h.
+          get_or-take rows.listed.aggregate_count more place None (omega (arith, h, count))))
 
 -- ---- keys past whose parts there is ALL
 

@@ -19,8 +19,8 @@ pub mod Bases
 pub mod Tries
 pub mod Passes
 pub mod Rolling
-pub mod KeyedRows
 pub mod ListedRows
+pub mod KeyedRows
 pub mod MergedRows
 pub mod AllRows
 pub mod Worked

@@ -1,8 +1,59 @@
 -- What stands at a number in rows that nothing finds by their keys.
-use Rattle.std.proofs.Common.{◌≡◌, ◌≤◌, ◌<◌, ◌+◌, ◌++◌, ◌∷◌, ◌∙◌, ℕ, zero, suc, ℤ, List, [], None, Option, Some, ap, arith, drop, get_or, length, refl, slice_get, sym, take, ⊎_elim}
-use Rattle.star_group.proofs.Common.{AllByRecursion, get_or_past, length-take-le, cases_lt, get_or_from_slice_get, slice_get_within, key_value_view, key_view, KeyPart, ListedRows, listed_entries, all_hidden, filled, keyed, cut, length-cut}
-use Rattle.star_group.proofs.CutRows.{cut_one, cut_wide}
-use Rattle.star_group.proofs.KeyedRows.{keyed_at, keyed_more, length-keyed, narrow_filled}
+use Rattle.star_group.proofs.Common.{◌≡◌, ◌≤◌, ◌<◌, ◌+◌, ◌++◌, ◌∷◌, ◌∙◌, ℕ, zero, suc, ℤ, List, [], None, Option, Some, ap, arith, drop, get_or, length, refl, slice_get, sym, take, ⊎_elim, ◌-◌, AllByRecursion, get_or_past, length-take-le, cases_lt, get_or_from_slice_get, slice_get_within}
+use Rattle.star_group.proofs.Common.{key_value_view, key_view, KeyPart, ListedRows, listed_entries, all_hidden, filled, length-cut, take-append-drop, drop_at}
+use Rattle.star_program.specs.Rows.{cut}
+use Rattle.star_group.specs.Keyed.{keyed}
+use Rattle.star_group.proofs.CutRows.{cut_one, cut_wide, cut_append}
+
+-- ---- keys beside rows
+
+pub length-keyed : (ks : List (List KeyPart)) (cs : List (List (Option ℤ))) → length ks ≡ length cs
+    → length (keyed ks cs) ≡ length ks
+unfolding keyed
+length-keyed [] cs e = refl
+length-keyed (k ∷ ks) [] e = absurd (omega (arith, e))
+length-keyed (k ∷ ks) (c ∷ cs) e = ap suc (length-keyed ks cs (omega (arith, e)))
+
+pub keyed_at : (ks : List (List KeyPart)) (cs : List (List (Option ℤ))) (i : ℕ)
+    → length ks ≡ length cs → i < length ks
+    → get_or (keyed ks cs) i ([], []) ≡ (filled (get_or ks i []), get_or cs i [])
+unfolding keyed
+keyed_at [] cs i e h = absurd (omega (arith, h))
+keyed_at (k ∷ ks) [] i e h = absurd (omega (arith, e))
+keyed_at (k ∷ ks) (c ∷ cs) zero e h = refl
+keyed_at (k ∷ ks) (c ∷ cs) (suc i) e h = keyed_at ks cs i (omega (arith, e)) (omega (arith, h))
+
+pub keyed_append : (ks js : List (List KeyPart)) (cs ds : List (List (Option ℤ)))
+    → length ks ≡ length cs → keyed (ks ++ js) (cs ++ ds) ≡ keyed ks cs ++ keyed js ds
+unfolding keyed
+keyed_append [] js [] ds e = refl
+keyed_append [] js (x ∷ cs) ds e = absurd (omega (arith, e))
+keyed_append (j ∷ ks) js [] ds e = absurd (omega (arith, e))
+keyed_append (j ∷ ks) js (x ∷ cs) ds e =
+    ap (λ es. (filled j, x) ∷ es) (keyed_append ks js cs ds (omega (arith, e)))
+
+none_keyed : (w m : ℕ) (ps : List KeyPart) (ns : List (Option ℤ))
+    → keyed (cut w 0 ps) (cut m 0 ns) ≡ []
+unfolding cut keyed
+none_keyed w m ps ns = refl
+
+pub no_entries : (w m n : ℕ) (ps : List KeyPart) (ns : List (Option ℤ)) → n ≡ 0
+    → keyed (cut w n ps) (cut m n ns) ≡ []
+no_entries w m n ps ns e = ap (λ k. keyed (cut w k ps) (cut m k ns)) e ∙ none_keyed w m ps ns
+
+-- ---- keys in six places
+
+-- a key in six places is its first parts, where past them there is ALL
+pub narrow_filled : (w : ℕ) (key : List KeyPart) → w ≤ length key → drop w key ≡ drop w all_hidden
+    → filled (take w key) ≡ key
+narrow_filled w key few narrow =
+    ap (λ n. take w key ++ drop n all_hidden) (length-take-le w key few)
+    ∙ ap (λ ps. take w key ++ ps) (sym narrow) ∙ take-append-drop w key
+
+pub filled_narrow : (w : ℕ) (key : List KeyPart) → length key ≡ w
+    → drop w (filled key) ≡ drop w all_hidden
+filled_narrow w key long =
+    drop_at key (drop (length key) all_hidden) w long ∙ ap (λ n. drop n all_hidden) long
 
 -- past a key's own parts there is none
 none_past : (parts : List KeyPart) → AllByRecursion (λ p. key_value_view p ≡ None) parts
@@ -20,6 +71,8 @@ part_filled n [] place =
 part_filled n (p ∷ parts) zero = refl
 part_filled n (p ∷ parts) (suc place) = part_filled n parts place
 
+-- ---- the rows
+
 module _ (rows : ListedRows) where
   abbrev ks : List (List KeyPart)
   ks = cut rows.width rows.len rows.keys.items
@@ -27,10 +80,10 @@ module _ (rows : ListedRows) where
   abbrev cs : List (List (Option ℤ))
   cs = cut rows.aggregate_count rows.len rows.cells.items
 
-  key_count : length ks ≡ rows.len
+  pub key_count : length ks ≡ rows.len
   key_count = length-cut rows.width rows.len rows.keys.items
 
-  same : length ks ≡ length cs
+  pub same : length ks ≡ length cs
   same = key_count ∙ sym (length-cut rows.aggregate_count rows.len rows.cells.items)
 
   pub row_count : length (listed_entries rows) ≡ rows.len
@@ -89,21 +142,30 @@ module _ (rows : ListedRows) where
       (get_or_past (listed_entries rows) n ([], []) h)))
       number
 
-  -- one row more
-  pub entries_more : (key : List KeyPart) (row : List (Option ℤ)) → length key ≡ 6
-      → drop rows.width key ≡ drop rows.width all_hidden → length row ≡ rows.aggregate_count
-      → (js : List KeyPart) (ds : List (Option ℤ)) (n : ℕ)
-      → js ≡ rows.keys.items ++ take rows.width key → ds ≡ rows.cells.items ++ row
-      → n ≡ rows.len + 1
+  -- more rows
+  pub keys_more : (count : ℕ) (qs js : List KeyPart) → js ≡ rows.keys.items ++ qs
+      → (n : ℕ) → n ≡ rows.len + count
+      → cut rows.width n js ≡ ks ++ cut rows.width count qs
+  keys_more count qs js keys n more = ap (cut rows.width n) keys
+      ∙ cut_append rows.width count rows.len n rows.keys.items qs more rows.long_keys
+
+  pub entries_more : (count : ℕ) (qs js : List KeyPart) (row ds : List (Option ℤ))
+      → js ≡ rows.keys.items ++ qs → ds ≡ rows.cells.items ++ row
+      → (n : ℕ) → n ≡ rows.len + count
       → keyed (cut rows.width n js) (cut rows.aggregate_count n ds)
-      ≡ listed_entries rows ++ (key, row) ∷ []
-  entries_more key row six narrow wide js ds n keys cells more =
-      let few : rows.width ≤ length key = omega (arith, six, rows.few) in
-      (λ i. keyed ((ap (λ m. cut rows.width m js) more ∙ cut_one rows.width rows.len rows.keys.items
-      js (take rows.width key) rows.long_keys (length-take-le rows.width key few) keys) i)
-      ((ap (λ m. cut rows.aggregate_count m ds) more
-      ∙ cut_one rows.aggregate_count rows.len rows.cells.items ds row rows.long_cells wide cells)
-      i))
-      ∙ keyed_more ks cs (take rows.width key) row same
-      ∙ ap (λ k. listed_entries rows ++ (k, row) ∷ [])
-      (narrow_filled rows.width key few narrow)
+      ≡ listed_entries rows ++ keyed (cut rows.width count qs) (cut rows.aggregate_count count row)
+  entries_more count qs js row ds keys cells n more =
+      (λ i. keyed (keys_more count qs js keys n more i)
+      ((ap (cut rows.aggregate_count n) cells
+      ∙ cut_append rows.aggregate_count count rows.len n rows.cells.items row more
+      rows.long_cells) i))
+      ∙ keyed_append ks (cut rows.width count qs) cs (cut rows.aggregate_count count row) same
+
+-- the only one of some rows
+pub one_entry : (w m : ℕ) (key : List KeyPart) (row : List (Option ℤ)) → w ≤ length key
+    → drop w key ≡ drop w all_hidden → length row ≡ m
+    → keyed (cut w 1 (take w key)) (cut m 1 row) ≡ (key, row) ∷ []
+unfolding keyed
+one_entry w m key row few narrow wide =
+    (λ i. keyed (cut_one w (take w key) (length-take-le w key few) i) (cut_one m row wide i))
+    ∙ ap (λ k. (k, row) ∷ []) (narrow_filled w key few narrow)

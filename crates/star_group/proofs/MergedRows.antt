@@ -1,10 +1,9 @@
 -- One more row merged into those of some keys.
-use Rattle.std.proofs.Common.{◌≡◌, ◌⊎◌, inl, inr, ℕ, zero, suc, ◌+◌, ◌<◌, Bool, true, false, ◌||◌, ℤ, List, [], ◌∷◌, Option, Some, None, length, get_or, take, map, MatchBool, ap, sym, ◌∙◌, subst, refl, true≢false, arith, ◌*◌}
-use Rattle.star_group.proofs.Common.{list_any, IsDistinct, unwrap_or, get_or-map, length-map, list_any_at, list_any_more, apart_from_distinct, IsDistinct-tail, or_parts, Aggregate, KeyValue, KeyPart, KeyedRows, key_view, row_found, entries_of, filled, key_eq, IsMergedAt, IsMergedInto}
-use Rattle.star_group.proofs.Common.{MergeLeaves, MergeStays, RowsStay, AreNarrow, HasSpace, IsGrown, IsNarrow, keys_in, suc-mul, zero-mul, AllStay, MergesAll, SomeLeaves, length-cut}
+use Rattle.star_group.proofs.Common.{◌≡◌, ◌⊎◌, inl, inr, ℕ, zero, suc, ◌+◌, ◌<◌, Bool, true, false, ◌||◌, ℤ, List, [], ◌∷◌, Option, Some, None, length, get_or, take, map, MatchBool, ap, sym, ◌∙◌, subst, refl, true≢false, arith, ◌*◌, list_any, IsDistinct, unwrap_or, get_or-map, length-map}
+use Rattle.star_group.proofs.Common.{list_any_at, list_any_more, apart_from_distinct, IsDistinct-tail, or_parts, Aggregate, KeyValue, KeyPart, KeyedRows, key_view, row_found, key_eq, IsMergedAt, IsMergedInto, MergeLeaves, MergeStays, RowsStay, AreNarrow, HasSpace, IsNarrow, suc-mul, zero-mul}
+use Rattle.star_group.proofs.Common.{AllStay, MergesAll, SomeLeaves}
 use Rattle.star_group.proofs.Bases.{other_row, own_row}
 use Rattle.star_group.proofs.GroupKeys.{key_decides, key_equiv}
-use Rattle.star_group.proofs.KeyedRows.{entry_at, row_count}
 
 -- ---- one more key of a list without repeats
 
@@ -128,49 +127,19 @@ pub fewer_space : (rows : KeyedRows) (count : ℕ) → 0 < count → HasSpace ro
     → HasSpace rows 1
 fewer_space rows zero some space = absurd (omega (arith, some))
 fewer_space rows (suc n) some space = record {
-  trie = record {
-    keys = omega (arith, space.trie.keys, suc-mul n rows.trie.width, one rows.trie.width);
-    links = omega (arith, space.trie.links);
-    nodes = omega (arith, space.trie.nodes);
+  listed = record {
+    len = omega (arith, space.listed.len);
+    keys = omega (arith, space.listed.keys, suc-mul n rows.listed.width, one rows.listed.width);
+    cells = omega (
+      arith,
+      space.listed.cells,
+      suc-mul n rows.listed.aggregate_count,
+      one rows.listed.aggregate_count,
+    );
   };
-  cells = omega (arith, space.cells, suc-mul n rows.aggregate_count, one rows.aggregate_count);
+  links = omega (arith, space.links);
+  nodes = omega (arith, space.nodes);
 }
   where
     one : (w : ℕ) → 1 * w ≡ w
     one w = omega (arith, suc-mul 0 w, zero-mul w)
-
--- ---- rows that have grown
-
--- the same rows
-pub grown_same : (rows : KeyedRows) → IsGrown rows rows
-grown_same rows = record {
-  widths = record { width = refl; many = refl };
-  held =
-      λ key number h. h;
-  more = omega arith;
-}
-
--- a row keeps its key
-pub grown_keys : (old new : KeyedRows) → IsGrown old new → (number : ℕ)
-    → number < length (entries_of old)
-    → (get_or (entries_of new) number ([], [])).0 ≡ (get_or (entries_of old) number ([], [])).0
-grown_keys old new grown number h =
-    let many : (rows : KeyedRows) → length (keys_in rows) ≡ length (entries_of rows) =
-    λ rows. length-cut rows.trie.width rows.trie.len rows.trie.keys.items
-    ∙ sym (row_count rows) in
-    let held = grown.held (get_or (keys_in old) number []) number
-    (record { within = omega (arith, h, many old); is = refl }) in
-    ap (λ (e : List KeyPart × List (Option ℤ)). e.0)
-    (entry_at new number (omega (arith, held.within, many new))) ∙ ap filled held.is
-    ∙ sym (ap (λ (e : List KeyPart × List (Option ℤ)). e.0) (entry_at old number h))
-
-pub grown_more : (a b c : KeyedRows) → IsGrown a b → IsGrown b c → IsGrown a c
-grown_more a b c ab bc = record {
-  widths = record {
-    width = bc.widths.width ∙ ab.widths.width;
-    many =
-        bc.widths.many ∙ ab.widths.many;
-  };
-  held = λ key number is. bc.held key number (ab.held key number is);
-  more = omega (arith, ab.more, bc.more);
-}

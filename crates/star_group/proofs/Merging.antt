@@ -1,6 +1,6 @@
 -- Aggregates over puts where some pass one test and the others another.
-use Rattle.std.proofs.Common.{◌≡◌, ℕ, Bool, true, false, ◌&&◌, ◌||◌, ℤ, pos, List, [], ◌∷◌, Option, Some, None, cond, ap, sym, ◌∙◌, refl, subst, true≢false}
-use Rattle.star_group.proofs.Common.{list_any, filter, AllByRecursion, Aggregate, Sum, Count, Min, Max, numbers_for, HasAggregates, IsRowOver, step, has_puts, merged_total, cell_of_one_put, merged, IsMerged, IsMergedInto, IsRowOfOnePut, Update, aggregate_at, Group, put_number}
+use Rattle.star_group.proofs.Common.{◌≡◌, ℕ, Bool, true, false, ◌&&◌, ◌||◌, ℤ, pos, List, [], ◌∷◌, Option, Some, None, cond, ap, sym, ◌∙◌, refl, subst, true≢false, list_any, filter, AllByRecursion, Aggregate, Sum, Count, Min, Max, numbers_for, HasAggregates, IsRowOver, step, has_puts}
+use Rattle.star_group.proofs.Common.{merged_total, cell_of_one_put, merged, IsMerged, IsMergedInto, IsRowOfOnePut, Update, aggregate_at, Group, put_number, Contains, Any-from_list_any, list_any-from_Any}
 use Rattle.star_group.specs.Cells.{held}
 use Rattle.star_group.proofs.ContentByKeys.{plus_comm, plus_assoc, least_comm, least_assoc, greatest_comm, greatest_assoc}
 
@@ -64,6 +64,17 @@ any_filter t (u ∷ us) = by (t u) (any_filter t us)
         → has_puts (cond b (u ∷ filter t us) (filter t us)) ≡ (b || list_any t us)
     by true e = refl
     by false e = e
+
+-- a put that passes, where there is one
+pub put_of : (t : Update → Bool) (us : List Update) → has_puts (filter t us) ≡ true
+    → (u : Update) × Contains us u × (t u ≡ true)
+put_of t us h =
+    let some = Any-from_list_any t us (sym (any_filter t us) ∙ h) in
+    (some.1, (some.0, some.2, some.3), some.4)
+
+pub has_put : (t : Update → Bool) (us : List Update) (u : Update) → Contains us u → t u ≡ true
+    → has_puts (filter t us) ≡ true
+has_put t us u c h = any_filter t us ∙ list_any-from_Any t us (c.0, u, c.1, c.2, h)
 
 -- the puts that pass a test are those that pass one of two, and none passes both
 abbrev pub AreSplit : (Update → Bool) → (Update → Bool) → (Update → Bool) → List Update → Type 0

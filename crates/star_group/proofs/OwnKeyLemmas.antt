@@ -1,8 +1,7 @@
 -- How the keys of an update's rows are made.
-use Rattle.std.proofs.Common.{◌≡◌, ℕ, zero, suc, ◌+◌, ◌<◌, ◌≤◌, Bool, true, false, not, ◌&&◌, cond, true≢false, List, [], ◌∷◌, ◌++◌, Option}
-use Rattle.std.proofs.Common.{Some, None, take, drop, set, length, get_or, map, ap, sym, ◌∙◌, refl, arith, append_assoc, take-append-drop}
-use Rattle.star_group.proofs.Common.{AllByRecursion, filter, list_all, options_equiv, laws-law, is_none, is_some, Rollup, is_grouping, drop-cons, take-suc, get_or-append, false_from_ne_true, All-append, All-from_recursion, filter-append, recursion_from_All, map-append, map-set}
-use Rattle.star_group.proofs.Common.{KeyValue, KeyPart, All, key_view, key_value_view, key_eq}
+use Rattle.star_group.proofs.Common.{◌≡◌, ℕ, zero, suc, ◌+◌, ◌<◌, ◌≤◌, Bool, true, false, not, ◌&&◌, cond, true≢false, List, [], ◌∷◌, ◌++◌, Option, Some, None, take, drop, set, length, get_or, map, ap, sym, ◌∙◌, refl, arith, append_assoc, take-append-drop, AllByRecursion, filter, list_all}
+use Rattle.star_group.proofs.Common.{options_equiv, laws-law, is_none, is_some, Rollup, is_grouping, drop-cons, take-suc, get_or-append, false_from_ne_true, All-append, All-from_recursion, filter-append, recursion_from_All, map-append, map-set, KeyValue, KeyPart, All, key_view, key_value_view}
+use Rattle.star_group.proofs.Common.{key_eq}
 use Rattle.std.specs.List.{IsDistinct}
 use Rattle.star_group.specs.OwnKeys.{padded, vary}
 

@@ -1,46 +1,14 @@
 -- The rows of a plain group, one after another: those beside the places, and that of each place.
-use Rattle.std.proofs.Common.{◌≡◌, ℕ, suc, ◌*◌, ◌<◌, ◌≤◌, Bool, true, false, ◌&&◌, ◌||◌, nat_lt, cond, ℤ, pos, List, [], ◌∷◌, ◌++◌, Option, Some, None, length, map, take, get_or, refl, ap, sym, ◌∙◌, subst, arith, true≢false}
-use Rattle.star_group.proofs.Common.{filter, list_any, AllByRecursion, IsDistinct, keys_of, unwrap_or, nat_tests, IsDistinct-push, at_each, of_each, Aggregate, Shape, Plain, KeyValue, Update, cut, KeyPart, Span, AreGrouped, IsRowOver, key_view, puts_with, row_found, IsPlaced}
-use Rattle.star_group.proofs.Common.{has_puts, is_of_put, key_eq, padded, cell_place, is_at, places, group_with, AreOnce, shown_entries, IsMerged, IsMergedAt, IsListed, Group}
-use Rattle.star_group.proofs.GroupKeys.{key_decides, key_equiv, padded_keys, plain_among}
-use Rattle.star_group.proofs.KeyedRows.{row_more}
-use Rattle.star_group.proofs.Passes.{AreOver, filter_same}
+use Rattle.star_group.proofs.Common.{◌≡◌, ℕ, suc, ◌*◌, ◌<◌, ◌≤◌, Bool, true, false, ◌&&◌, nat_lt, cond, ℤ, pos, List, [], ◌∷◌, ◌++◌, Option, Some, None, length, map, take, get_or, refl, ap, sym, ◌∙◌, arith, true≢false, filter, AllByRecursion, nat_tests, at_each, of_each, Aggregate, Shape}
+use Rattle.star_group.proofs.Common.{KeyValue, Update, cut, KeyPart, Span, IsRowOver, key_view, row_found, IsPlaced, has_puts, key_eq, padded, cell_place, is_at, places, group_with, AreOnce, IsListed, Group, Contains, aggregate_cells}
+use Rattle.star_group.proofs.GroupKeys.{key_decides, padded_keys}
+use Rattle.star_group.proofs.AllRows.{base_rolled}
+use Rattle.star_group.proofs.CutRows.{cut_wide}
+use Rattle.star_group.proofs.KeyedRows.{merged_new, once_more}
+use Rattle.star_group.proofs.Merging.{put_of}
+use Rattle.star_group.proofs.Passes.{AreOver}
 use Rattle.star_group.proofs.PlacedCells.{puts_there}
-use Rattle.star_group.proofs.PlacedRows.{below_place, fill_end, fill_more, fill_skip, fill_start, in_row, is_below, own_place}
-
--- ---- one entry more
-
-keys_more : (fs : List (List KeyPart × List (Option ℤ))) (k : List KeyPart) (r : List (Option ℤ))
-    → keys_of (shown_entries (fs ++ (k, r) ∷ [])) ≡ keys_of (shown_entries fs) ++ key_view k ∷ []
-keys_more [] k r = refl
-keys_more (f ∷ fs) k r = ap (λ ks. key_view f.0 ∷ ks) (keys_more fs k r)
-
-none_among : (fs : List (List KeyPart × List (Option ℤ))) (q : List (Option KeyValue))
-    → row_found fs q ≡ None → list_any (key_eq q) (keys_of (shown_entries fs)) ≡ false
-none_among [] q e = refl
-none_among (f ∷ fs) q e = by (key_eq q (key_view f.0)) e (none_among fs q)
-  where
-    by : (b : Bool) → cond b (Some f.1) (row_found fs q) ≡ None
-        → (row_found fs q ≡ None → list_any (key_eq q) (keys_of (shown_entries fs)) ≡ false)
-        → (b || list_any (key_eq q) (keys_of (shown_entries fs))) ≡ false
-    by true e later = absurd (let no : Some f.1 ≡ None = e in cc no)
-    by false e later = later e
-
-once_more : (fs : List (List KeyPart × List (Option ℤ))) (k : List KeyPart) (r : List (Option ℤ))
-    → row_found fs (key_view k) ≡ None → AreOnce fs → AreOnce (fs ++ (k, r) ∷ [])
-once_more fs k r none once =
-    subst (IsDistinct key_eq) (sym (keys_more fs k r))
-    (IsDistinct-push key_equiv (keys_of (shown_entries fs)) (key_view k) once
-    (none_among fs (key_view k) none))
-
-merged_more : (gs : List Aggregate) (fs : List (List KeyPart × List (Option ℤ)))
-    (k : List KeyPart) (r : List (Option ℤ)) → row_found fs (key_view k) ≡ None
-    → IsMergedAt gs (key_view k) r fs (fs ++ (k, r) ∷ [])
-merged_more gs fs k r none = (
-  r,
-  subst (λ found. IsMerged gs (unwrap_or found []) r r) (sym none) (λ place h. refl),
-  λ q. row_more fs k r q (λ e. ap (row_found fs) ((key_decides q (key_view k)).0 e) ∙ none),
-)
+use Rattle.star_group.proofs.PlacedRows.{below_place, in_row, is_below, none_there, own_place, row_there, rows_first, rows_last, rows_more, rows_same}
 
 -- ---- keys of a place
 
@@ -68,22 +36,6 @@ none_pass p [] h = refl
 none_pass p (u ∷ us) h = (λ i. cond (h.0 i) (u ∷ filter p us) (filter p us)) ∙ none_pass p us h.1
 
 module _ (d : Group) (spans : List Span) (n : ℕ) where
-  record IsPutThere (u : Update) : Type 0 where
-    pub at : is_at spans n u.keys ≡ true
-    pub fits : length u.keys ≡ d.count
-
-  some_at : (us : List Update) → has_puts (puts_there spans n us) ≡ true
-      → AllByRecursion (λ u. length u.keys ≡ d.count) us → (u : Update) × IsPutThere u
-  some_at [] h fit = absurd (true≢false (sym h))
-  some_at (u ∷ us) h fit = by (is_at spans n u.keys) refl h (λ f. some_at us f fit.1)
-    where
-      by : (b : Bool) → is_at spans n u.keys ≡ b
-          → has_puts (cond b (u ∷ puts_there spans n us) (puts_there spans n us)) ≡ true
-          → (has_puts (puts_there spans n us) ≡ true → (w : Update) × IsPutThere w)
-          → (w : Update) × IsPutThere w
-      by true e f later = (u, record { at = e; fits = fit.0 })
-      by false e f later = later f
-
   -- of the rows of the first places none has the keys of the next one
   none_yet : (us : List Update) (key : List KeyPart) (found : Option (List (Option ℤ)))
       → d.count ≤ 6 → AllByRecursion (λ u. length u.keys ≡ d.count) us
@@ -98,16 +50,17 @@ module _ (d : Group) (spans : List Span) (n : ℕ) where
       (λ w c. by w (at_each (λ u. length u.keys ≡ d.count) us w fit c)
       (key_eq (key_view key) (padded 6 w.keys)) refl)))))
     where
-      there : (u : Update) × IsPutThere u
-      there = some_at us some fit
+      there : (u : Update) × Contains us u × (is_at spans n u.keys ≡ true)
+      there = put_of (λ w. is_at spans n w.keys) us some
 
       by : (w : Update) → length w.keys ≡ d.count → (b : Bool)
           → key_eq (key_view key) (padded 6 w.keys) ≡ b → (b && is_below spans n w.keys) ≡ false
       by w fits false e = refl
       by w fits true e =
-          let at = own_place spans n there.0.keys there.1.at in
+          let at = own_place spans n there.0.keys there.2 in
           let same : w.keys ≡ there.0.keys =
-          padded_once w.keys there.0.keys d.count fits there.1.fits few
+          padded_once w.keys there.0.keys d.count fits
+          (at_each (λ u. length u.keys ≡ d.count) us there.0 fit there.1) few
           (sym ((key_decides (key_view key) (padded 6 w.keys)).0 e) ∙ own there.0.keys at) in
           ap (below_place n) (ap (cell_place spans) same ∙ at) ∙ not_below n
 
@@ -121,23 +74,31 @@ module _ (gs : List Aggregate) (spans : List Span) (seen : List Bool) (cells : L
       → AreOnce fs × AreOver (group_with shape (length spans) gs) puts (in_row spans n) fs
 
   pub list_start : AreOnce es → IsListedTo 0 es
-  list_start once shape rest puts is = (once, fill_start gs spans seen cells es shape rest puts is)
+  list_start once shape rest puts is =
+      (once, rows_first (group_with shape (length spans) gs) spans puts es is.rest.rows)
 
-  pub list_end : (n : ℕ) → n ≡ places spans → (fs : List (List KeyPart × List (Option ℤ)))
-      → IsListedTo n fs → IsListed gs spans seen cells es fs
-  list_end n same fs listed shape rest puts is = (
-    (listed shape rest puts is).0,
-    fill_end gs spans seen cells es n same fs (λ k r p i. (listed k r p i).1) shape rest puts is,
-  )
+  pub list_end : length spans ≤ 6 → (n : ℕ) → n ≡ places spans
+      → (fs : List (List KeyPart × List (Option ℤ))) → IsListedTo n fs
+      → IsListed gs spans seen cells es fs
+  list_end few n same fs listed shape rest puts is =
+      let d = group_with shape (length spans) gs in
+      let now = listed shape rest puts is in
+      base_rolled d fs puts few is.fit (rows_last d spans puts n same fs now.1) now.0
 
   module _ (long : length cells ≡ length gs * length seen) (n : ℕ) (here : n < length seen)
       (fs : List (List KeyPart × List (Option ℤ))) (listed : IsListedTo n fs) where
+    wide : (shape : Shape) (a : ℕ) → a < length gs
+        → length (aggregate_cells (group_with shape (length spans) gs) seen cells a) ≡ length seen
+    wide shape a h = cut_wide (length seen) (length gs) cells a long h
+
     pub list_skip : get_or seen n false ≡ false → IsListedTo (suc n) fs
-    list_skip marked shape rest puts is = (
-      (listed shape rest puts is).0,
-      fill_skip gs spans seen cells es long n here fs (λ k r p i. (listed k r p i).1) marked shape
-          rest puts is,
-    )
+    list_skip marked shape rest puts is =
+        let d = group_with shape (length spans) gs in
+        let now = listed shape rest puts is in (
+          now.0,
+          rows_same d spans puts n
+              (none_there d spans seen cells es rest puts is n here (wide shape) marked) fs now.1,
+        )
 
     pub list_more : length spans ≤ 6 → (key : List KeyPart)
         → ((keys : List KeyValue) → cell_place spans keys ≡ Some n
@@ -152,24 +113,8 @@ module _ (gs : List Aggregate) (spans : List Span) (seen : List Bool) (cells : L
         let none = none_yet d spans n puts key (row_found fs (key_view key)) few is.fit own
         (sym (is.seen_at n here) ∙ marked) (now.1 (key_view key)) in (
           once_more fs key row none now.0,
-          fill_more gs spans seen cells es long n here fs (λ k r p i. (listed k r p i).1) key own
-              row marked at (fs ++ (key, row) ∷ []) (merged_more gs fs key row none) shape rest puts
-              is,
+          rows_more d spans puts n key
+              (λ keys e. sym (own keys (own_place spans n keys e))) row
+              (row_there d spans seen cells es rest puts is n here (wide shape) row marked at) fs
+              (fs ++ (key, row) ∷ []) (merged_new gs fs key row row none (λ place h. refl)) now.1,
         )
-
--- ---- the rows of a plain group are those of its keys
-
-pub plain_grouped : (gs : List Aggregate) (count : ℕ) (fs : List (List KeyPart × List (Option ℤ)))
-    (puts : List Update) → count ≤ 6 → AllByRecursion (λ put. length put.keys ≡ count) puts
-    → ((q : List (Option KeyValue))
-    → IsRowOver (group_with Plain count gs) (puts_with q puts) (row_found fs q))
-    → AreGrouped (group_with Plain count gs) fs puts
-plain_grouped gs count fs puts few fit rows = record {
-  fit = fit;
-  rows = λ q. subst (λ ps. IsRowOver (group_with Plain count gs) ps (row_found fs q))
-      (filter_same (λ u. key_eq q (padded 6 u.keys)) (λ u. is_of_put Plain u.keys q) puts
-      (of_each (λ u. key_eq q (padded 6 u.keys) ≡ is_of_put Plain u.keys q) puts
-      (λ u c. sym (plain_among u.keys q
-      (omega (arith, few, at_each (λ w. length w.keys ≡ count) puts u fit c))))))
-      (rows q);
-}

@@ -1,14 +1,14 @@
 -- The content of a placed store, with the puts of more rows.
-use Rattle.std.proofs.Common.{◌≡◌, ℕ, zero, suc, ◌+◌, ◌*◌, ◌<◌, ◌≤◌, Bool, true, false, nat_eq, cond, ℤ, pos, List, [], ◌∷◌, Option, Some, None, Result, Ok, Err, OnOk, OnErr, length, get_or, replicate, refl, ap, sym, ◌∙◌, subst, arith}
-use Rattle.star_group.proofs.Common.{filter, AllByRecursion, is_none, option_eq, get_or-replicate, length-replicate, ∥∥₁_map, Aggregate, Count, Shape, is_i64, KeyValue, cut, PutBatch, KeyPart, Span, IsBase, IsRowOver, puts_with, row_found, HasRoomForRows, puts_after, put_in, has_puts}
-use Rattle.star_group.proofs.Common.{AreAt, IsPlaced, IsPlacedWithRoom, aggregate_cells, cell_over, neutral, is_at, is_outside, cell_place, offset_of, group_with, IsRolledUp, AreAtPlaces, TakesBatch, TakesPlacedPut, AreCellsTaken, AreWithin, CanTakeAll, after_rows, batch_lanes}
-use Rattle.star_group.proofs.Common.{column_after, lanes_of, Update, aggregate_at, Group, HasRoom, put_number}
+use Rattle.star_group.proofs.Common.{◌≡◌, ℕ, zero, suc, ◌+◌, ◌*◌, ◌<◌, ◌≤◌, Bool, true, false, nat_eq, cond, ℤ, pos, List, [], ◌∷◌, Option, Some, None, Result, Ok, Err, OnOk, OnErr, length, get_or, replicate, refl, ap, sym, ◌∙◌, subst, arith, ◌&&◌, filter, AllByRecursion, is_none, option_eq}
+use Rattle.star_group.proofs.Common.{get_or-replicate, length-replicate, ∥∥₁_map, Aggregate, Count, Shape, is_i64, KeyValue, cut, PutBatch, KeyPart, Span, IsBase, HasRoomForRows, puts_after, put_in, has_puts, AreAt, IsPlaced, IsPlacedWithRoom, aggregate_cells, cell_over, neutral, is_at}
+use Rattle.star_group.proofs.Common.{is_outside, cell_place, offset_of, group_with, IsRolledUp, AreAtPlaces, AreCellsTaken, AreWithin, CanTakeAll, after_rows, batch_lanes, column_after, lanes_of, Update, aggregate_at, Group, HasRoom, put_number, IsRolledUpWithRoom, IsListed, AreInBits}
+use Rattle.star_group.proofs.Common.{numbers_for, leaves}
 use Rattle.star_group.specs.Cells.{held}
-use Rattle.star_group.proofs.AllRows.{base_rolled}
 use Rattle.star_group.proofs.CutRows.{cut_wide}
 use Rattle.star_group.proofs.PlacedCells.{IsLane, can_take, column_at, length-after_rows, seen_at}
 use Rattle.star_group.proofs.PlacedLanes.{lane_number}
-use Rattle.star_group.proofs.SmallNumbers.{room_kept}
+use Rattle.star_group.proofs.PlacedRows.{filter_twice}
+use Rattle.star_group.proofs.Rooms.{held_stays}
 use Rattle.star_group.proofs.SpanPlaces.{above_parts}
 
 -- rows with a place each, and a lane of numbers for each aggregate
@@ -77,6 +77,24 @@ module _ (d : Group) (spans : List Span) (seen : List Bool) (cells : List ℤ)
         rest = subst (IsBase d es all) (sym (same_outside rows (omega arith))) placed.rest;
       }
 
+-- the same, of parts that are lent
+pub lent_taken : {gs hs : List Aggregate} {m n : ℕ} {cells cells₀ new new₀ : List ℤ}
+    (lanes : ℕ → List ℤ) (at : List ℕ) → gs ≡ hs → m ≡ n → cells₀ ≡ cells → new ≡ new₀
+    → AreCellsTaken gs m lanes at cells₀ new₀ → AreCellsTaken hs n lanes at cells new
+lent_taken {gs} {hs} {m} {n} {cells} {cells₀} {new} {new₀} lanes at same many old is taken =
+    subst (λ g. AreCellsTaken g n lanes at cells new) same
+    (subst (λ k. AreCellsTaken gs k lanes at cells new) many
+    (subst (λ c. AreCellsTaken gs m lanes at c new) old
+    (subst (AreCellsTaken gs m lanes at cells₀) (sym is) taken)))
+
+pub lent_room : {gs hs : List Aggregate} {m n : ℕ} {cells cells₀ : List ℤ} (lanes : ℕ → List ℤ)
+    (at : List ℕ) → gs ≡ hs → m ≡ n → cells₀ ≡ cells → CanTakeAll hs n lanes at cells
+    → CanTakeAll gs m lanes at cells₀
+lent_room {gs} {hs} {m} {n} {cells} {cells₀} lanes at same many old can =
+    subst (λ g. CanTakeAll g m lanes at cells₀) (sym same)
+    (subst (λ k. CanTakeAll hs k lanes at cells₀) (sym many)
+    (subst (CanTakeAll hs n lanes at) (sym old) can))
+
 -- ---- one put
 
 first_lane : (a : ℕ) (vs : List ℤ) (d : ℤ) → get_or (lanes_of vs a) 0 d ≡ get_or vs a d
@@ -110,8 +128,14 @@ module _ (d : Group) (spans : List Span) (u : Update) (us : List Update)
   more_outside = ap (λ r. cond (is_none r) (u ∷ filter (λ w. is_outside spans w.keys) us)
       (filter (λ w. is_outside spans w.keys) us)) outside
 
-  pub room_outside : HasRoom d (u ∷ us) → HasRoom d (u ∷ filter (λ w. is_outside spans w.keys) us)
-  room_outside room = subst (HasRoom d) more_outside (room_kept d (u ∷ us) (is_outside spans) room)
+  pub room_outside : AreInBits d (u ∷ us)
+      → AreInBits d (u ∷ filter (λ w. is_outside spans w.keys) us)
+  room_outside room p place h =
+      ap (λ ws. leaves (aggregate_at d.aggregates place)
+      (held (aggregate_at d.aggregates place) (numbers_for place ws)))
+      (ap (filter (λ w. p w.keys)) (sym more_outside)
+      ∙ filter_twice (λ w. is_outside spans w.keys) (λ w. p w.keys) (u ∷ us))
+      ∙ room (λ ks. p ks && is_outside spans ks) place h
 
   same_at : (p : ℕ) → filter (λ w. is_at spans p w.keys) (u ∷ us)
       ≡ filter (λ w. is_at spans p w.keys) us
@@ -168,7 +192,7 @@ module _ (d e : Group) (same : e ≡ d) (spans : List Span) (seen : List Bool) (
 
   pub outside_room : {T E : Type 0} (r : Result T E) → cell_place spans u.keys ≡ None
       → length u.keys ≡ d.count → (us : List Update) → IsPlaced d spans seen cells es all us
-      → HasRoom d (u ∷ us) → IsPlacedWithRoom d spans seen cells es all
+      → AreInBits d (u ∷ us) → IsPlacedWithRoom d spans seen cells es all
       → OnOk r ((ws : List Update) → IsBase d es all ws → IsBase e fs total (u ∷ ws))
       → OnErr r ((ws : List Update) → IsBase d es all ws → IsBase e fs total ws)
       → IsPlacedWithRoom e spans seen cells fs total
@@ -176,42 +200,14 @@ module _ (d e : Group) (same : e ≡ d) (spans : List Span) (seen : List Bool) (
       ∣ (
         u ∷ us,
         outside_more outside fits more us placed,
-        subst (λ g. HasRoom g (u ∷ us)) (sym same) room,
+        subst (λ g. AreInBits g (u ∷ us)) (sym same) room,
       ) ∣₁
   outside_room (Err x) outside fits us placed room was more stays =
       ∥∥₁_map was (λ r. (
         r.0,
         outside_stays stays r.0 r.1,
-        subst (λ g. HasRoom g r.0) (sym same) r.2,
+        subst (λ g. AreInBits g r.0) (sym same) r.2,
       ))
-
--- one put more at a place
-pub takes_put : (shape : Shape) (count : ℕ) (gs hs : List Aggregate) (spans : List Span)
-    (seen seen₀ seen' seen₁ : List Bool) (cells cells₀ cells' cells₁ : List ℤ)
-    (keys : List KeyValue) (values : List ℤ) (place : ℕ)
-    (es : List (List KeyPart × List (Option ℤ))) (all : List (Option ℤ)) (us : List Update)
-    → length keys ≡ count → gs ≡ hs → seen₀ ≡ seen → cells₀ ≡ cells
-    → cell_place spans keys ≡ Some place
-    → TakesPlacedPut gs values place seen₀ cells₀ seen' cells'
-    → seen₁ ≡ seen' → cells₁ ≡ cells'
-    → IsPlaced (group_with shape count hs) spans seen cells es all us
-    → IsPlaced (group_with shape count hs) spans seen₁ cells₁ es all
-    (record { keys = keys; values = values } ∷ us)
-takes_put shape count gs hs spans seen seen₀ seen' seen₁ cells cells₀ cells' cells₁ keys values
-    place es all us fits same marks numbers is takes written filled placed =
-    let d : group_with shape (length keys) gs ≡ group_with shape count hs =
-    (λ i. group_with shape (fits i) (same i)) in
-    let before = subst (λ s. IsPlaced (group_with shape (length keys) gs) spans s cells₀ es all us)
-    (sym marks)
-    (subst (λ c. IsPlaced (group_with shape (length keys) gs) spans seen c es all us) (sym numbers)
-    (subst (λ g. IsPlaced g spans seen cells es all us) (sym d) placed)) in
-    let more = subst (λ g. IsPlaced g spans seen' cells' es all
-    (record { keys = keys; values = values } ∷ us)) d
-    (takes shape spans keys is es all us before) in
-    subst (λ s. IsPlaced (group_with shape count hs) spans s cells₁ es all
-    (record { keys = keys; values = values } ∷ us)) (sym written)
-    (subst (λ c. IsPlaced (group_with shape count hs) spans seen' c es all
-    (record { keys = keys; values = values } ∷ us)) (sym filled) more)
 
 -- ---- no puts
 
@@ -260,21 +256,24 @@ module _ (shape : Shape) (count : ℕ) (hs gs : List Aggregate) (spans spans₀ 
       (subst (λ c. IsPlaced (group_with shape count hs) spans seen c es all us) (sym numbers)
       placed)))
 
-  pub placed_with_room : IsPlacedWithRoom (group_with shape count hs) spans seen cells es all
-      → IsPlacedWithRoom (group_with shape (length spans₀) gs) spans₀ seen₀ cells₀ es all
-  placed_with_room room = ∥∥₁_map room
-      (λ r. (r.0, placed_parts r.0 r.1, subst (λ g. HasRoom g r.0) (sym group_same) r.2))
-
   -- with the rows of all puts
-  pub rolled_of : count ≤ 6 → (fs : List (List KeyPart × List (Option ℤ))) (us : List Update)
-      → IsPlaced (group_with shape count hs) spans seen cells es all us
-      → ((q : List (Option KeyValue))
-      → IsRowOver (group_with shape (length spans₀) gs) (puts_with q us) (row_found fs q))
-      → IsRolledUp (group_with shape count gs) count fs us
-  rolled_of few fs us placed rows =
-      base_rolled (group_with shape count gs) fs us few placed.fit
-      (λ q. subst (λ n. IsRowOver (group_with shape n gs) (puts_with q us) (row_found fs q)) keys
-      (rows q))
+  module _ (few : count ≤ 6) (fs : List (List KeyPart × List (Option ℤ)))
+      (listed : IsListed gs spans₀ seen₀ cells₀ es fs) where
+    pub rolled_of : (us : List Update)
+        → IsPlaced (group_with shape count hs) spans seen cells es all us
+        → IsRolledUp (group_with shape count gs) count fs us
+    rolled_of us placed = subst (λ n. IsRolledUp (group_with shape n gs) n fs us) keys
+        (listed shape all us (placed_parts us placed))
+
+    pub rolled_room : IsPlacedWithRoom (group_with shape count hs) spans seen cells es all
+        → ∥ IsRolledUpWithRoom shape count gs count fs ∥₁
+    rolled_room room = ∥∥₁_map room (λ r. record {
+      puts = r.0;
+      below = omega arith;
+      few = few;
+      rows = rolled_of r.0 r.1;
+      room = subst (λ g. AreInBits (group_with shape count g) r.0) (sym same) r.2;
+    })
 
 pub blank_columns : (d : Group) (gs : List Aggregate) (n : ℕ) (seen : List Bool) (cells : List ℤ)
     → gs ≡ d.aggregates → n ≡ length seen
@@ -315,39 +314,19 @@ batch_rows d spans b at long are fits narrow = record {
   long = long;
 }
 
-pub takes_batch : (shape : Shape) (count : ℕ) (gs hs : List Aggregate) (spans : List Span)
-    (seen seen₀ seen' seen₁ : List Bool) (cells cells₀ cells' cells₁ : List ℤ) (b : PutBatch)
-    (at : List ℕ) (es : List (List KeyPart × List (Option ℤ)))
-    (all : List (Option ℤ)) (us : List Update)
-    → length spans ≡ count → gs ≡ hs → seen₀ ≡ seen → cells₀ ≡ cells → AreAtPlaces spans b at
-    → TakesBatch gs b at seen₀ cells₀ seen' cells'
-    → seen₁ ≡ seen' → cells₁ ≡ cells'
-    → IsPlaced (group_with shape count hs) spans seen cells es all us
-    → IsPlaced (group_with shape count hs) spans seen₁ cells₁ es all (puts_after (put_in b) us b.rows)
-takes_batch shape count gs hs spans seen seen₀ seen' seen₁ cells cells₀ cells' cells₁ b at es all
-    us fits same marks numbers are takes written filled placed =
-    let d : group_with shape (length spans) gs ≡ group_with shape count hs =
-    (λ i. group_with shape (fits i) (same i)) in
-    let before = subst (λ s. IsPlaced (group_with shape (length spans) gs) spans s cells₀ es all us)
-    (sym marks)
-    (subst (λ c. IsPlaced (group_with shape (length spans) gs) spans seen c es all us) (sym numbers)
-    (subst (λ g. IsPlaced g spans seen cells es all us) (sym d) placed)) in
-    let more = subst (λ g. IsPlaced g spans seen' cells' es all (puts_after (put_in b) us b.rows)) d
-    (takes shape spans are es all us before) in
-    subst (λ s. IsPlaced (group_with shape count hs) spans s cells₁ es all (puts_after (put_in b) us b.rows))
-    (sym written)
-    (subst (λ c. IsPlaced (group_with shape count hs) spans seen' c es all (puts_after (put_in b) us b.rows))
-    (sym filled) more)
-
 -- there is room where some rows, or none, were put
 pub batch_room : (d : Group) (u : ℕ → Update) (rows : ℕ) (us : List Update)
     (Old New : List Update → Type 0) → ((ws : List Update) → Old ws → New (puts_after u ws rows))
     → Old us → HasRoomForRows d u us rows
-    → ∥ ((ws : List Update) × Old ws × HasRoom d ws) ∥₁
-    → ∥ ((ws : List Update) × New ws × HasRoom d ws) ∥₁
+    → ∥ ((ws : List Update) × Old ws × AreInBits d ws) ∥₁
+    → ∥ ((ws : List Update) × New ws × AreInBits d ws) ∥₁
 batch_room d u zero us Old New takes old room was = ∥∥₁_map was (λ r. (r.0, takes r.0 r.1, r.2))
 batch_room d u (suc n) us Old New takes old room was =
-    ∣ (puts_after u us (suc n), takes us old, room n (omega arith)) ∣₁
+    ∣ (
+      puts_after u us (suc n),
+      takes us old,
+      held_stays d (u n ∷ puts_after u us n) (room n (omega arith)),
+    ) ∣₁
 
 pub err_any : {T E P : Type 0} (r : Result T E) → P → OnErr r P
 err_any (Ok x) p = tt

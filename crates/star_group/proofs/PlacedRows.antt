@@ -1,7 +1,7 @@
 -- The rows and the total of puts, some of which stand by their places.
-use Rattle.std.proofs.Common.{◌≡◌, ℕ, suc, ◌*◌, ◌<◌, Bool, true, false, ◌&&◌, ◌||◌, nat_eq, nat_lt, cond, ℤ, pos, List, [], ◌∷◌, Option, Some, None, length, get_or, refl, ap, sym, ◌∙◌, subst, arith, true≢false}
-use Rattle.star_group.proofs.Common.{filter, AllByRecursion, option_eq, is_none, unwrap_or, Bool-set, and-false, ∥∥₁_elim, eqb-true, lt-ltb, nat_tests, of_each, Aggregate, Shape, numbers_for, KeyValue, leaves, Update, aggregate_at, cut, KeyPart, Span, HasAggregates, IsRowOver, key_view}
-use Rattle.star_group.proofs.Common.{puts_with, row_found, has_puts, key_eq, padded, IsPlaced, IsPlacedWithRoom, aggregate_cells, neutral, is_at, is_outside, cell_place, places, group_with, IsMerged, IsMergedAt, MergeStays, RowsStay, merged, Group, HasRoom}
+use Rattle.star_group.proofs.Common.{◌≡◌, ℕ, suc, ◌*◌, ◌<◌, Bool, true, false, ◌&&◌, ◌||◌, nat_eq, nat_lt, cond, ℤ, pos, List, [], ◌∷◌, Option, Some, None, length, get_or, refl, ap, sym, ◌∙◌, subst, arith, true≢false, filter, AllByRecursion, option_eq, is_none, unwrap_or, Bool-set, and-false}
+use Rattle.star_group.proofs.Common.{∥∥₁_elim, eqb-true, lt-ltb, nat_tests, of_each, Aggregate, numbers_for, KeyValue, leaves, Update, aggregate_at, KeyPart, Span, HasAggregates, IsRowOver, key_view, puts_with, row_found, has_puts, key_eq, padded, IsPlaced, IsPlacedWithRoom, aggregate_cells}
+use Rattle.star_group.proofs.Common.{neutral, is_at, is_outside, cell_place, places, IsMerged, IsMergedAt, MergeStays, merged, Group, AreInBits}
 use Rattle.star_group.specs.Cells.{held}
 use Rattle.star_group.proofs.Bases.{other_row, own_row}
 use Rattle.star_group.proofs.CutRows.{cut_wide}
@@ -9,8 +9,6 @@ use Rattle.star_group.proofs.GroupKeys.{key_decides}
 use Rattle.star_group.proofs.Merging.{AreSplit, held_parts, no_puts, over_parts}
 use Rattle.star_group.proofs.Passes.{AreOver, filter_same}
 use Rattle.star_group.proofs.PlacedCells.{puts_there}
-use Rattle.star_group.proofs.Rolling.{stay_prop}
-use Rattle.star_group.proofs.Rooms.{held_stays}
 use Rattle.star_group.proofs.SpanPlaces.{within}
 
 -- ---- the puts without a place, and those at the first places
@@ -137,7 +135,7 @@ module _ (d : Group) (spans : List Span) (n : ℕ) (us : List Update) where
       ∙ sym (held_parts (aggregate_at d.aggregates a) a (λ w. is_below spans n w.keys)
       (λ w. is_at spans n w.keys) (λ w. is_below spans (suc n) w.keys) us (split_at spans n us))
 
-  pub total_stays : (total row : List (Option ℤ)) → HasRoom d us
+  pub total_stays : (total row : List (Option ℤ)) → AreInBits d us
       → HasAggregates d (puts_below spans n us) total → HasAggregates d (puts_there spans n us) row
       → MergeStays d.aggregates total row
   total_stays total row room was adds a h =
@@ -146,7 +144,7 @@ module _ (d : Group) (spans : List Span) (n : ℕ) (us : List Update) where
       ∙ sym (held_parts (aggregate_at d.aggregates a) a (λ w. is_below spans n w.keys)
       (λ w. is_at spans n w.keys) (λ w. is_below spans (suc n) w.keys) us
       (split_at spans n us)))
-      ∙ held_stays d us room (is_below spans (suc n)) a h
+      ∙ room (is_below spans (suc n)) a h
 
   pub same_below : puts_there spans n us ≡ [] → puts_below spans (suc n) us ≡ puts_below spans n us
   same_below none = filter_same (λ w. is_below spans (suc n) w.keys) (λ w. is_below spans n w.keys)
@@ -167,7 +165,7 @@ and-true : (b : Bool) → (b && true) ≡ b
 and-true true = refl
 and-true false = refl
 
-filter_twice : {A : Type 0} (p r : A → Bool) (xs : List A)
+pub filter_twice : {A : Type 0} (p r : A → Bool) (xs : List A)
     → filter r (filter p xs) ≡ filter (λ x. r x && p x) xs
 filter_twice p r [] = refl
 filter_twice p r (x ∷ xs) = by (p x) (filter_twice p r xs)
@@ -241,24 +239,6 @@ module _ (d : Group) (spans : List Span) (us : List Update) where
           (is_below spans (suc n) w.keys) one.0 one.1
           (λ at. (key_decides q (padded 6 w.keys)).1 (is ∙ sym (own w.keys at))))
 
-      pub row_stays : HasRoom d us → (es : List (List KeyPart × List (Option ℤ)))
-          → AreOver d us (in_row spans n) es
-          → RowsStay d.aggregates (row_found es (key_view key)) row
-      row_stays room es over = by (row_found es (key_view key)) (over (key_view key))
-        where
-          by : (found : Option (List (Option ℤ)))
-              → IsRowOver d (filter (λ w. in_row spans n (key_view key) w.keys) us) found
-              → RowsStay d.aggregates found row
-          by None was = tt
-          by (Some held_row) was = λ a h.
-              ap (leaves (aggregate_at d.aggregates a))
-              ((λ i. merged (aggregate_at d.aggregates a) (was.1 a h i) (adds.1 a h i))
-              ∙ sym (held_parts (aggregate_at d.aggregates a) a
-              (λ w. in_row spans n (key_view key) w.keys) (λ w. is_at spans n w.keys)
-              (λ w. in_row spans (suc n) (key_view key) w.keys) us
-              (split_row (key_view key) refl)))
-              ∙ held_stays d us room (in_row spans (suc n) (key_view key)) a h
-
       apart : (k b a c : Bool) → c ≡ (b || a) → (a ≡ true → k ≡ false) → (k && c) ≡ (k && b)
       apart k b true c e other = subst (λ j. (j && c) ≡ (j && b)) (sym (other refl)) refl
       apart k b false c e other = ap (λ x. k && x) (e ∙ or-no b false refl)
@@ -297,79 +277,6 @@ at_is (Some p) n e = ap Some (eqb-true p n e)
 pub own_place : (spans : List Span) (n : ℕ) (keys : List KeyValue) → is_at spans n keys ≡ true
     → cell_place spans keys ≡ Some n
 own_place spans n keys e = at_is (cell_place spans keys) n e
-
--- ---- the rows of the first places merged in, one after another
-
-abbrev pub IsFilled : List Aggregate → List Span → List Bool → List ℤ
-    → List (List KeyPart × List (Option ℤ)) → ℕ → List (List KeyPart × List (Option ℤ)) → Type 0
-IsFilled gs spans seen cells es n fs =
-    (shape : Shape) (total : List (Option ℤ)) (puts : List Update)
-    → IsPlaced (group_with shape (length spans) gs) spans seen cells es total puts
-    → AreOver (group_with shape (length spans) gs) puts (in_row spans n) fs
-
-module _ (gs : List Aggregate) (spans : List Span) (seen : List Bool) (cells : List ℤ)
-    (es : List (List KeyPart × List (Option ℤ))) where
-  pub fill_start : IsFilled gs spans seen cells es 0 es
-  fill_start shape total puts is =
-      rows_first (group_with shape (length spans) gs) spans puts es is.rest.rows
-
-  pub fill_end : (n : ℕ) → n ≡ places spans → (fs : List (List KeyPart × List (Option ℤ)))
-      → IsFilled gs spans seen cells es n fs
-      → (shape : Shape) (total : List (Option ℤ)) (puts : List Update)
-      → IsPlaced (group_with shape (length spans) gs) spans seen cells es total puts
-      → (q : List (Option KeyValue))
-      → IsRowOver (group_with shape (length spans) gs) (puts_with q puts) (row_found fs q)
-  fill_end n same fs filled shape total puts is =
-      rows_last (group_with shape (length spans) gs) spans puts n same fs
-      (filled shape total puts is)
-
-  module _ (long : length cells ≡ length gs * length seen) (n : ℕ) (here : n < length seen)
-      (fs : List (List KeyPart × List (Option ℤ)))
-      (filled : IsFilled gs spans seen cells es n fs) where
-    wide : (shape : Shape) (a : ℕ) → a < length gs
-        → length (aggregate_cells (group_with shape (length spans) gs) seen cells a) ≡ length seen
-    wide shape a h = cut_wide (length seen) (length gs) cells a long h
-
-    pub fill_skip : get_or seen n false ≡ false → IsFilled gs spans seen cells es (suc n) fs
-    fill_skip marked shape total puts is =
-        let d = group_with shape (length spans) gs in
-        rows_same d spans puts n
-        (none_there d spans seen cells es total puts is n here (wide shape) marked) fs
-        (filled shape total puts is)
-
-    module _ (key : List KeyPart)
-        (own : (keys : List KeyValue) → cell_place spans keys ≡ Some n
-        → key_view key ≡ padded 6 keys) (row : List (Option ℤ))
-        (marked : get_or seen n false ≡ true)
-        (at : (a : ℕ) → a < length gs
-        → get_or row a None ≡ Some
-        (get_or (get_or (cut (length seen) (length gs) cells) a []) n (pos 0))) where
-      owned : (keys : List KeyValue) → is_at spans n keys ≡ true → padded 6 keys ≡ key_view key
-      owned keys e = sym (own keys (own_place spans n keys e))
-
-      pub fill_more : (hs : List (List KeyPart × List (Option ℤ)))
-          → IsMergedAt gs (key_view key) row fs hs → IsFilled gs spans seen cells es (suc n) hs
-      fill_more hs merged shape total puts is =
-          let d = group_with shape (length spans) gs in
-          rows_more d spans puts n key owned row
-          (row_there d spans seen cells es total puts is n here (wide shape) row marked at) fs
-          hs merged (filled shape total puts is)
-
-      pub fill_stays : (shape : Shape) (total : List (Option ℤ))
-          → IsPlacedWithRoom (group_with shape (length spans) gs) spans seen cells es total
-          → RowsStay gs (row_found fs (key_view key)) row
-      fill_stays shape total room =
-          ∥∥₁_elim room (stay_prop gs (row_found fs (key_view key)) row) by
-        where
-          by : (puts : List Update)
-              × IsPlaced (group_with shape (length spans) gs) spans seen cells es total puts
-              × HasRoom (group_with shape (length spans) gs) puts
-              → RowsStay gs (row_found fs (key_view key)) row
-          by r =
-              let d = group_with shape (length spans) gs in
-              row_stays d spans r.0 n key owned row
-              (row_there d spans seen cells es total r.0 r.1 n here (wide shape) row marked at)
-              r.2 fs (filled shape total r.0 r.1)
 
 -- ---- the total, with the rows of the first places merged in
 
@@ -419,7 +326,7 @@ module _ (d : Group) (spans : List Span) (seen : List Bool) (cells : List ℤ)
       sum_stays room = ∥∥₁_elim room
           (let prop : IsProp (MergeStays d.aggregates total row) = hlevel Bool-set in prop) by
         where
-          by : (puts : List Update) × IsPlaced d spans seen cells es all puts × HasRoom d puts
+          by : (puts : List Update) × IsPlaced d spans seen cells es all puts × AreInBits d puts
               → MergeStays d.aggregates total row
           by r = total_stays d spans n r.0 total row r.2 (summed r.0 r.1)
               (row_there d spans seen cells es all r.0 r.1 n here each_wide row marked at).1

@@ -1,16 +1,15 @@
 -- The rows with one more place that may be ALL.
-use Rattle.std.proofs.Common.{◌≡◌, ℕ, zero, suc, ◌+◌, ◌-◌, ◌<◌, ◌≤◌, Bool, true, false, ◌&&◌, ◌||◌, ℤ, List, [], ◌∷◌, ◌++◌, Option, Some}
-use Rattle.std.proofs.Common.{None, length, get_or, set, slice_get, map, take, drop, ap, sym, ◌∙◌, subst, refl, true≢false, arith, MatchBool}
-use Rattle.star_group.proofs.Common.{filter, list_any, Contains, AllByRecursion, append_cancel_left, Any-from_list_any, list_any-append, list_any-from_Any, filter-append, slice_get-get_or, place_from_lookup, any_passes_from_place, list_any-from_Contains, at_each, of_each, KeyValue}
-use Rattle.star_group.proofs.Common.{KeyPart, IsRowOver, key_view, row_found, has_puts, key_eq, vary, IsMergedWhere, IsRolledUp, IsRolledUpWithRoom, NoneCoarser, RollsUp, first_finer, is_among, keys_from, IsMergedAt, RowsStay, group_with, is_row_key, Aggregate, Shape, Plain, Cube, Rollup}
-use Rattle.star_group.proofs.Common.{is_grouping, finer, ∥∥₁_elim, ∥∥₁_map, Bool-set, and-or_distrib_left, take-length, and_parts, Update, Group}
+use Rattle.star_group.proofs.Common.{◌≡◌, ℕ, zero, suc, ◌+◌, ◌-◌, ◌<◌, ◌≤◌, Bool, true, false, ◌&&◌, ◌||◌, ℤ, List, [], ◌∷◌, ◌++◌, Option, Some, None, length, get_or, set, slice_get, map, take, drop, ap, sym, ◌∙◌, subst, refl, true≢false, arith, MatchBool, filter, list_any, Contains}
+use Rattle.star_group.proofs.Common.{AllByRecursion, append_cancel_left, list_any-append, filter-append, slice_get-get_or, place_from_lookup, any_passes_from_place, list_any-from_Contains, at_each, of_each, KeyValue, KeyPart, IsRowOver, key_view, row_found, has_puts, key_eq, vary, IsMergedWhere}
+use Rattle.star_group.proofs.Common.{IsRolledUp, IsRolledUpWithRoom, NoneCoarser, RollsUp, first_finer, is_among, keys_from, IsMergedAt, RowsStay, group_with, is_row_key, Aggregate, Shape, Plain, Cube, Rollup, is_grouping, finer, ∥∥₁_elim, ∥∥₁_map, Bool-set, and-or_distrib_left, take-length}
+use Rattle.star_group.proofs.Common.{and_parts, Update, Group, AreOnce, length-take-le, get_or-append, get_or-take, get_or_append_left}
 use Rattle.star_group.specs.OwnKeys.{padded}
 use Rattle.star_group.proofs.GivenGroups.{mapped}
 use Rattle.star_group.proofs.GroupKeys.{bool_same, key_decides, key_equiv}
-use Rattle.star_group.proofs.KeyedRows.{row_there}
-use Rattle.star_group.proofs.Merging.{any_filter}
+use Rattle.star_group.proofs.KeyedRows.{once_at, once_joined, row_once}
+use Rattle.star_group.proofs.Merging.{has_put, put_of}
 use Rattle.star_group.proofs.OwnKeyLemmas.{kept_before, length-padded, one_more, set_there, vary-more}
-use Rattle.star_group.proofs.Passes.{IsOnceAt, AreApart, AreOver, any_mapped, comes, filter_same, left_out, merged_one, none_yet, so_far, some_at, stays_one}
+use Rattle.star_group.proofs.Passes.{AreApart, AreOver, any_mapped, comes, disjoint, filter_same, joined, left_out, merged_one, none_yet, so_far, some_at, stays_one}
 
 -- ---- the keys of one put's rows
 
@@ -119,6 +118,11 @@ shown_key (suc n) (k ∷ ks) zero h few e = cc e
 shown_key (suc n) (k ∷ ks) (suc p) h few e =
     shown_key n ks p (omega (arith, h)) (omega (arith, few)) e
 
+hidden_none : (k : List (Option KeyValue)) (place : ℕ) → get_or (hide place k) place None ≡ None
+hidden_none [] place = refl
+hidden_none (x ∷ k) zero = refl
+hidden_none (x ∷ k) (suc place) = hidden_none k place
+
 in_keys : (s : Shape) (place count : ℕ) (q : List (Option KeyValue)) (ks : List KeyValue)
     → is_among s place count q ks ≡ true → list_any (key_eq q) (keys_from place count ks) ≡ true
 in_keys s place count q ks h =
@@ -131,9 +135,9 @@ keys_apart s us place count within few fit = record {
   differ = λ u c k l in_k in_l same.
       differ u c k l (in_keys s (place + 1) count k u.keys in_k)
       (in_keys s (place + 1) count l u.keys in_l) same;
-  new = λ u c k in_k in_hidden.
-      new u c k (in_keys s (place + 1) count k u.keys in_k)
-      (in_keys s (place + 1) count (hide place k) u.keys in_hidden);
+  new = λ u w c k in_k in_hidden.
+      new u w c k (in_keys s (place + 1) count k u.keys in_k)
+      (in_keys s (place + 1) count (hide place k) w.keys in_hidden);
 }
   where
     differ : (u : Update) → Contains us u → (k l : List (Option KeyValue))
@@ -153,22 +157,21 @@ keys_apart s us place count within few fit = record {
         let rests : b.rest ≡ d.rest = cc tails in
         b.is ∙ ap (λ r. take (suc place) (padded 6 u.keys) ++ r) rests ∙ sym d.is
 
-    new : (u : Update) → Contains us u → (k : List (Option KeyValue))
+    new : (u w : Update) → Contains us w → (k : List (Option KeyValue))
         → list_any (key_eq k) (keys_from (place + 1) count u.keys) ≡ true
-        → list_any (key_eq (hide place k)) (keys_from (place + 1) count u.keys) ≡ true → ⊥
-    new u c k in_k in_hidden =
-        let b = begins place count u.keys within few k in_k in
-        let d = begins place count u.keys within few (hide place k) in_hidden in
-        let fits : length u.keys ≡ count = at_each (λ w. length w.keys ≡ count) us u fit c in
-        let both : take place (padded 6 u.keys) ++ (None ∷ b.rest)
-        ≡ take place (padded 6 u.keys) ++ (get_or (padded 6 u.keys) place None ∷ d.rest) =
-        sym (hidden_is place count u.keys within few k b) ∙ d.is
-        ∙ one_more (padded 6 u.keys) place None d.rest (wide place count u.keys within few) in
-        let tails : None ∷ b.rest ≡ get_or (padded 6 u.keys) place None ∷ d.rest =
-        append_cancel_left (take place (padded 6 u.keys)) (None ∷ b.rest)
-        (get_or (padded 6 u.keys) place None ∷ d.rest) both in
-        let none : get_or (padded 6 u.keys) place None ≡ None = cc tails in
-        shown_key 6 u.keys place (omega (arith, within, fits)) (omega (arith, few, fits)) none
+        → list_any (key_eq (hide place k)) (keys_from (place + 1) count w.keys) ≡ true → ⊥
+    new u w c k in_k in_hidden =
+        let b = begins place count w.keys within few (hide place k) in_hidden in
+        let fits : length w.keys ≡ count = at_each (λ v. length v.keys ≡ count) us w fit c in
+        let long = wide place count w.keys within few in
+        let first = length-take-le (suc place) (padded 6 w.keys) (omega (arith, long)) in
+        let seen : get_or (hide place k) place None ≡ get_or (padded 6 w.keys) place None =
+        ap (λ q. get_or q place None) b.is
+        ∙ get_or-append (take (suc place) (padded 6 w.keys)) b.rest None place
+        (omega (arith, first))
+        ∙ get_or-take (suc place) (padded 6 w.keys) place None (omega arith) in
+        shown_key 6 w.keys place (omega (arith, within, fits)) (omega (arith, few, fits))
+        (sym seen ∙ hidden_none k place)
 
 -- a hidden key and a shown one behind it are no grouping of a rollup
 gap : (n count p : ℕ) (ks : List KeyValue) (rest : List (Option KeyValue)) → suc p < length ks
@@ -203,8 +206,7 @@ module _ (d : Group) (us : List Update) (place : ℕ) (within : place < d.count)
   there u c k in_row = by (row_found es k) refl (rolled.rows k)
     where
       some : has_puts (filter (λ w. In k w.keys) us) ≡ true
-      some = any_filter (λ w. In k w.keys) us
-          ∙ list_any-from_Any (λ w. In k w.keys) us (c.0, u, c.1, c.2, in_row)
+      some = has_put (λ w. In k w.keys) us u c in_row
 
       by : (found : Option (List (Option ℤ))) → row_found es k ≡ found
           → IsRowOver d (filter (λ w. In k w.keys) us) found
@@ -219,7 +221,7 @@ module _ (d : Group) (us : List Update) (place : ℕ) (within : place < d.count)
   fits_at u c = at_each (λ w. length w.keys ≡ d.count) us u rolled.fit c
 
   now_in : (q : List (Option KeyValue)) (u : Update) → Contains us u
-      → so_far In Made (hide place) es (length es) q u.keys
+      → (In q u.keys || so_far In Made (hide place) es (length es) q u.keys)
       ≡ is_among d.shape place d.count q u.keys
   now_in q u c =
       ap (λ fs. In q u.keys || list_any (comes In Made (hide place) q u.keys) fs) (take-length es)
@@ -271,36 +273,64 @@ module _ (d : Group) (us : List Update) (place : ℕ) (within : place < d.count)
           ∙ ap (λ b. b && (key_eq q (hide place mine.1) && In mine.1 u.keys)) made
           ∙ ap (λ b. b && In mine.1 u.keys) mine.3 ∙ in_row)
 
-  pub all_merged : (fs : List (List KeyPart × List (Option ℤ)))
-      → AreOver d us (so_far In Made (hide place) es (length es)) fs → IsRolledUp d place fs us
-  all_merged fs over = record {
-    fit = rolled.fit;
-    rows = λ q. subst (λ ps. IsRowOver d ps (row_found fs q))
-        (filter_same (λ u. so_far In Made (hide place) es (length es) q u.keys)
-        (λ u. is_among d.shape place d.count q u.keys) us
-        (of_each (λ u. so_far In Made (hide place) es (length es) q u.keys
-        ≡ is_among d.shape place d.count q u.keys) us (now_in q)))
-        (over q);
-  }
-
   -- each row is over its puts
-  pub row_over : IsOnceAt es → (j : ℕ) (e : List KeyPart × List (Option ℤ))
+  pub row_over : (j : ℕ) (e : List KeyPart × List (Option ℤ))
       → slice_get es j ≡ Some e → IsRowOver d (filter (λ u. In (key_view e.0) u.keys) us) (Some e.1)
-  row_over once j e at = subst (IsRowOver d (filter (λ u. In (key_view e.0) u.keys) us))
-      (row_there es once j e at) (rolled.rows (key_view e.0))
+  row_over j e at = subst (IsRowOver d (filter (λ u. In (key_view e.0) u.keys) us))
+      (row_once es rolled.once j e at) (rolled.rows (key_view e.0))
+
+  module _ (fs : List (List KeyPart × List (Option ℤ)))
+      (over : AreOver d us (so_far In Made (hide place) es (length es)) fs) (once : AreOnce fs) where
+    apart : AreApart us In (hide place)
+    apart = keys_apart d.shape us place d.count within few rolled.fit
+
+    -- none of the rows that were there has the key of a coarser one
+    new_key : (f : List KeyPart × List (Option ℤ)) → Contains fs f
+        → row_found es (key_view f.0) ≡ None
+    new_key f c = by (row_found es (key_view f.0)) refl (rolled.rows (key_view f.0))
+      where
+        made : IsRowOver d
+            (filter (λ u. so_far In Made (hide place) es (length es) (key_view f.0) u.keys) us)
+            (Some f.1)
+        made = subst (IsRowOver d
+            (filter (λ u. so_far In Made (hide place) es (length es) (key_view f.0) u.keys) us))
+            (row_once fs once c.0 f (slice_get-get_or fs c.0 f c.1 ∙ ap Some c.2))
+            (over (key_view f.0))
+
+        by : (found : Option (List (Option ℤ))) → row_found es (key_view f.0) ≡ found
+            → IsRowOver d (filter (λ u. In (key_view f.0) u.keys) us) found
+            → row_found es (key_view f.0) ≡ None
+        by None e was = e
+        by (Some row) e was =
+            let old = put_of (λ u. In (key_view f.0) u.keys) us was.0 in
+            let new = put_of
+            (λ u. so_far In Made (hide place) es (length es) (key_view f.0) u.keys) us made.0 in
+            absurd (disjoint us In Made (hide place) es apart (length es) (key_view f.0) old.0 new.0
+            old.1 old.2 new.2)
+
+    pub all_merged : IsRolledUp d place (es ++ fs) us
+    all_merged = record {
+      fit = rolled.fit;
+      rows = λ q. subst (λ ps. IsRowOver d ps (row_found (es ++ fs) q))
+          (filter_same (λ u. In q u.keys || so_far In Made (hide place) es (length es) q u.keys)
+          (λ u. is_among d.shape place d.count q u.keys) us
+          (of_each (λ u. (In q u.keys || so_far In Made (hide place) es (length es) q u.keys)
+          ≡ is_among d.shape place d.count q u.keys) us (now_in q)))
+          (joined us In Made (hide place) es apart (length es) d fs rolled.rows over q);
+      once = once_joined es fs rolled.once once
+          (of_each (λ f. row_found es (key_view f.0) ≡ None) fs new_key);
+    }
 
   -- in a rollup no row has a coarser key with ALL one place before: the key at this place is shown
-  pub shows_next : IsOnceAt es → (p : ℕ) → p + 1 ≡ place
-      → (j : ℕ) (e : List KeyPart × List (Option ℤ)) → slice_get es j ≡ Some e
-      → is_grouping Rollup (take d.count (hide p (key_view e.0))) ≡ false
-  shows_next once p next j e at =
-      let some = Any-from_list_any (λ u. In (key_view e.0) u.keys) us
-      (sym (any_filter (λ u. In (key_view e.0) u.keys) us) ∙ (row_over once j e at).0) in
-      let ks = some.1.keys in
+  pub shows_next : (p : ℕ) → p + 1 ≡ place → (j : ℕ) (e : List KeyPart × List (Option ℤ))
+      → slice_get es j ≡ Some e → is_grouping Rollup (take d.count (hide p (key_view e.0))) ≡ false
+  shows_next p next j e at =
+      let some = put_of (λ u. In (key_view e.0) u.keys) us (row_over j e at).0 in
+      let ks = some.0.keys in
       let fits : length ks ≡ d.count =
-      at_each (λ w. length w.keys ≡ d.count) us some.1 rolled.fit (some.0, some.2, some.3) in
+      at_each (λ w. length w.keys ≡ d.count) us some.0 rolled.fit some.1 in
       let b = begins place d.count ks within few (key_view e.0)
-      (in_keys d.shape (place + 1) d.count (key_view e.0) ks some.4) in
+      (in_keys d.shape (place + 1) d.count (key_view e.0) ks some.2) in
       let same : place ≡ suc p = omega (arith, next) in
       let long : suc p < length (padded 6 ks) =
       omega (arith, length-padded 6 ks, within, few, same) in
@@ -333,34 +363,33 @@ stay_prop gs None more = hlevel
 stay_prop gs (Some held) more = hlevel Bool-set
 
 module _ (shape : Shape) (count : ℕ) (gs : List Aggregate) (place : ℕ)
-    (es : List (List KeyPart × List (Option ℤ))) (once : IsOnceAt es) where
+    (es : List (List KeyPart × List (Option ℤ))) where
   abbrev d : Group
   d = group_with shape count gs
 
   -- the first rows, where none has a coarser key that is a grouping
   pub none_before : (from : ℕ) → from ≤ length es → NoneCoarser shape count place from es
-      → (rows : List (List KeyPart × List (Option ℤ))) → es ≡ rows
-      → IsMergedSoFar shape count gs place es from rows
-  none_before zero within none rows same = λ puts below few rolled.
-      none_yet (is_among shape (place + 1) count) (IsMade shape count) (hide place) es d puts rows
-      (subst (λ xs. AreOver d puts (is_among shape (place + 1) count) xs) same rolled.rows)
-  none_before (suc j) within none rows same =
+      → IsMergedSoFar shape count gs place es from []
+  none_before zero within none = λ puts below few rolled.
+      none_yet (is_among shape (place + 1) count) (IsMade shape count) (hide place) es d puts
+  none_before (suc j) within none =
       let here : j < length es = omega (arith, within) in
       let next : j + 1 ≡ suc j = omega arith in
       let before = none_before j (omega (arith, within))
-      (λ number h. none number (omega (arith, h))) rows same in
-      subst (λ n. IsMergedSoFar shape count gs place es n rows) next (λ puts below few rolled.
+      (λ number h. none number (omega (arith, h))) in
+      subst (λ n. IsMergedSoFar shape count gs place es n []) next (λ puts below few rolled.
       left_out puts (is_among shape (place + 1) count) (IsMade shape count) (hide place) es
-      (keys_apart shape puts place count (omega (arith, below)) few rolled.fit) once j
+      (keys_apart shape puts place count (omega (arith, below)) few rolled.fit)
+      (once_at es rolled.once) j
       (get_or es j ([], [])) (slice_get-get_or es j ([], []) here) d
-      (none j (omega arith)) rows (before puts below few rolled))
+      (none j (omega arith)) [] (before puts below few rolled))
 
-  pub rolls_up : (before after : List (List KeyPart × List (Option ℤ))) → es ≡ before
-      → IsMergedSoFar shape count gs place es (length es) after
-      → RollsUp shape count gs (place + 1) before place after
-  rolls_up before after same over puts below few rolled =
-      let here = subst (λ xs. IsRolledUp d (place + 1) xs puts) (sym same) rolled in
-      all_merged d puts place (omega (arith, below)) few es here after (over puts below few here)
+  pub rolls_up : (fs : List (List KeyPart × List (Option ℤ))) → AreOnce fs
+      → IsMergedSoFar shape count gs place es (length es) fs
+      → RollsUp shape count gs (place + 1) es place (es ++ fs)
+  rolls_up fs once over puts below few rolled =
+      all_merged d puts place (omega (arith, below)) few es rolled fs (over puts below few rolled)
+      once
 
   module _ (j : ℕ) (e : List KeyPart × List (Option ℤ)) (at : slice_get es j ≡ Some e)
       (before : List (List KeyPart × List (Option ℤ))) (key : List KeyPart)
@@ -376,9 +405,10 @@ module _ (shape : Shape) (count : ℕ) (gs : List Aggregate) (place : ℕ)
         by r =
             let within : place < count = omega (arith, r.below) in
             stays_one r.puts (is_among shape (place + 1) count) (IsMade shape count) (hide place) es
-            (keys_apart shape r.puts place count within r.few r.rows.fit) once j e at d
+            (keys_apart shape r.puts place count within r.few r.rows.fit)
+            (once_at es r.rows.once) j e at d
             (ap (IsMade shape count) (sym is_key) ∙ grouping)
-            (row_over d r.puts place within r.few es r.rows once j e at) before key is_key r.room
+            (row_over d r.puts place within r.few es r.rows j e at) before key is_key r.room
             (over r.puts r.below r.few r.rows)
 
     pub turn_merges : (after : List (List KeyPart × List (Option ℤ)))
@@ -399,35 +429,34 @@ module _ (shape : Shape) (count : ℕ) (gs : List Aggregate) (place : ℕ)
             (hide place) es (j + 1)) after
         by true grouping merged =
             merged_one puts (is_among shape (place + 1) count) (IsMade shape count) (hide place) es
-            apart once j e at d (ap (IsMade shape count) (sym is_key) ∙ grouping)
-            (row_over d puts place within few es rolled once j e at) before after key is_key merged
+            apart (once_at es rolled.once) j e at d
+            (ap (IsMade shape count) (sym is_key) ∙ grouping)
+            (row_over d puts place within few es rolled j e at) before after key is_key merged
             (over puts below few rolled)
         by false other same = subst
             (AreOver d puts (so_far (is_among shape (place + 1) count) (IsMade shape count)
             (hide place) es (j + 1))) (sym same)
             (left_out puts (is_among shape (place + 1) count) (IsMade shape count) (hide place) es
-            apart once j e at d (ap (IsMade shape count) (sym is_key) ∙ other) before
+            apart (once_at es rolled.once) j e at d
+            (ap (IsMade shape count) (sym is_key) ∙ other) before
             (over puts below few rolled))
 
 -- ---- the passes
 
--- after the pass before, where the rows that were there have their keys still
+-- after the pass before
 pub next_none : (shape : Shape) (count : ℕ) (gs : List Aggregate) (place : ℕ)
-    (es fs : List (List KeyPart × List (Option ℤ))) → IsOnceAt es → place < count
-    → ∥ IsRolledUpWithRoom shape count gs (place + 1) es ∥₁
-    → ((number : ℕ) → number < length es
-    → (get_or fs number ([], [])).0 ≡ (get_or es number ([], [])).0)
-    → (p : ℕ) → p + 1 ≡ place → NoneCoarser shape count p (first_finer shape (length es)) fs
-next_none Plain count gs place es fs once within room keys p next number h =
-    absurd (omega (arith, h))
-next_none Cube count gs place es fs once within room keys p next number h =
-    absurd (omega (arith, h))
-next_none Rollup count gs place es fs once within room keys p next number h =
-    ap (λ key. is_grouping Rollup (take count (hide p (key_view key)))) (keys number h)
+    (es fs : List (List KeyPart × List (Option ℤ))) → place < count
+    → ∥ IsRolledUpWithRoom shape count gs (place + 1) es ∥₁ → (p : ℕ) → p + 1 ≡ place
+    → NoneCoarser shape count p (first_finer shape (length es)) (es ++ fs)
+next_none Plain count gs place es fs within room p next number h = absurd (omega (arith, h))
+next_none Cube count gs place es fs within room p next number h = absurd (omega (arith, h))
+next_none Rollup count gs place es fs within room p next number h =
+    ap (λ (e : List KeyPart × List (Option ℤ)). is_grouping Rollup (take count (hide p
+    (key_view e.0)))) (get_or_append_left es fs ([], []) number h)
     ∙ ∥∥₁_elim room (let prop :
     IsProp (is_grouping Rollup (take count (hide p (key_view (get_or es number ([], [])).0)))
     ≡ false) = hlevel Bool-set in prop) (λ r.
-    shows_next (group_with Rollup count gs) r.puts place within r.few es r.rows once p next number
+    shows_next (group_with Rollup count gs) r.puts place within r.few es r.rows p next number
     (get_or es number ([], [])) (slice_get-get_or es number ([], []) h))
 
 pub room_there : (shape : Shape) (count : ℕ) (gs : List Aggregate) (place : ℕ)

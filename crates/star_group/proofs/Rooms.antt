@@ -1,7 +1,6 @@
 -- Where the sums by key list add up within 128 bits and the counts within 64, no put overflows.
-use Rattle.std.proofs.Common.{◌≡◌, ℕ, ◌<◌, ◌≤◌, ◌^◌, Bool, true, false, not, ℤ, pos, negsuc, ◌+ℤ◌, ◌≤ℤ◌, List, [], ◌∷◌, Option, Some, None, length, cond, ap, sym, ◌∙◌, refl, true≢false, arith}
-use Rattle.star_group.proofs.Common.{ints, false_from_ne_true, lt-ltb, count_by-le-length, length-filter, filter, Aggregate, Sum, Count, Min, Max, aggregate, belongs, joined, numbers_for, KeyValue, key_value_cmp, leaves, Update, overflows, aggregate_at, overflow_somewhere, Group}
-use Rattle.star_group.proofs.Common.{put_number, HasRoom}
+use Rattle.star_group.proofs.Common.{◌≡◌, ℕ, ◌<◌, ◌≤◌, ◌^◌, Bool, true, false, not, ℤ, pos, negsuc, ◌+ℤ◌, ◌≤ℤ◌, List, [], ◌∷◌, Option, Some, None, length, cond, ap, sym, ◌∙◌, refl, true≢false, arith, ints, false_from_ne_true, lt-ltb, count_by-le-length, length-filter, filter, Aggregate, Sum}
+use Rattle.star_group.proofs.Common.{Count, Min, Max, aggregate, belongs, joined, numbers_for, KeyValue, key_value_cmp, leaves, Update, overflows, aggregate_at, overflow_somewhere, Group, put_number, HasRoom}
 use Rattle.star_interval.specs.Range.{is_i64, is_i128}
 use Rattle.star_group.specs.Cells.{held}
 use Rattle.star_group.specs.Stores.{above_zero, below_zero}

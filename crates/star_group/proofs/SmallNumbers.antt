@@ -1,13 +1,10 @@
 -- Numbers that add up within 128 bits do so by key list too; few numbers of 64 bits do.
-use Rattle.std.proofs.Common.{◌≡◌, ℕ, zero, suc, ◌+◌, ◌*◌, ◌<◌, ◌≤◌, ◌^◌, Bool, true, false, ◌&&◌, ◌||◌, ℤ, pos, negsuc, ◌+ℤ◌, List, [], ◌∷◌, Option, Some, None, length, cond, ap, sym, ◌∙◌, subst, refl, arith, true≢false}
-use Rattle.star_group.proofs.Common.{slice_index_or, ltb-true, ints, All-head, All-tail, IsDistinct-head, IsDistinct-tail, filter, list_any, AllByRecursion, IsDistinct, count_by-le-length, length-filter, Sum, joined, numbers_for, KeyValue, same_keys, Update, aggregate_at, Group, IsContent}
-use Rattle.star_group.proofs.Common.{key_lists, put_number, puts_of, AddUp, HasRoom}
+use Rattle.star_group.proofs.Common.{◌≡◌, ℕ, zero, suc, ◌+◌, ◌*◌, ◌<◌, ◌≤◌, ◌^◌, Bool, true, false, ◌&&◌, ◌||◌, ℤ, pos, negsuc, ◌+ℤ◌, List, [], ◌∷◌, Option, Some, None, length, cond, ap, sym, ◌∙◌, subst, refl, arith, true≢false, slice_index_or, ltb-true, ints, All-head, All-tail}
+use Rattle.star_group.proofs.Common.{IsDistinct-head, IsDistinct-tail, list_any, AllByRecursion, IsDistinct, Sum, numbers_for, same_keys, Update, aggregate_at, Group, IsContent, key_lists, put_number, AddUp, HasRoom}
 use Rattle.std.specs.Prelude.{All}
 use Rattle.star_interval.specs.Range.{is_i64}
 use Rattle.star_group.specs.Stores.{above_zero, below_zero}
-use Rattle.star_group.proofs.ContentByKeys.{all_more, sums, told}
-use Rattle.star_group.proofs.ContentMade.{made, made_content}
-use Rattle.star_group.proofs.KeyLists.{keys_decide}
+use Rattle.star_group.proofs.ContentByKeys.{sums, told}
 use Rattle.star_group.proofs.JoinedParts.{flipped, more, no_two, over, over_more}
 
 -- ---- a measure of numbers that is no more for a sum than for its parts together
@@ -164,98 +161,6 @@ small_room d us small few = record { sums = sums; counts = λ place h same. few 
                 is.once each,
           );
         }
-
--- ---- the puts whose key lists pass a test
-
-kept_of : (p : List KeyValue → Bool) (keys : List KeyValue) (us : List Update) (b : Bool)
-    → p keys ≡ b → puts_of keys (filter (λ u. p u.keys) us) ≡ cond b (puts_of keys us) []
-kept_of p keys [] true is = refl
-kept_of p keys [] false is = refl
-kept_of p keys (u ∷ us) b is =
-    by (same_keys keys u.keys) (p u.keys) refl refl (kept_of p keys us b is)
-  where
-    by : (c e : Bool) → same_keys keys u.keys ≡ c → p u.keys ≡ e
-        → puts_of keys (filter (λ w. p w.keys) us) ≡ cond b (puts_of keys us) []
-        → puts_of keys (cond e (u ∷ filter (λ w. p w.keys) us) (filter (λ w. p w.keys) us))
-        ≡ cond b (cond c (u ∷ puts_of keys us) (puts_of keys us)) []
-    by true true own passes rest =
-        ap (λ c. cond c (u ∷ puts_of keys (filter (λ w. p w.keys) us))
-        (puts_of keys (filter (λ w. p w.keys) us))) own
-        ∙ ap (λ ws. u ∷ ws) (rest ∙ ap (λ c. cond c (puts_of keys us) []) here)
-        ∙ sym (ap (λ c. cond c (u ∷ puts_of keys us) []) here)
-      where
-        here : b ≡ true
-        here = sym is ∙ ap p ((keys_decide keys u.keys).0 own) ∙ passes
-    by true false own passes rest =
-        rest ∙ ap (λ c. cond c (puts_of keys us) []) here
-        ∙ sym (ap (λ c. cond c (u ∷ puts_of keys us) []) here)
-      where
-        here : b ≡ false
-        here = sym is ∙ ap p ((keys_decide keys u.keys).0 own) ∙ passes
-    by false true own passes rest =
-        ap (λ c. cond c (u ∷ puts_of keys (filter (λ w. p w.keys) us))
-        (puts_of keys (filter (λ w. p w.keys) us))) own ∙ rest
-    by false false own passes rest = rest
-
--- where there is room for some puts, there is room for those whose key lists pass
-pub room_kept : (d : Group) (us : List Update) (p : List KeyValue → Bool) → HasRoom d us
-    → HasRoom d (filter (λ u. p u.keys) us)
-room_kept d us p room = record {
-  sums = sums_kept;
-  counts = λ place h same.
-      omega (
-        arith,
-        room.counts place h same,
-        length-filter (λ (u : Update). p u.keys) us,
-        count_by-le-length (λ (u : Update). p u.keys) us,
-      );
-}
-  where
-    sums_kept : (es : List Update) → IsContent d (filter (λ u. p u.keys) us) es → (place : ℕ)
-        → place < length d.aggregates → aggregate_at d.aggregates place ≡ Sum
-        → AddUp (numbers_for place es)
-    sums_kept es is place h same =
-        let up = room.sums (made d us) (made_content d us) place h same in
-        record {
-          above = omega (
-            arith,
-            (sides place es).0,
-            (sides place (made d us)).0,
-            up.above,
-            entries_less above (λ x y. above_sum x y (x +ℤ y) refl) (put_number place) (made d us)
-                es is.once each,
-          );
-          below = omega (
-            arith,
-            (sides place es).1,
-            (sides place (made d us)).1,
-            up.below,
-            entries_less below (λ x y. below_sum x y (x +ℤ y) refl) (put_number place) (made d us)
-                es is.once each,
-          );
-        }
-      where
-        found : (e : Update) → joined (λ x y. x +ℤ y)
-            (numbers_for place (puts_of e.keys (filter (λ u. p u.keys) us)))
-            ≡ Some (put_number place e)
-            → over (λ x y. x +ℤ y) (put_number place) (λ u. same_keys e.keys u.keys) (made d us)
-            ≡ Some (put_number place e)
-        found e told = sums d us (made d us) (made_content d us) place h (same_keys e.keys) same
-            ∙ by (p e.keys) refl
-          where
-            by : (b : Bool) → p e.keys ≡ b
-                → joined (λ x y. x +ℤ y) (numbers_for place (puts_of e.keys us))
-                ≡ Some (put_number place e)
-            by true passes = ap (λ ws. joined (λ x y. x +ℤ y) (numbers_for place ws))
-                (sym (kept_of p e.keys us true passes)) ∙ told
-            by false fails = absurd (let none : Some (put_number place e) ≡ None =
-                sym told ∙ ap (λ ws. joined (λ x y. x +ℤ y) (numbers_for place ws))
-                (kept_of p e.keys us false fails) in let no : ⊥ = cc none in no)
-
-        each : AllByRecursion (λ e.
-            over (λ x y. x +ℤ y) (put_number place) (λ u. same_keys e.keys u.keys) (made d us)
-            ≡ Some (put_number place e)) es
-        each = all_more _ _ found es (told d (filter (λ u. p u.keys) us) es is place h Sum same)
 
 -- ---- few numbers of 64 bits
 

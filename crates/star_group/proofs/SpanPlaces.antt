@@ -1,7 +1,6 @@
 -- Places of key lists: how many there are, and those of the last keys.
-use Rattle.std.proofs.Common.{◌≡◌, ℕ, zero, suc, ◌+◌, ◌*◌, ◌/◌, ◌%◌, ◌<◌, ◌≤◌, ◌^◌, Bool, true, false, ℤ, pos, negsuc, ◌-ℤ◌, List, [], ◌∷◌, Option, Some}
-use Rattle.std.proofs.Common.{None, IfSome, MatchOption, nat_lt, cond, ◌++◌, map, length, take, drop, drop-cons, get_or, refl, ap, sym, ◌∙◌, arith}
-use Rattle.star_group.proofs.Common.{mul-div-le, mul-le-mul_left, mul_assoc, ltb-false, div-mul-add, div-add-mod', GroupKey, KeyValue, Number, Code, Span, IsKeyWord, key_word, batch_keys, IsOf, above, offset_of, cell_place, places, place_up_to}
+use Rattle.star_group.proofs.Common.{◌≡◌, ℕ, zero, suc, ◌+◌, ◌*◌, ◌/◌, ◌%◌, ◌<◌, ◌≤◌, ◌^◌, Bool, true, false, ℤ, pos, negsuc, ◌-ℤ◌, List, [], ◌∷◌, Option, Some, None, IfSome, MatchOption, nat_lt, cond, ◌++◌, map, length, take, drop, drop-cons, get_or, refl, ap, sym, ◌∙◌, arith, mul-div-le}
+use Rattle.star_group.proofs.Common.{mul-le-mul_left, mul_assoc, ltb-false, div-mul-add, div-add-mod', GroupKey, KeyValue, Number, Code, Span, IsKeyWord, key_word, batch_keys, IsOf, above, offset_of, cell_place, places, place_up_to}
 use Rattle.star_program.specs.declared.group.GroupKey.TheVariants as declared
 
 -- ---- how many places there are

@@ -1,8 +1,7 @@
 -- Rows found by the digits of their keys: looking one up, and one row more.
-use Rattle.std.proofs.Common.{◌≡◌, ◌≢◌, ℕ, zero, suc, ◌+◌, ◌-◌, ◌*◌, ◌/◌, ◌%◌, ◌^◌, ◌<◌, ◌≤◌, List, [], ◌∷◌, ◌++◌, Bool, true, false, MatchBool, true≢false, length}
-use Rattle.std.proofs.Common.{drop, cond, nat_lt, get_or, set, ap, sym, ◌∙◌, subst, refl, arith, rules, below_more, get_or-set_same, get_or-set_other, ◌⊎◌, inl, inr}
-use Rattle.star_group.proofs.Common.{cases_eq, cases_lt, at_drop_more, get_or_append_left, get_or_past, get_or_default, get_or_push, length-append, length-set, ∥∥₁_elim, ∥∥₁_map, KeyPart, All, eq-value, Decides, signed_Decides, unsigned_Decides, pointwise, slice_eq-Decides, length-cut}
-use Rattle.star_group.proofs.Common.{IsHeld, IsTrie, IsMissing, Leads, child, key_at, part_digit, turn_at, word_with}
+use Rattle.star_group.proofs.Common.{◌≡◌, ◌≢◌, ℕ, zero, suc, ◌+◌, ◌-◌, ◌*◌, ◌/◌, ◌%◌, ◌^◌, ◌<◌, ◌≤◌, List, [], ◌∷◌, ◌++◌, Bool, true, false, MatchBool, true≢false, length, drop, cond, nat_lt, get_or, set, ap, sym, ◌∙◌, subst, refl, arith, rules, below_more, get_or-set_same, get_or-set_other}
+use Rattle.star_group.proofs.Common.{◌⊎◌, inl, inr, cases_eq, cases_lt, at_drop_more, get_or_append_left, get_or_past, get_or_default, get_or_push, length-append, length-set, ∥∥₁_elim, ∥∥₁_map, KeyPart, All, eq-value, Decides, signed_Decides, unsigned_Decides, pointwise, slice_eq-Decides}
+use Rattle.star_group.proofs.Common.{IsTrie, IsMissing, Leads, child, key_at, part_digit, turn_at, word_with}
 use Rattle.star_group.specs.declared.keyed.key.KeyPart.TheVariants.{Number, Code}
 use Rattle.star_program.specs.Rows.{cut}
 use Rattle.star_group.specs.Private.Tries.{digit_at, node_at, word_from}
@@ -38,15 +37,6 @@ keys_told b ps rs e = by b e
     by : (b : Bool) → b ≡ pointwise part_eq ps rs → MatchBool b (ps ≡ rs) (ps ≡ rs → ⊥)
     by true e = decides.0 (sym e)
     by false e = λ same. true≢false (sym (decides.1 same) ∙ sym e)
-
--- the row of a number that is there and has the key
-pub held_when : (width count : ℕ) (parts key : List KeyPart) (number : ℕ) (b : Bool)
-    → number < count → MatchBool b (key_at (cut width count parts) number ≡ key)
-    (key_at (cut width count parts) number ≡ key → ⊥) → b ≡ true
-    → IsHeld (cut width count parts) key number
-held_when width count parts key number true low told e =
-    record { within = omega (arith, low, length-cut width count parts); is = told }
-held_when width count parts key number false low told e = absurd (true≢false (sym e))
 
 -- ---- the digits of a key
 
@@ -180,11 +170,6 @@ module _ (width : ℕ) (ks : List (List KeyPart)) (links : List (List ℕ)) (key
                 by : (depth < e) ⊎ (e ≤ depth) → (e ≤ depth) ⊎ (depth < e)
                 by (inl h) = inr h
                 by (inr h) = inl h
-
-    -- a node below is that of a row
-    pub row_below : (next : ℕ) → next ≡ child links node digit → 0 < next → next - 1 < length ks
-    row_below next e more = let under = trie.below node digit (subst (λ n. 0 < n) e more) in
-        omega (arith, under.1, e, trie.many, more)
 
 -- ---- one row more
 

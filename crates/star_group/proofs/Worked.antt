@@ -1,16 +1,16 @@
 -- What cells hold, which rows a put changes, the keys and places of rows, batches, and which numbers
 -- add up, by computation; and what each relation says.
-use Rattle.std.proofs.Common.{◌≡◌, ◌↔◌, ◌<◌, ◌≤◌, ◌+◌, ◌*◌, ◌^◌, ◌-◌, ◌++◌, ◌||◌, ℕ, Bool, true, false, true≢false, ℤ, pos, negsuc, List, [], ◌∷◌, Option, Some, None, arith, length, map, replicate, sym, slice_index_or, refl}
-use Rattle.star_group.proofs.Common.{Bor, AllByRecursion, IsDistinct, list_any, Gives, Gives2, Gives3, PBrand1, Sum, Count, Min, Max, Plain, Cube, Rollup, aggregate, numbers_for, GroupDecl, KeyValue, Number, Code, value_count, same_keys, IsSmall, Update, aggregate_at}
-use Rattle.star_group.proofs.Common.{PutBatch, KeyPart, Span, AreGrouped, HasAggregates, IsBase, IsRowOver, key_value_view, puts_in, puts_with, row_found, HasRoomForRows, IsKeyWord, IsPutBatch, batch_keys, key_word, put_in, puts_after, word_in, AreAt, IsPlaced, aggregate_cells, cell_over}
-use Rattle.star_group.proofs.Common.{neutral, step, has_puts, IsWithPut, is_of_put, IsOf, cell_place, is_at, is_outside, offset_of, places, AddUp, Group, HasRoom, IsContent, combined, group_declared, key_lists, put_number, puts_of}
-use Rattle.std.specs.Prelude.{All, filter}
-use Rattle.star_program.specs.declared.group.GroupKey.TheVariants as declared
-use Rattle.star_group.specs.declared.keyed.key.KeyPart.TheVariants as part
+use Rattle.star_group.proofs.Common.{◌≡◌, ◌↔◌, ◌<◌, ◌≤◌, ◌+◌, ◌*◌, ◌^◌, ◌-◌, ◌++◌, ◌||◌, ℕ, true, false, true≢false, ℤ, pos, negsuc, List, [], ◌∷◌, Option, Some, None, arith, length, map, replicate, sym, slice_index_or, refl, Bor, AllByRecursion, IsDistinct, list_any, Gives, Gives2, Gives3}
+use Rattle.star_group.proofs.Common.{PBrand1, Sum, Count, Min, Max, Plain, Cube, Rollup, aggregate, numbers_for, GroupDecl, KeyValue, Number, Code, value_count, same_keys, IsSmall, Update, aggregate_at, PutBatch, Span, IsRowOver, key_value_view, puts_in, puts_with, row_found, HasRoomForRows}
+use Rattle.star_group.proofs.Common.{IsKeyWord, IsPutBatch, batch_keys, key_word, put_in, puts_after, word_in, cell_over, neutral, step, has_puts, IsWithPut, is_of_put, IsOf, cell_place, offset_of, places, AddUp, Group, HasRoom, IsContent, combined, group_declared, key_lists, put_number}
+use Rattle.star_group.proofs.Common.{puts_of}
+use Rattle.std.specs.Prelude.{All}
 use Rattle.star_group.specs.Cells.{held}
 use Rattle.star_group.specs.OneMore.{group_aggregate}
 use Rattle.star_group.specs.OwnKeys.{padded, vary}
 use Rattle.star_group.specs.Stores.{above_zero, below_zero}
+use Rattle.star_program.specs.declared.group.GroupKey.TheVariants as declared
+use Rattle.star_group.specs.declared.keyed.key.KeyPart.TheVariants as part
 
 -- ---- cells: over no number, over a greater one and over a lesser one
 
@@ -114,26 +114,6 @@ found : IsRowOver sales (puts_in sales (row_of 3) puts) None
 unfolding padded vary
 found = (refl, λ h. true≢false h)
 
-module _ (d : Group) (us : List Update) (row : List (Option ℤ))
-    (entries : List (List KeyPart × List (Option ℤ))) where
-  rows : (AreGrouped d entries us ↔ (AllByRecursion (λ put. length put.keys ≡ d.count) us
-      × ((q : List (Option KeyValue)) → IsRowOver d (puts_in d q us) (row_found entries q))))
-      × (IsRowOver d us None ≡ (has_puts us ≡ false))
-      × (IsRowOver d us (Some row) ≡ ((has_puts us ≡ true) × HasAggregates d us row))
-      × (HasAggregates d us row ≡ ((place : ℕ) → place < length d.aggregates
-      → slice_index_or row place None
-      ≡ held (aggregate_at d.aggregates place) (numbers_for place us)))
-      × (IsBase d entries row us ↔ (AllByRecursion (λ put. length put.keys ≡ d.count) us
-      × ((q : List (Option KeyValue)) → IsRowOver d (puts_with q us) (row_found entries q))
-      × HasAggregates d us row))
-  rows = (
-    (λ g. (g.fit, g.rows), λ h. record { fit = h.0; rows = h.1 }),
-    refl,
-    refl,
-    refl,
-    (λ b. (b.fit, b.rows, b.total), λ h. record { fit = h.0; rows = h.1; total = h.2 }),
-  )
-
 -- ---- 128 bits of a SUM, 64 of a COUNT
 
 room : (above_zero (pos 4 ∷ negsuc 2 ∷ pos 5 ∷ negsuc 0 ∷ []) ≡ 9)
@@ -181,24 +161,6 @@ module _ (d : Group) (us content : List Update) (zs : List ℤ) where
     λ w. (w.keys, w.once, w.own, w.others),
     λ h. record { keys = h.0; once = h.1; own = h.2; others = h.3 },
   )
-
-  placed : (spans : List Span) (seen : List Bool) (kept : List ℤ)
-      (entries : List (List KeyPart × List (Option ℤ))) (all : List (Option ℤ))
-      → IsPlaced d spans seen kept entries all us
-      ↔ (AllByRecursion (λ put. length put.keys ≡ d.count) us × AreAt false has_puts spans seen us
-      × ((a : ℕ) → a < length d.aggregates
-      → AreAt (pos 0) (cell_over d a) spans (aggregate_cells d seen kept a) us)
-      × IsBase d entries all (filter (λ put. is_outside spans put.keys) us))
-  placed spans seen kept entries all = (
-    λ p. (p.fit, p.seen_at, p.cells_at, p.rest),
-    λ h. record { fit = h.0; seen_at = h.1; cells_at = h.2; rest = h.3 },
-  )
-
-  at_places : (spans : List Span) (items : List ℤ) (value : List Update → ℤ)
-      → AreAt (pos 0) value spans items us ≡ ((place : ℕ) → place < length items
-      → slice_index_or items place (pos 0)
-      ≡ value (filter (λ put. is_at spans place put.keys) us))
-  at_places spans items value = refl
 
 content_aggregates : Gives2 (λ ks place. group_aggregate ks place puts) (
     (Code 1 ∷ [], 0, Some (pos 4)) ∷ (Code 2 ∷ [], 1, Some (pos 5)) ∷ (Code 3 ∷ [], 0, None) ∷ [])

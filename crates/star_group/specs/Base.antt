@@ -1,7 +1,9 @@
 -- The content of a deferred store: the rows of all keys alone, and the total.
-use Rattle.std.specs.Prelude.{◌≡◌, ℕ, ◌<◌, true, false, ℤ, List, Option, Some, None, filter, length, map, slice_index_or}
+use Rattle.std.specs.Prelude.{◌≡◌, ℕ, ◌<◌, Bool, true, false, ℤ, List, Option, Some, None, filter, length, map, slice_index_or}
 use Rattle.std.specs.List.{AllByRecursion}
 use Rattle.std.specs.Map.{lookup}
+use Rattle.star_schema.specs.declared.group.Aggregate.{Aggregate}
+use Rattle.star_schema.specs.declared.group.Shape.{Shape}
 use Rattle.star_schema.specs.Groups.{numbers_for}
 use Rattle.star_program.specs.declared.key.KeyValue.{KeyValue}
 use Rattle.star_program.specs.declared.key.KeyValue.TheVariants.{Number as NumberKey, Code as CodeKey}
@@ -9,8 +11,8 @@ use Rattle.star_group.specs.declared.keyed.key.KeyPart.{KeyPart}
 use Rattle.star_group.specs.declared.keyed.key.KeyPart.TheVariants.{All, Number, Code}
 use Rattle.star_group.specs.Cells.{held}
 use Rattle.star_group.specs.OwnKeys.{is_of_put, key_eq, padded}
-use Rattle.star_program.specs.Puts.{Update, aggregate_at}
-use Rattle.star_group.specs.Stores.{Group, HasRoom}
+use Rattle.star_program.specs.Puts.{Update, aggregate_at, leaves}
+use Rattle.star_group.specs.Stores.{Group}
 use Rattle.star_group.specs.Held.{has_puts}
 
 -- what stands in a place of a key, None for ALL
@@ -55,7 +57,15 @@ pub record IsBase (d : Group) (entries : List (List KeyPart × List (Option ℤ)
   pub rows : (q : List (Option KeyValue)) → IsRowOver d (puts_with q puts) (row_found entries q)
   pub total : HasAggregates d puts all
 
--- they are those of some puts that have room: the positive sums of the rows add up within 128 bits, and so do
--- the negative ones and the counts
+abbrev pub group_with : Shape → ℕ → List Aggregate → Group
+group_with s n gs = record { shape = s; count = n; aggregates = gs }
+
+-- whichever key lists pass a test, no SUM over their puts leaves 128 bits, and no COUNT 64
+abbrev pub AreInBits : Group → List Update → Type 0
+AreInBits d puts = (passes : List KeyValue → Bool) (place : ℕ) → place < length d.aggregates
+    → leaves (aggregate_at d.aggregates place)
+    (held (aggregate_at d.aggregates place) (numbers_for place (filter (λ put. passes put.keys) puts))) ≡ false
+
+-- they are those of some puts that stay in their bits
 abbrev pub HasBaseWithRoom : Group → List (List KeyPart × List (Option ℤ)) → List (Option ℤ) → Type 0
-HasBaseWithRoom d entries all = ∥ ((puts : List Update) × IsBase d entries all puts × HasRoom d puts) ∥₁
+HasBaseWithRoom d entries all = ∥ ((puts : List Update) × IsBase d entries all puts × AreInBits d puts) ∥₁

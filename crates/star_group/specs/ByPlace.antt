@@ -8,12 +8,12 @@ use Rattle.star_schema.specs.Groups.{numbers_for}
 use Rattle.star_program.specs.Rows.{cut}
 use Rattle.star_group.specs.declared.keyed.key.KeyPart.{KeyPart}
 use Rattle.star_group.specs.declared.placed.span.Span.{Span}
-use Rattle.star_group.specs.Base.{IsBase}
+use Rattle.star_group.specs.Base.{AreInBits, IsBase}
 use Rattle.star_group.specs.Cells.{held}
 use Rattle.star_group.specs.Held.{has_puts}
 use Rattle.star_group.specs.Places.{is_at, is_outside}
 use Rattle.star_program.specs.Puts.{Update, aggregate_at}
-use Rattle.star_group.specs.Stores.{Group, HasRoom}
+use Rattle.star_group.specs.Stores.{Group}
 
 -- what a cell has of an aggregate over no numbers: no number of 64 bits changes by it
 abbrev pub neutral : Aggregate → ℤ
@@ -45,6 +45,6 @@ pub record IsPlaced (d : Group) (spans : List Span) (seen : List Bool) (cells : 
       → AreAt (pos 0) (cell_over d a) spans (aggregate_cells d seen cells a) puts
   pub rest : IsBase d entries all (filter (λ put. is_outside spans put.keys) puts)
 
--- they are those of some puts that have room
+-- they are those of some puts that stay in their bits
 abbrev pub IsPlacedWithRoom : Group → List Span → List Bool → List ℤ → List (List KeyPart × List (Option ℤ)) → List (Option ℤ) → Type 0
-IsPlacedWithRoom d spans seen cells entries all = ∥ ((puts : List Update) × IsPlaced d spans seen cells entries all puts × HasRoom d puts) ∥₁
+IsPlacedWithRoom d spans seen cells entries all = ∥ ((puts : List Update) × IsPlaced d spans seen cells entries all puts × AreInBits d puts) ∥₁

@@ -4,8 +4,6 @@ pub mod Given
 pub mod Merged
 pub mod Tries
 pub mod Numbers
-pub mod BasePut
 pub mod Coarser
-pub mod Listed
 pub mod Taken
 pub mod PlacedPut

@@ -9,7 +9,7 @@ use crate::keyed::merge::{merge_into, row_stays};
 use star_schema::Aggregate;
 use std::marker::Model;
 
-/// What a row has of an aggregate: no row but that of all puts stands over none, so it is a number. A
+/// What a row has of an aggregate: only the row of all puts can be over none, so it is a number. A
 /// contract sees an aggregate, which is not NULL.
 #[derive(Clone, Copy)]
 pub(crate) struct Held {

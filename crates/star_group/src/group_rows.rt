@@ -1,13 +1,12 @@
 // The rows that a store gives in the end.
 
-ghost use Rattle.std.specs.Prelude.{◌≡◌, ◌≤◌, ◌&&◌, List, None, length, map, nat_eq, slice_index_or, take, true, IfOk};
+ghost use Rattle.std.specs.Prelude.{◌≡◌, ◌≤◌, ◌&&◌, List, None, length, map, nat_eq, slice_index_or, take, IfOk};
 ghost use Rattle.star_schema.specs.Groups as groups;
-ghost use Rattle.star_group.specs.Base.{AreGrouped, key_view};
+ghost use Rattle.star_group.specs.Base.{AreGrouped, group_with, key_view};
 ghost use Rattle.star_group.specs.Keyed.{all_hidden};
-ghost use Rattle.star_group.specs.Private.BasePut.{group_with};
 ghost use Rattle.star_group.specs.Private.Coarser.{AreOnce};
 ghost use Rattle.star_group.specs.Private.Given as spec;
-ghost use Rattle.star_group.specs.Private.Listed.{listed_entries};
+ghost use Rattle.star_group.specs.Entries.{listed_entries};
 ghost use Rattle.star_group.specs.StoreRows.{AreRows, row_at};
 ghost use Rattle.star_program.specs.Puts.{Update};
 
@@ -33,7 +32,7 @@ pub struct GroupRows {
 impl Model for GroupRows {
     ghost use Rattle.std.specs.Prelude.{◌≤◌, List, map};
     ghost use Rattle.star_group.specs.Private.Given.{row_shown};
-    ghost use Rattle.star_group.specs.Private.Listed.{listed_entries};
+    ghost use Rattle.star_group.specs.Entries.{listed_entries};
     ghost use Rattle.star_group.specs.declared.group_row.GroupRow.{GroupRow as Row};
 
     ghost Value = { List Row };

@@ -1,8 +1,8 @@
 //! The rows of a group: what the traits of stores promise, a store that keeps every row up to date,
-//! one that makes the rows in which keys are ALL in the end, and one that has a place for each row of
-//! keys in known ranges.
+//! one that makes the rows in which keys are ALL at the end, and array aggregation with a dense group
+//! id for each key list in known ranges.
 //!
-//! A store is told by lists of puts: it has the content of some puts, the newest first, and then
+//! A store is specified by lists of puts: it has the content of some puts, the newest first, and then
 //! its rows are the groups of these puts with their aggregates, and its totals are the aggregates
 //! over all of them.
 #![tactic(auto)]
@@ -17,7 +17,6 @@ mod keyed;
 pub mod law;
 mod numbers;
 mod placed;
-mod row_cache;
 mod rows;
 mod store;
 

@@ -1,4 +1,4 @@
-// A store that keeps the rows of keys in known ranges by their places.
+// Array aggregation: groups whose keys lie in known ranges have dense group ids.
 
 ghost use Rattle.std.specs.Prelude.{◌≡◌, ◌≤◌, ◌*◌, ◌^◌, length};
 ghost use Rattle.star_group.specs.ByPlace.{IsPlacedWithRoom};
@@ -16,10 +16,10 @@ mod store;
 use crate::deferred::DeferredStore;
 use span::Span;
 
-/// The rows of all keys. Where each key lies in a range that is known beforehand, the row's place
-/// among those of all such keys is a number, by which its cells are found: one for each aggregate,
-/// and whether there was a put. All other puts go to a deferred store. The total, and the rows of a
-/// cube or a rollup in which keys are ALL, are made where they are asked for.
+/// Array aggregation with dense group ids. If each key lies in a range that is known beforehand, the
+/// row's group id is its number among the rows of all such keys. Its cells are found by the id: one for
+/// each aggregate, and whether there was a put. All other puts go to an overflow store, which is
+/// deferred. The total, and the rows of a cube or a rollup in which keys are ALL, are made on request.
 #[derive(Drop)]
 pub struct PlacedStore {
     rest: DeferredStore,

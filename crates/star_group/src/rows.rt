@@ -1,13 +1,12 @@
 // One more put of the rows of its keys.
 
-ghost use Rattle.std.specs.Prelude.{◌≡◌, ◌+◌, ℕ, [], length, map, IfErr, MatchBool, OnErr, OnOk};
+ghost use Rattle.std.specs.Prelude.{◌≡◌, ◌+◌, ℕ, length, map, IfErr, MatchBool, OnErr, OnOk};
 ghost use Rattle.std.specs.List.{IsDistinct};
-ghost use Rattle.std.specs.Option.{unwrap_or};
 ghost use Rattle.star_common.specs.Memory.{TellsMemory, UnlessMemory};
 ghost use Rattle.star_group.specs.Base.{key_view, row_found};
 ghost use Rattle.star_group.specs.Entries.{entries_of};
 ghost use Rattle.star_group.specs.OwnKeys.{key_eq};
-ghost use Rattle.star_group.specs.Private.Merged.{IsMergedAt, MergeLeaves, MergeStays, RowsStay};
+ghost use Rattle.star_group.specs.Private.Merged.{IsMergedAt, RowsStay};
 ghost use Rattle.star_group.specs.Private.Numbers.{AreAsWide, AreNarrow, FitsIn, HasSpace, IsNarrow};
 ghost use Rattle.star_group.specs.Private.Rows.{AllStay, MergesAll, PutsRows, SomeLeaves, is_one_of};
 ghost use Rattle.star_group.specs.declared.rows.PutFault.TheVariants.{OutOfMemory};
@@ -16,7 +15,6 @@ use crate::cell::Held;
 use crate::keyed::KeyedRows;
 use crate::keyed::key::OrderedKey;
 use crate::keyed::merge::row_stays;
-use crate::keyed::trie::Place;
 use star_schema::Aggregate;
 use std::alloc::AllocError;
 
@@ -35,24 +33,6 @@ impl From<AllocError> for PutFault {
     }
 }
 
-// Whether no aggregate of the row of this key, or of one that is missing, leaves its bits with one
-// more merged in.
-fn row_takes(rows: &KeyedRows, key: &OrderedKey, aggregates: &[Aggregate], more: &[Held]) -> bool
-    requires narrow { IsNarrow rows.now.trie.width key.now }
-    requires fits { FitsIn rows.now aggregates.now more.now }
-    ensures { MatchBool result
-        (MergeStays aggregates.now
-        (unwrap_or (row_found (entries_of rows.now) (key_view key.now)) []) more.now)
-        (MergeLeaves aggregates.now
-        (unwrap_or (row_found (entries_of rows.now) (key_view key.now)) []) more.now) }
-{
-    let place = rows.place(key);
-    match place {
-        Place::Held(number) => row_stays(aggregates, Some(rows.row(number)), more),
-        Place::Missing { .. } => row_stays(aggregates, None, more),
-    }
-}
-
 // Whether no aggregate of the rows of these keys leaves its bits with one more merged in.
 fn all_take(
     rows: &KeyedRows,
@@ -60,14 +40,14 @@ fn all_take(
     aggregates: &[Aggregate],
     more: &[Held],
 ) -> bool
-    requires narrow { AreNarrow rows.now.trie.width row_keys.now }
+    requires narrow { AreNarrow rows.now.listed.width row_keys.now }
     requires fits { FitsIn rows.now aggregates.now more.now }
     ensures { MatchBool result
         (AllStay (row_found (entries_of rows.now)) (is_one_of row_keys.now) aggregates.now more.now)
         (SomeLeaves (row_found (entries_of rows.now)) (is_one_of row_keys.now) aggregates.now more.now) }
 {
     for index in 0..row_keys.len() {
-        if !row_takes(rows, &row_keys[index], aggregates, more) {
+        if !row_stays(aggregates, rows.found(&row_keys[index]), more) {
             return false;
         }
     }
@@ -76,7 +56,7 @@ fn all_take(
 
 // Merges a row into that of this key.
 fn merge_one(rows: &mut KeyedRows, key: &OrderedKey, aggregates: &[Aggregate], more: &[Held])
-    requires narrow { IsNarrow rows.old.trie.width key.now }
+    requires narrow { IsNarrow rows.old.listed.width key.now }
     requires fits { FitsIn rows.old aggregates.now more.now }
     requires stays { RowsStay aggregates.now
         (row_found (entries_of rows.old) (key_view key.now)) more.now }
@@ -86,8 +66,7 @@ fn merge_one(rows: &mut KeyedRows, key: &OrderedKey, aggregates: &[Aggregate], m
     ensures space { (count : ℕ) → HasSpace rows.old (count + 1) → HasSpace rows.new count }
     ensures widths { AreAsWide rows.old rows.new }
 {
-    let place = rows.place(key);
-    match rows.merge(key, place, aggregates, more) {
+    match rows.merge(key, aggregates, more) {
         Ok(()) => {}
         Err(AllocError) => unreachable!(),
     }
@@ -95,7 +74,7 @@ fn merge_one(rows: &mut KeyedRows, key: &OrderedKey, aggregates: &[Aggregate], m
 
 // A row merged into each of these keys.
 fn merge_all(rows: &mut KeyedRows, row_keys: &[OrderedKey], aggregates: &[Aggregate], more: &[Held])
-    requires narrow { AreNarrow rows.old.trie.width row_keys.now }
+    requires narrow { AreNarrow rows.old.listed.width row_keys.now }
     requires distinct { IsDistinct key_eq (map key_view row_keys.now) }
     requires fits { FitsIn rows.old aggregates.now more.now }
     requires stay { AllStay (row_found (entries_of rows.old)) (is_one_of row_keys.now) aggregates.now more.now }
@@ -117,7 +96,7 @@ pub(crate) fn put_rows(
     aggregates: &[Aggregate],
     more: &[Held],
 ) -> Result<(), PutFault>
-    requires narrow { AreNarrow rows.old.trie.width row_keys.now }
+    requires narrow { AreNarrow rows.old.listed.width row_keys.now }
     requires distinct { IsDistinct key_eq (map key_view row_keys.now) }
     requires fits { FitsIn rows.old aggregates.now more.now }
     ensures ok { OnOk result (PutsRows (is_one_of row_keys.now) aggregates.now more.now

@@ -8,11 +8,10 @@ use Rattle.star_schema.specs.declared.group.Shape.TheVariants.{Plain, Rollup}
 use Rattle.star_schema.specs.Groups.{is_grouping}
 use Rattle.star_program.specs.declared.key.KeyValue.{KeyValue}
 use Rattle.star_group.specs.declared.keyed.key.KeyPart.{KeyPart}
-use Rattle.star_group.specs.Base.{IsRowOver, key_view, row_found}
+use Rattle.star_group.specs.Base.{AreInBits, IsRowOver, group_with, key_view, row_found}
 use Rattle.star_group.specs.OwnKeys.{key_eq, padded, vary}
 use Rattle.star_program.specs.Puts.{Update}
-use Rattle.star_group.specs.Stores.{Group, HasRoom}
-use Rattle.star_group.specs.Private.BasePut.{group_with}
+use Rattle.star_group.specs.Stores.{Group}
 use Rattle.star_group.specs.Private.Merged.{IsMergedAt}
 
 -- the keys of a put's rows, with each of its keys from this place on as it is or ALL
@@ -23,18 +22,27 @@ keys_from place count ks = map (λ rest. take place (padded 6 ks) ++ rest) (vary
 abbrev pub is_among : Shape → ℕ → ℕ → List (Option KeyValue) → List KeyValue → Bool
 is_among s place count q ks = is_grouping s (take count q) && list_any (key_eq q) (keys_from place count ks)
 
--- the rows are those of these puts in which no key before this place is ALL
+-- the rows with their keys as they are shown
+abbrev pub shown_entries : List (List KeyPart × List (Option ℤ)) → List (List (Option KeyValue) × List (Option ℤ))
+shown_entries entries = map (λ e. (key_view e.0, e.1)) entries
+
+-- each key is there once
+abbrev pub AreOnce : List (List KeyPart × List (Option ℤ)) → Type 0
+AreOnce entries = IsDistinct key_eq (keys_of (shown_entries entries))
+
+-- the rows are those of these puts in which no key before this place is ALL, each once
 pub record IsRolledUp (d : Group) (place : ℕ) (entries : List (List KeyPart × List (Option ℤ))) (puts : List Update) : Type 0 where
   pub fit : AllByRecursion (λ put. length put.keys ≡ d.count) puts
   pub rows : (q : List (Option KeyValue)) → IsRowOver d (filter (λ put. is_among d.shape place d.count q put.keys) puts) (row_found entries q)
+  pub once : AreOnce entries
 
--- they are those of some puts that have room
+-- they are those of some puts that stay in their bits
 pub record IsRolledUpWithRoom (shape : Shape) (count : ℕ) (gs : List Aggregate) (place : ℕ) (entries : List (List KeyPart × List (Option ℤ))) : Type 0 where
   pub puts : List Update
   pub below : place ≤ count
   pub few : count ≤ 6
   pub rows : IsRolledUp (group_with shape count gs) place entries puts
-  pub room : HasRoom (group_with shape count gs) puts
+  pub room : AreInBits (group_with shape count gs) puts
 
 -- whichever puts the rows were those of, they now have those in which keys from the later place on are ALL too
 abbrev pub RollsUp : Shape → ℕ → List Aggregate → ℕ → List (List KeyPart × List (Option ℤ)) → ℕ → List (List KeyPart × List (Option ℤ)) → Type 0
@@ -63,11 +71,3 @@ first_hidden _ count = 0
 abbrev pub first_finer : Shape → ℕ → ℕ
 first_finer Rollup row_count = row_count
 first_finer _ row_count = 0
-
--- the rows with their keys as they are shown
-abbrev pub shown_entries : List (List KeyPart × List (Option ℤ)) → List (List (Option KeyValue) × List (Option ℤ))
-shown_entries entries = map (λ e. (key_view e.0, e.1)) entries
-
--- each key is there once
-abbrev pub AreOnce : List (List KeyPart × List (Option ℤ)) → Type 0
-AreOnce entries = IsDistinct key_eq (keys_of (shown_entries entries))

@@ -82,7 +82,3 @@ pub record IsMissing (width : ℕ) (ks : List (List KeyPart)) (links : List (Lis
 abbrev pub IsKeyFound : ℕ → List (List KeyPart) → List (List ℕ) → List KeyPart → Place → Type 0
 IsKeyFound width ks links key (Held n) = IsHeld ks key n
 IsKeyFound width ks links key (Missing node digit) = IsMissing width ks links key node digit
-
-abbrev pub is_missing : Place → Bool
-is_missing (Held n) = false
-is_missing (Missing node digit) = true

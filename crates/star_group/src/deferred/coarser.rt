@@ -1,22 +1,21 @@
 // The rows in which keys are ALL, made from those in which fewer are.
 
-ghost use Rattle.std.specs.Prelude.{◌≡◌, ◌≤◌, ◌<◌, ◌+◌, true, List, length, take, IfOk, OnOk};
+ghost use Rattle.std.specs.Prelude.{◌≡◌, ◌≤◌, ◌<◌, ◌+◌, ◌++◌, true, List, length, take, IfOk, OnOk};
 ghost use Rattle.star_schema.specs.Groups as groups;
-ghost use Rattle.star_group.specs.Base.{key_view, row_found};
-ghost use Rattle.star_group.specs.Entries.{entries_of};
+ghost use Rattle.star_group.specs.Base.{group_with, key_view, row_found};
+ghost use Rattle.star_group.specs.Entries.{entries_of, listed_entries};
 ghost use Rattle.star_group.specs.Private.Coarser as spec;
 ghost use Rattle.star_group.specs.Private.Coarser.{IsMergedWhere, IsRolledUp, IsRolledUpWithRoom, NoneCoarser, RollsUp};
-ghost use Rattle.star_group.specs.Private.BasePut.{group_with};
 ghost use Rattle.star_group.specs.Private.Merged.{RowsStay};
-ghost use Rattle.star_group.specs.Private.Numbers.{AreAsWide, FitsIn, IsGrown, IsNarrow};
+ghost use Rattle.star_group.specs.Private.Numbers.{AreAsWide, FitsIn, IsNarrow};
 ghost use Rattle.star_group.specs.StoreRows.{AreRows};
 ghost use Rattle.star_program.specs.Puts.{Update};
 
 use crate::GroupRows;
 use crate::cell::Held;
 use crate::group_rows::given;
-use crate::keyed::KeyedRows;
 use crate::keyed::key::{OrderedKey, is_grouping, with_all_at};
+use crate::keyed::{KeyedRows, ListedRows};
 use star_schema::{Aggregate, Shape};
 use std::alloc::{AllocError, Global};
 
@@ -30,49 +29,58 @@ fn merge_coarser(
     more: &[Held],
 ) -> Result<(), AllocError>
     requires key_count { key_count ≤ 6 }
-    requires narrow { IsNarrow rows.old.trie.width key.now }
+    requires narrow { IsNarrow rows.old.listed.width key.now }
     requires fits { FitsIn rows.old aggregates.now more.now }
     requires stays { groups.is_grouping shape (take key_count (key_view key.now)) ≡ true
         → RowsStay aggregates.now (row_found (entries_of rows.old) (key_view key.now)) more.now }
     ensures ok { OnOk result (IsMergedWhere shape key_count aggregates.now (key_view key.now) more.now
         (entries_of rows.old) (entries_of rows.new)) }
-    ensures grown { IsGrown rows.old rows.new }
+    ensures widths { AreAsWide rows.old rows.new }
 {
     if !is_grouping(shape, key_count, key) {
         return Ok(());
     }
-    let found = rows.place(key);
-    rows.merge(key, found, aggregates, more)
+    rows.merge(key, aggregates, more)
 }
 
-// For each row from this one on one more with ALL at this place, where that is a grouping, made of
-// all rows that differ only there. The rows before have none.
-fn add_hidden(
+// The coarser rows of a pass: for each row from this one on that with ALL at this place, where that is
+// a grouping, made of all rows that differ only there. The rows before have none.
+fn coarser_rows(
     alloc: Global,
-    rows: &mut KeyedRows,
+    rows: &ListedRows,
     shape: Shape,
     key_count: usize,
     place: usize,
     from: usize,
     aggregates: &[Aggregate],
-) -> Result<(), AllocError>
-    requires key_count { key_count ≤ rows.old.trie.width }
+) -> Result<KeyedRows, AllocError>
+    requires key_count { key_count ≤ rows.now.width }
     requires place { place < key_count }
-    requires aggregate_count { length aggregates.now ≡ rows.old.aggregate_count }
+    requires few { length aggregates.now ≤ 8 }
+    requires aggregate_count { length aggregates.now ≡ rows.now.aggregate_count }
     requires room { ∥ IsRolledUpWithRoom shape key_count aggregates.now (place + 1)
-        (entries_of rows.old) ∥₁ }
-    requires from { from ≤ length (entries_of rows.old) }
-    requires none { NoneCoarser shape key_count place from (entries_of rows.old) }
-    ensures rows { OnOk result (RollsUp shape key_count aggregates.now
-        (place + 1) (entries_of rows.old) place (entries_of rows.new)) }
-    ensures grown { IsGrown rows.old rows.new }
+        (listed_entries rows.now) ∥₁ }
+    requires from { from ≤ length (listed_entries rows.now) }
+    requires none { NoneCoarser shape key_count place from (listed_entries rows.now) }
+    ensures rows { IfOk result (λ made. RollsUp shape key_count aggregates.now
+        (place + 1) (listed_entries rows.now) place (listed_entries rows.now ++ entries_of made)) }
+    ensures width { IfOk result (λ made. made.listed.width ≡ rows.now.width) }
+    ensures aggregate_count { IfOk result (λ made. made.listed.aggregate_count
+        ≡ rows.now.aggregate_count) }
 {
-    let finer = rows.listed(alloc, from)?;
-    for index in 0..finer.len() {
-        let key = with_all_at(&finer.key(index), place);
-        merge_coarser(rows, shape, key_count, &key, aggregates, finer.row(index))?;
+    let mut made = KeyedRows::new(alloc, rows.width, aggregates.len())?;
+    for index in from..rows.len() {
+        let key = with_all_at(&rows.key(index), place);
+        merge_coarser(
+            &mut made,
+            shape,
+            key_count,
+            &key,
+            aggregates,
+            rows.row(index),
+        )?;
     }
-    Ok(())
+    Ok(made)
 }
 
 // The first key that may be ALL in a row of these groups.
@@ -100,20 +108,21 @@ fn first_finer(shape: Shape, row_count: usize) -> usize
 }
 
 // The rows of the groups, from those of all keys.
-pub(super) fn add_coarser(
+fn add_coarser(
     alloc: Global,
-    rows: &mut KeyedRows,
+    rows: &mut ListedRows,
     shape: Shape,
     key_count: usize,
     aggregates: &[Aggregate],
 ) -> Result<(), AllocError>
-    requires key_count { key_count ≤ rows.old.trie.width }
+    requires key_count { key_count ≤ rows.old.width }
+    requires few { length aggregates.now ≤ 8 }
     requires aggregate_count { length aggregates.now ≡ rows.old.aggregate_count }
     requires room { ∥ IsRolledUpWithRoom shape key_count aggregates.now key_count
-        (entries_of rows.old) ∥₁ }
-    ensures rows { OnOk result (RollsUp shape key_count aggregates.now key_count (entries_of rows.old)
-        (spec.first_hidden shape key_count) (entries_of rows.new)) }
-    ensures widths { AreAsWide rows.old rows.new }
+        (listed_entries rows.old) ∥₁ }
+    ensures rows { OnOk result (RollsUp shape key_count aggregates.now key_count
+        (listed_entries rows.old) (spec.first_hidden shape key_count) (listed_entries rows.new)) }
+    ensures aggregate_count { rows.new.aggregate_count ≡ rows.old.aggregate_count }
 {
     let first = first_hidden(shape, key_count);
     let mut from = 0;
@@ -121,7 +130,8 @@ pub(super) fn add_coarser(
     while place > first {
         place -= 1;
         let row_count = rows.len();
-        add_hidden(alloc, rows, shape, key_count, place, from, aggregates)?;
+        let made = coarser_rows(alloc, rows, shape, key_count, place, from, aggregates)?;
+        rows.append(&made.listed)?;
         from = first_finer(shape, row_count);
     }
     Ok(())
@@ -130,20 +140,21 @@ pub(super) fn add_coarser(
 // The rows that a store gives in the end, from those of all keys.
 pub(crate) fn rows_of_base(
     alloc: Global,
-    base: KeyedRows,
+    base: ListedRows,
     shape: Shape,
     key_count: usize,
     aggregates: &[Aggregate],
 ) -> Result<GroupRows, AllocError>
-    requires key_count { key_count ≤ base.trie.width }
+    requires key_count { key_count ≤ base.width }
+    requires few { length aggregates.now ≤ 8 }
     requires aggregate_count { length aggregates.now ≡ base.aggregate_count }
     requires room { ∥ IsRolledUpWithRoom shape key_count aggregates.now key_count
-        (entries_of base) ∥₁ }
+        (listed_entries base) ∥₁ }
     ensures { IfOk result (λ rows. (puts : List Update)
-        → IsRolledUp (group_with shape key_count aggregates.now) key_count (entries_of base) puts
+        → IsRolledUp (group_with shape key_count aggregates.now) key_count (listed_entries base) puts
         → AreRows (group_with shape key_count aggregates.now) puts rows) }
 {
     let mut rows = base;
     add_coarser(alloc, &mut rows, shape, key_count, aggregates)?;
-    given(rows.into_listed(), shape, key_count, aggregates)
+    given(rows, shape, key_count, aggregates)
 }

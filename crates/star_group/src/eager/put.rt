@@ -29,7 +29,7 @@ pub(super) fn put_all(
     keys: &[KeyValue],
     more: &Row,
 ) -> Result<(), PutFault>
-    requires narrow { length keys.now ≤ rows.old.trie.width }
+    requires narrow { length keys.now ≤ rows.old.listed.width }
     requires fits { FitsIn rows.old aggregates.now more.now }
     ensures ok { OnOk result (PutsRows (is_of_put shape keys.now) aggregates.now more.now
         (row_found (entries_of rows.old)) (row_found (entries_of rows.new))) }

@@ -49,8 +49,9 @@ impl GroupStore for EagerStore {
     }
 
     fn into_rows(self) -> Result<GroupRows, AllocError> {
-        let rows = self.rows.into_listed();
-        given(rows, self.shape, self.key_count, self.aggregates.as_slice())
+        let rows = self.rows;
+        let aggregates = self.aggregates.as_slice();
+        given(rows.listed, self.shape, self.key_count, aggregates)
     }
 }
 

@@ -94,7 +94,7 @@ fn are_shown(parts: &[KeyPart]) -> bool
     parts.iter().all(is_shown)
 }
 
-// Whether no part that isn't ALL stands after one that is.
+// Whether no part that isn't ALL comes after one that is.
 fn are_shown_first(parts: &[KeyPart]) -> bool
     ensures { result ≡ spec.is_grouping Rollup (key_view parts.now) }
 {

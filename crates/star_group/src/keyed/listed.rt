@@ -1,25 +1,16 @@
 // Rows with their keys, one after another, with nothing to find them by.
 
-ghost use Rattle.std.specs.Prelude.{◌≡◌, ◌≤◌, ◌<◌, ◌*◌, ◌++◌, ◌∷◌, [], None, drop, length, slice_index_or, IfOk, OnOk};
+ghost use Rattle.std.specs.Prelude.{◌≡◌, ◌<◌, ◌+◌, ◌++◌, ◌∷◌, ℕ, [], None, length, slice_index_or, take, IsOk, OnErr, OnOk};
 ghost use Rattle.star_group.specs.Base.{key_view};
-ghost use Rattle.star_group.specs.Entries.{entries_of};
-ghost use Rattle.star_group.specs.Private.Listed.{listed_entries};
-ghost use Rattle.star_group.specs.Private.Numbers.{IsNarrow};
+ghost use Rattle.star_group.specs.Entries.{listed_entries};
+ghost use Rattle.star_group.specs.Private.Numbers.{HasRowSpace, IsNarrow, listed_keys};
 
+use super::ListedRows;
 use super::key::{KeyPart, OrderedKey, in_six_places, value_in};
-use super::{KeyedRows, ListedRows};
 use crate::KeyValue;
 use crate::cell::Held;
 use star_program::row_of;
-use std::alloc::{AllocError, Global};
-
-// What is left of rows of `width` items each after the first `from`.
-fn rows_from<T>(items: &[T], width: usize, from: usize) -> &[T]
-    requires { from * width ≤ length items.now }
-    ensures { result.now ≡ drop (from * width) items.now }
-{
-    &items[from * width..]
-}
+use std::alloc::AllocError;
 
 // The key at a place, where there is one.
 fn part_in(parts: &[KeyPart], place: usize) -> Option<KeyValue>
@@ -38,49 +29,6 @@ fn held_in(row: &[Held], place: usize) -> Option<i128>
     match row.get(place) {
         Some(held) => Some(held.number()),
         None => None,
-    }
-}
-
-impl KeyedRows {
-    // A copy of the rows from this one on.
-    pub(crate) fn listed(&self, alloc: Global, from: usize) -> Result<ListedRows, AllocError>
-        requires { from ≤ length (entries_of self.now) }
-        ensures rows { IfOk result (λ rows. listed_entries rows ≡ drop from (entries_of self.now)) }
-        ensures width { IfOk result (λ rows. rows.width ≡ self.now.trie.width) }
-        ensures aggregate_count { IfOk result (λ rows. rows.aggregate_count ≡ self.now.aggregate_count) }
-    {
-        let width = self.trie.width;
-        Ok(ListedRows {
-            width,
-            len: self.trie.len - from,
-            keys: Vec::from_slice(alloc, rows_from(self.trie.keys.as_slice(), width, from))?,
-            aggregate_count: self.aggregate_count,
-            cells: Vec::from_slice(
-                alloc,
-                rows_from(self.cells.as_slice(), self.aggregate_count, from),
-            )?,
-        })
-    }
-
-    // The rows themselves; the memory of what found them is free again.
-    pub(crate) fn into_listed(self) -> ListedRows
-        ensures rows { listed_entries result ≡ entries_of self }
-        ensures width { result.width ≡ self.trie.width }
-        ensures aggregate_count { result.aggregate_count ≡ self.aggregate_count }
-    {
-        let KeyedRows {
-            trie,
-            aggregate_count,
-            cells,
-        } = self;
-        let (width, len) = (trie.width, trie.len);
-        ListedRows {
-            width,
-            len,
-            keys: trie.into_keys(),
-            aggregate_count,
-            cells,
-        }
     }
 }
 
@@ -143,10 +91,13 @@ impl ListedRows {
 
     // Makes room for `additional` more rows.
     pub(crate) fn reserve(&mut self, additional: usize) -> Result<(), AllocError>
+        ensures ok { OnOk result (HasRowSpace self.new additional) }
         ensures rows { listed_entries self.new ≡ listed_entries self.old }
+        ensures keys { listed_keys self.new ≡ listed_keys self.old }
         ensures width { self.new.width ≡ self.old.width }
         ensures aggregate_count { self.new.aggregate_count ≡ self.old.aggregate_count }
     {
+        self.len.checked_add(additional).ok_or(AllocError)?;
         let parts = additional.checked_mul(self.width).ok_or(AllocError)?;
         let cells = additional
             .checked_mul(self.aggregate_count)
@@ -159,8 +110,16 @@ impl ListedRows {
     pub(crate) fn push(&mut self, key: &OrderedKey, row: &[Held]) -> Result<(), AllocError>
         requires narrow { IsNarrow self.old.width key.now }
         requires wide { length row.now ≡ self.old.aggregate_count }
+        ensures keys { OnOk result (listed_keys self.new
+            ≡ listed_keys self.old ++ take self.old.width key.now ∷ []) }
         ensures rows { OnOk result (listed_entries self.new
             ≡ listed_entries self.old ++ (key.now, row.now) ∷ []) }
+        ensures len { OnOk result (self.new.len ≡ self.old.len + 1) }
+        ensures refused { OnErr result (listed_entries self.new ≡ listed_entries self.old) }
+        ensures refused_keys { OnErr result (listed_keys self.new ≡ listed_keys self.old) }
+        ensures refused_len { OnErr result (self.new.len ≡ self.old.len) }
+        ensures space { (left : ℕ) → HasRowSpace self.old (left + 1)
+            → IsOk result × HasRowSpace self.new left }
         ensures width { self.new.width ≡ self.old.width }
         ensures aggregate_count { self.new.aggregate_count ≡ self.old.aggregate_count }
     {
@@ -168,6 +127,26 @@ impl ListedRows {
         let end = self.keys.len();
         self.keys.extend_from_slice(&key[..self.width])?;
         if self.cells.extend_from_slice(row).is_err() {
+            self.keys.truncate(end);
+            return Err(AllocError);
+        }
+        self.len = len;
+        Ok(())
+    }
+
+    // The rows of others after these.
+    pub(crate) fn append(&mut self, more: &ListedRows) -> Result<(), AllocError>
+        requires width { more.now.width ≡ self.old.width }
+        requires aggregate_count { more.now.aggregate_count ≡ self.old.aggregate_count }
+        ensures rows { OnOk result (listed_entries self.new
+            ≡ listed_entries self.old ++ listed_entries more.now) }
+        ensures width { self.new.width ≡ self.old.width }
+        ensures aggregate_count { self.new.aggregate_count ≡ self.old.aggregate_count }
+    {
+        let len = self.len.checked_add(more.len).ok_or(AllocError)?;
+        let end = self.keys.len();
+        self.keys.extend_from_slice(more.keys.as_slice())?;
+        if self.cells.extend_from_slice(more.cells.as_slice()).is_err() {
             self.keys.truncate(end);
             return Err(AllocError);
         }

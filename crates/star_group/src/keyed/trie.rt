@@ -1,15 +1,14 @@
 // Rows found by the digits of their keys.
 
-ghost use Rattle.std.specs.Prelude.{◌≡◌, ◌≤◌, ◌<◌, ◌*◌, [], length, slice_index_or, true, IfOk, MatchBool};
+ghost use Rattle.std.specs.Prelude.{◌≡◌, ◌<◌, ◌*◌, length, slice_index_or, MatchBool};
 ghost use Rattle.star_program.specs.Rows.{cut};
+ghost use Rattle.star_group.specs.Private.Numbers.{keys_in};
 ghost use Rattle.star_group.specs.Private.Tries as spec;
-ghost use Rattle.star_group.specs.Private.Tries.{IsHeld, IsKeyFound, IsTrie, child, key_at, part_digit, word_from};
+ghost use Rattle.star_group.specs.Private.Tries.{IsKeyFound, child, key_at, part_digit, word_from};
 
-mod growth;
-
+use super::KeyedRows;
 use super::key::KeyPart;
 use star_program::row_of;
-use std::alloc::{AllocError, Global};
 
 // What tells a value's bits apart from those of another kind.
 fn kind_of(part: KeyPart) -> usize
@@ -62,7 +61,7 @@ fn word_with(word: u64, key: &[KeyPart], place: usize) -> u64
 }
 
 // All parts in one word: keys whose parts are small have words of their own.
-pub(super) fn word_of(key: &[KeyPart]) -> u64
+fn word_of(key: &[KeyPart]) -> u64
     ensures { result ≡ word_from 0 key.now }
 {
     let mut word = 0;
@@ -105,36 +104,9 @@ fn digit_at(word: u64, key: &[KeyPart], depth: usize) -> usize
 
 // Where a key's digits lead.
 #[derive(Clone, Copy)]
-pub(crate) enum Place {
+pub(super) enum Place {
     Held(usize),
     Missing { node: usize, digit: usize },
-}
-
-impl Place {
-    pub(crate) fn is_missing(self) -> bool
-        ensures { result ≡ spec.is_missing self }
-    {
-        match self {
-            Place::Held(_) => false,
-            Place::Missing { .. } => true,
-        }
-    }
-}
-
-/// The keys of rows, each of `width` parts, and for each row and for the node above all of them
-/// the row below by a digit: a row is below one whose key it shares some digits with. A look-up
-/// passes at most as many rows as a key has digits, 32 and 33 a part, whatever keys there are; this
-/// is read from the code, and no clause says it.
-#[derive(Drop)]
-pub(crate) struct Trie {
-    pub(crate) width: usize,
-    pub(crate) len: usize,
-    pub(crate) keys: Vec<KeyPart>,
-    links: Vec<[u32; 4]>,
-    ghost some: { 0 < width },
-    ghost few: { width ≤ 6 },
-    ghost long: { length keys.items ≡ len * width },
-    ghost trie: { IsTrie width (cut width len keys.items) links.items },
 }
 
 // The node below a node by a digit.
@@ -155,49 +127,14 @@ fn has_key(keys: &[KeyPart], width: usize, count: usize, number: usize, key: &[K
     *row_of(keys, width, count, number) == *key
 }
 
-impl Trie {
-    // Makes no keys yet, of `width` parts.
-    pub(crate) fn new(alloc: Global, width: usize) -> Result<Trie, AllocError>
-        requires some { 0 < width }
-        requires few { width ≤ 6 }
-        ensures width { IfOk result (λ trie. trie.width ≡ width) }
-        ensures len { IfOk result (λ trie. trie.len ≡ 0) }
-    {
-        let mut links = Vec::new(alloc);
-        links.push([0; 4])?;
-        Ok(Trie {
-            width,
-            len: 0,
-            keys: Vec::new(alloc),
-            links,
-        })
-    }
-
-    // The keys alone, one after another.
-    pub(crate) fn into_keys(self) -> Vec<KeyPart>
-        ensures { result ≡ self.keys }
-    {
-        self.keys
-    }
-
-    // Whether the row of a number is there and has this key.
-    pub(crate) fn has(&self, number: usize, key: &[KeyPart]) -> bool
-        ensures { result ≡ true
-            → IsHeld (cut self.now.width self.now.len self.now.keys.items) key.now number }
-    {
-        if number < self.len {
-            has_key(self.keys.as_slice(), self.width, self.len, number, key)
-        } else {
-            false
-        }
-    }
-
+impl KeyedRows {
     // Where this key's row is, or would be.
-    pub(crate) fn find(&self, key: &[KeyPart]) -> Place
-        requires { length key.now ≡ self.now.width }
-        ensures { IsKeyFound self.now.width (cut self.now.width self.now.len self.now.keys.items)
-            self.now.links.items key.now result }
+    pub(super) fn find(&self, key: &[KeyPart]) -> Place
+        requires { length key.now ≡ self.now.listed.width }
+        ensures { IsKeyFound self.now.listed.width (keys_in self.now) self.now.links.items key.now
+            result }
     {
+        let (width, len) = (self.listed.width, self.listed.len);
         let word = word_of(key);
         let mut node = 0;
         for depth in 0..self.links.len() {
@@ -206,7 +143,7 @@ impl Trie {
             if next == 0 {
                 return Place::Missing { node, digit };
             }
-            if has_key(self.keys.as_slice(), self.width, self.len, next - 1, key) {
+            if has_key(self.listed.keys.as_slice(), width, len, next - 1, key) {
                 return Place::Held(next - 1);
             }
             node = next;

@@ -1,13 +1,12 @@
-// Cells of aggregates at places, with the numbers of more puts.
+// The cells of aggregates by group id, with the numbers of more puts.
 
-ghost use Rattle.std.specs.Prelude.{◌≡◌, ◌≤◌, ◌<◌, ◌+◌, ◌*◌, ◌^◌, ◌∷◌, ℕ, All, List, None, [], false, length, map, pos, slice_index_or, slice_set, true, Some};
+ghost use Rattle.std.specs.Prelude.{◌≡◌, ◌≤◌, ◌<◌, ◌+◌, ◌*◌, ◌∷◌, ℕ, All, List, None, [], false, length, map, pos, slice_index_or, slice_set, true, Some};
 ghost use Rattle.star_interval.specs.Range.{is_i64};
 ghost use Rattle.star_program.specs.Faults.{value_count};
 ghost use Rattle.star_program.specs.Puts.{aligned, leaves};
 ghost use Rattle.star_program.specs.Rows.{cut};
 ghost use Rattle.star_group.specs.Batches.{IsPutBatch, put_in, word_in};
 ghost use Rattle.star_group.specs.Cells.{step};
-ghost use Rattle.star_group.specs.Private.PlacedPut.{CanTakeBatch, CanTakePut, TakesBatch, TakesPlacedPut};
 ghost use Rattle.star_group.specs.Stores.{put_number};
 ghost use Rattle.star_group.specs.Private.Taken.{AreCellsTaken, AreWithin, CanTake, CanTakeAll, after_rows, batch_lanes, column_after, lanes_of};
 
@@ -57,7 +56,7 @@ fn taken_in(aggregate: Aggregate, cell: i128, lane: &[i64], row: usize) -> i128
     taken(aggregate, cell, lane[row])
 }
 
-// The cell of a place with the number of a row.
+// The cell of a group id with the number of a row.
 fn taken_at(aggregate: Aggregate, cells: &[i128], place: u32, lane: &[i64], row: usize) -> i128
     requires within { place < length cells.now }
     requires row { row < length lane.now }
@@ -69,7 +68,7 @@ fn taken_at(aggregate: Aggregate, cells: &[i128], place: u32, lane: &[i64], row:
     taken_in(aggregate, cells[place as usize], lane, row)
 }
 
-// The cells of one aggregate with a number more at the place of each row.
+// The cells of one aggregate with a number more at the group id of each row.
 #[inline(always)]
 fn take_lane(aggregate: Aggregate, cells: &mut [i128], at: &[u32], lane: &[i64])
     requires same { length lane.now ≡ length at.now }
@@ -84,7 +83,7 @@ fn take_lane(aggregate: Aggregate, cells: &mut [i128], at: &[u32], lane: &[i64])
     }
 }
 
-// The only cell with a number more for each row: a place for all rows keeps it out of memory.
+// The only cell with a number more for each row: with one id for all rows it stays in a register.
 #[inline(always)]
 fn take_rows(aggregate: Aggregate, cell: i128, at: &[u32], lane: &[i64]) -> i128
     requires same { length lane.now ≡ length at.now }
@@ -126,7 +125,7 @@ fn take_one_cell(aggregate: Aggregate, cells: &mut [i128], at: &[u32], lane: &[i
     cells[0] = take_rows_of(aggregate, cells[0], at, lane);
 }
 
-// The cells of one aggregate with a number more at the place of each row, in a loop of its own for
+// The cells of one aggregate with a number more at the group id of each row, in its own loop for
 // each kind of aggregate.
 fn take_lane_of(aggregate: Aggregate, cells: &mut [i128], at: &[u32], lane: &[i64])
     requires same { length lane.now ≡ length at.now }
@@ -146,7 +145,7 @@ fn take_lane_of(aggregate: Aggregate, cells: &mut [i128], at: &[u32], lane: &[i6
     }
 }
 
-// The places of some rows have puts.
+// The group ids of some rows have puts.
 pub(crate) fn mark(seen: &mut [bool], at: &[u32])
     requires within { AreWithin at.now (length seen.old) }
     ensures seen { seen.new ≡ after_rows false (λ row was. true) at.now seen.old (length at.now) }
@@ -157,7 +156,7 @@ pub(crate) fn mark(seen: &mut [bool], at: &[u32])
     }
 }
 
-// The cells of the aggregate of a number with a number more at the place of each row, among those
+// The cells of the aggregate of a number with a number more at the id of each row, among those
 // of `aggregate_count` aggregates, one after another.
 pub(crate) fn take_column(
     cells: &mut [i128],
@@ -185,7 +184,7 @@ pub(crate) fn take_column(
     take_lane_of(aggregate, &mut cells[start..end], at, lane);
 }
 
-// The cells of each aggregate with the number of one put at its place.
+// The cells of each aggregate with the number of one put at its group id.
 pub(crate) fn take_put(
     cells: &mut [i128],
     places: usize,
@@ -223,7 +222,7 @@ fn cell_at(cells: &[i128], at: usize) -> Held
     Held::new(cells[at])
 }
 
-// The row of one place.
+// The row of one group id.
 pub(crate) fn row_at(cells: &[i128], places: usize, aggregate_count: usize, place: usize) -> Row
     requires place { place < places }
     requires few { aggregate_count ≤ 8 }
@@ -236,29 +235,6 @@ pub(crate) fn row_at(cells: &[i128], places: usize, aggregate_count: usize, plac
         row[number] = cell_at(cells, number * places + place);
     }
     row
-}
-
-// One more put at a place.
-pub(crate) fn take_one(
-    cells: &mut [i128],
-    seen: &mut [bool],
-    aggregates: &[Aggregate],
-    place: usize,
-    values: &[i64],
-)
-    requires values { length values.now ≡ length aggregates.now }
-    requires long { length cells.old ≡ length aggregates.now * length seen.old }
-    requires place { place < length seen.old }
-    requires few { length seen.old ≤ 2 ^ 28 }
-    requires can { CanTakePut aggregates.now values.now place seen.old cells.old }
-    ensures takes { TakesPlacedPut aggregates.now values.now place seen.old cells.old seen.new cells.new }
-    ensures seen { length seen.new ≡ length seen.old }
-    ensures len { length cells.new ≡ length cells.old }
-{
-    are_narrow(values);
-    let at = [place as u32];
-    take_put(cells, seen.len(), aggregates, &at, values);
-    mark(seen, &at);
 }
 
 // The number of a count in each row.
@@ -288,7 +264,7 @@ fn first_lane<'a>(batch: &PutBatch<'a>, left: &'a [u16]) -> (&'a [i64], &'a [u16
     (batch.lane(left[0]), &left[1..])
 }
 
-// The numbers of some rows for an aggregate, and the registers that are left for the others.
+// The numbers of some rows for an aggregate, and the registers for the others.
 fn next_lane<'a>(
     aggregate: Aggregate,
     batch: &PutBatch<'a>,
@@ -311,8 +287,8 @@ fn next_lane<'a>(
     }
 }
 
-// The cells of each aggregate with the numbers of the rows of a batch at their places.
-fn take_lanes(
+// The cells of each aggregate with the numbers of the rows of a batch at their group ids.
+pub(crate) fn take_lanes(
     cells: &mut [i128],
     places: usize,
     aggregates: &[Aggregate],
@@ -345,7 +321,7 @@ fn take_lanes(
 }
 
 // That the numbers of the rows of a batch have 64 bits.
-fn lanes_are_narrow(aggregates: &[Aggregate], batch: &PutBatch<'_>)
+pub(crate) fn lanes_are_narrow(aggregates: &[Aggregate], batch: &PutBatch<'_>)
     requires batch { IsPutBatch batch.now }
     requires declared { aggregates.now ≡ batch.now.declared.now.aggregates }
     ensures { (a : ℕ) → a < length aggregates.now → (row : ℕ) → row < batch.now.rows
@@ -357,28 +333,4 @@ fn lanes_are_narrow(aggregates: &[Aggregate], batch: &PutBatch<'_>)
         are_narrow(lane);
         left = others;
     }
-}
-
-// One more put at its place for each row of a batch.
-pub(crate) fn take_batch(
-    cells: &mut [i128],
-    seen: &mut [bool],
-    aggregates: &[Aggregate],
-    at: &[u32],
-    batch: &PutBatch<'_>,
-)
-    requires batch { IsPutBatch batch.now }
-    requires declared { aggregates.now ≡ batch.now.declared.now.aggregates }
-    requires rows { length at.now ≡ batch.now.rows }
-    requires long { length cells.old ≡ length aggregates.now * length seen.old }
-    requires within { AreWithin at.now (length seen.old) }
-    requires can { CanTakeBatch aggregates.now batch.now at.now seen.old cells.old }
-    ensures takes { TakesBatch aggregates.now batch.now at.now seen.old cells.old seen.new
-        cells.new }
-    ensures seen { length seen.new ≡ length seen.old }
-    ensures len { length cells.new ≡ length cells.old }
-{
-    lanes_are_narrow(aggregates, batch);
-    take_lanes(cells, seen.len(), aggregates, at, batch);
-    mark(seen, at);
 }

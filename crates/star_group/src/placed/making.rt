@@ -1,4 +1,4 @@
-// A placed store of no puts, for keys that are expected in some ranges.
+// Array aggregation before the first put, for keys that are expected in some ranges.
 
 ghost use Rattle.std.specs.Prelude.{◌≡◌, ◌≤◌, ◌<◌, ◌+◌, ◌*◌, ◌^◌, ◌++◌, ℕ, [], length, pos, replicate, slice_index_or, IfOk, OnOk};
 ghost use Rattle.star_schema.specs.declared.group.Aggregate.TheVariants.{Count};
@@ -12,7 +12,7 @@ use star_program::GroupKey;
 use star_schema::Aggregate;
 use std::alloc::{AllocError, Global};
 
-// The most places of a group, whoever asks for them. A run asks for fewer, by what it scans.
+// The most group ids of a store. A run asks for fewer, by what it scans.
 const MOST_PLACES: u32 = 1 << 28;
 
 // A range of the one value 0.
@@ -64,7 +64,7 @@ fn span_of(key: GroupKey, range: Option<&Interval>, most: u32) -> Span
     }
 }
 
-// The ranges of keys and how many places they have: a key whose range would make more than the most
+// The ranges of keys and the number of group ids: a key whose range would make more than the most
 // has the one value 0.
 pub(super) fn spans_of(
     alloc: Global,

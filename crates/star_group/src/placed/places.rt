@@ -1,4 +1,4 @@
-// The places of key lists in ranges of keys.
+// The dense group ids of key lists in ranges of keys.
 
 ghost use Rattle.std.specs.Prelude.{◌≡◌, ◌≤◌, ◌<◌, ◌+◌, ◌*◌, ◌^◌, ◌-ℤ◌, ℕ, IfSome, List, None, Some, false, length, pos, slice_index_or, take, true, MatchOption};
 ghost use Rattle.star_program.specs.declared.key.KeyValue.{KeyValue as Value};
@@ -59,7 +59,7 @@ impl Span {
         }
     }
 
-    // The place of this key in front of others with a place.
+    // The group id of this key in front of others that have one.
     fn above(self, key: KeyValue, rest: Option<usize>) -> Option<usize>
         requires { MatchOption rest (Unit {0}) (λ place. place < 2 ^ 28) }
         ensures { result ≡ above (spec.offset_of self key) (self.last + 1) rest }
@@ -69,9 +69,9 @@ impl Span {
     }
 }
 
-// The place of a key list.
-// It is a number in a mixed base: the first key's offset, and the size of its range times the place
-// of the others. One division a key gives the keys back, so no two lists share a place.
+// The group id of a key list.
+// It is a number in a mixed base: the first key's offset, and the size of its range times the id of
+// the others. One division a key gives the keys back, so no two lists share an id.
 pub(crate) fn place_of(spans: &[Span], keys: &[KeyValue]) -> Option<usize>
     requires same { length keys.now ≡ length spans.now }
     requires few { places spans.now ≤ 2 ^ 28 }
@@ -87,7 +87,7 @@ pub(crate) fn place_of(spans: &[Span], keys: &[KeyValue]) -> Option<usize>
     place
 }
 
-// The keys whose place this is, where some list has it.
+// The keys that have this group id, if any have it.
 pub(crate) fn keys_at(spans: &[Span], place: usize) -> [KeyValue; 6]
     requires few { length spans.now ≤ 6 }
     ensures { (keys : List Value) → spec.cell_place spans.now keys ≡ Some place
@@ -104,7 +104,7 @@ pub(crate) fn keys_at(spans: &[Span], place: usize) -> [KeyValue; 6]
     keys
 }
 
-// The place of a key in front of others.
+// The group id of a key in front of others.
 fn next_place(offset: u32, size: u32, rest: u32) -> u32
     requires { offset + size * rest < 2 ^ 32 }
     ensures { result ≡ offset + size * rest }
@@ -112,7 +112,7 @@ fn next_place(offset: u32, size: u32, rest: u32) -> u32
     offset + size * rest
 }
 
-// Adds a key in front of others to the places of some rows, which have its word in a lane: whether
+// Adds a key in front of others to the ids of some rows, which have its word in a vector: whether
 // it lies in its range in all of them.
 fn add_lane(span: Span, lane: &[i64], at: &mut [u32]) -> bool
     requires same { length at.old ≡ length lane.now }
@@ -148,7 +148,7 @@ fn is_of(span: Span, declared: GroupKey) -> bool
     }
 }
 
-// The places of rows with no keys.
+// The group ids of rows with no keys.
 fn clear(at: &mut [u32])
     ensures blank { (row : ℕ) → row < length at.old → slice_index_or at.new row 0 ≡ 0 }
     ensures len { length at.new ≡ length at.old }
@@ -158,7 +158,7 @@ fn clear(at: &mut [u32])
     }
 }
 
-// The places of the rows of a batch, where the keys of all of them lie in their ranges.
+// The group ids of the rows of a batch, if the keys of all of them lie in their ranges.
 pub(crate) fn find_places(spans: &[Span], batch: &PutBatch<'_>, at: &mut [u32]) -> bool
     requires batch { IsPutBatch batch.now }
     requires keys { length spans.now ≡ length batch.now.keys.now }

@@ -2,7 +2,7 @@
 
 ghost use Rattle.std.specs.Prelude.{◌≡◌, ◌^◌, ◌+ℤ◌, ◌<ℤ◌, ◌≤ℤ◌, pos, true};
 
-/// The values of a key that have places: numbers, or codes of texts. `low` is the least of them,
+/// The values of a key that have ids: numbers, or codes of texts. `low` is the least of them,
 /// and the greatest is `last` above it.
 #[derive(Clone, Copy)]
 pub(crate) struct Span {

@@ -1,18 +1,15 @@
-// A placed store is a store of groups.
+// Array aggregation is a store of groups.
 
 ghost use Rattle.std.specs.Prelude.{◌≡◌, ◌≤◌, ◌<◌, ℕ, List, [], IfOk, OnErr, OnOk, length};
 ghost use Rattle.star_group.specs.Batches.{HasRoomForRows, IsPutBatch, puts_after, put_in};
 ghost use Rattle.star_group.specs.Placed.{group_view, Has};
 ghost use Rattle.star_group.specs.Private.PlacedPut.{AreAtPlaces};
 ghost use Rattle.star_program.specs.Puts.{Update};
-ghost use Rattle.star_group.specs.StoreRows.{AreRows};
 ghost use Rattle.star_group.specs.Stores.{group_declared};
-ghost use Rattle.star_schema.specs.declared.group.Shape.TheVariants.{Plain};
 
 use super::PlacedStore;
-use super::cells::{take_batch, take_one};
-use super::filling::add_places;
-use super::listing::list_rows;
+use super::cells::{are_narrow, lanes_are_narrow, mark, take_lanes, take_put};
+use super::listing::{count_seen, push_places};
 use super::making::{blank_cells, spans_of};
 use super::places::{find_places, place_of};
 use crate::batch::PutBatch;
@@ -23,12 +20,11 @@ use crate::store::GroupStore;
 use crate::{GroupRows, KeyValue};
 use star_interval::Interval;
 use star_program::GroupDecl;
-use star_schema::Shape;
 use std::alloc::{AllocError, Global};
 
 impl PlacedStore {
     // A store of no puts. The rows of keys in these ranges, of numbers or of codes of texts, have
-    // places, at most 2^28.
+    // group ids, at most 2^28.
     fn for_ranges(
         alloc: Global,
         declared: &GroupDecl,
@@ -79,7 +75,7 @@ impl PlacedStore {
 }
 
 impl PlacedStore {
-    // The puts of some rows whose keys have these places, one after another in order.
+    // The puts of some rows whose keys have these group ids, one after another in order.
     fn put_at(&mut self, batch: &PutBatch<'_>, places: &[u32])
         requires declared { group_declared batch.now.declared.now ≡ group_view self.old }
         requires batch { IsPutBatch batch.now }
@@ -91,61 +87,12 @@ impl PlacedStore {
             → Has self.new (puts_after (put_in batch.now) puts batch.now.rows) }
         ensures group { group_view self.new ≡ group_view self.old }
     {
-        take_batch(
-            self.cells.as_mut_slice(),
-            self.seen.as_mut_slice(),
-            self.rest.aggregates.as_slice(),
-            places,
-            batch,
-        );
-    }
-}
-
-impl PlacedStore {
-    // The rows of a plain group.
-    fn plain_rows(self) -> Result<GroupRows, AllocError>
-        requires { self.rest.shape ≡ Plain }
-        ensures { IfOk result (λ rows. (puts : List Update) → Has self puts
-            → AreRows (group_view self) puts rows) }
-    {
-        let PlacedStore {
-            rest,
-            spans,
-            seen,
-            cells,
-        } = self;
-        let base = rest.rows;
+        let rest = &self.rest;
         let aggregates = rest.aggregates.as_slice();
-        list_rows(
-            base,
-            spans.as_slice(),
-            seen.as_slice(),
-            cells.as_slice(),
-            aggregates,
-        )
-    }
-
-    // The rows of a cube or a rollup.
-    fn all_rows(self) -> Result<GroupRows, AllocError>
-        ensures { IfOk result (λ rows. (puts : List Update) → Has self puts
-            → AreRows (group_view self) puts rows) }
-    {
-        let PlacedStore {
-            rest,
-            spans,
-            seen,
-            cells,
-        } = self;
-        let mut rows = rest.rows;
-        let aggregates = rest.aggregates.as_slice();
-        add_places(
-            &mut rows,
-            spans.as_slice(),
-            seen.as_slice(),
-            cells.as_slice(),
-            aggregates,
-        )?;
-        rows_of_base(rest.alloc, rows, rest.shape, rest.key_count, aggregates)
+        let all = self.seen.as_slice().len();
+        lanes_are_narrow(aggregates, batch);
+        take_lanes(self.cells.as_mut_slice(), all, aggregates, places, batch);
+        mark(self.seen.as_mut_slice(), places);
     }
 }
 
@@ -168,21 +115,21 @@ impl GroupStore for PlacedStore {
 
     fn put(&mut self, keys: &[KeyValue], values: &[i64]) -> Result<(), AllocError> {
         match place_of(self.spans.as_slice(), keys) {
-            None => self.rest.put(keys, values),
+            None => self.rest.add(keys, values),
             Some(place) => {
-                take_one(
-                    self.cells.as_mut_slice(),
-                    self.seen.as_mut_slice(),
-                    self.rest.aggregates.as_slice(),
-                    place,
-                    values,
-                );
+                let rest = &self.rest;
+                let aggregates = rest.aggregates.as_slice();
+                let all = self.seen.as_slice().len();
+                let at = [place as u32];
+                are_narrow(values);
+                take_put(self.cells.as_mut_slice(), all, aggregates, &at, values);
+                mark(self.seen.as_mut_slice(), &at);
                 Ok(())
             }
         }
     }
 
-    // Where keys have but one place, few rows have it, and each is put by itself.
+    // If there is only one group id, few rows have it, and each is put by itself.
     fn put_batch(&mut self, batch: &PutBatch<'_>) -> Result<(), AllocError> {
         if self.seen.len() == 1 && !batch.keys.is_empty() {
             return self.put_rows(batch);
@@ -204,9 +151,24 @@ impl GroupStore for PlacedStore {
     }
 
     fn into_rows(self) -> Result<GroupRows, AllocError> {
-        match self.rest.shape {
-            Shape::Plain => self.plain_rows(),
-            Shape::Cube | Shape::Rollup => self.all_rows(),
-        }
+        let PlacedStore {
+            rest,
+            spans,
+            seen,
+            cells,
+        } = self;
+        let base = rest.rows;
+        let mut rows = base.listed;
+        let aggregates = rest.aggregates.as_slice();
+        let seen = seen.as_slice();
+        rows.reserve(count_seen(seen))?;
+        push_places(
+            &mut rows,
+            spans.as_slice(),
+            seen,
+            cells.as_slice(),
+            aggregates,
+        )?;
+        rows_of_base(rest.alloc, rows, rest.shape, rest.key_count, aggregates)
     }
 }

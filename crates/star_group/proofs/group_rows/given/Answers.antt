@@ -1,5 +1,4 @@
-use Rattle.std.proofs.Common.{◌≡◌, [], ℕ, ℤ, List, Option, Some, length, nat_eq, slice_get, subst, sym, take, ◌∙◌}
-use Rattle.star_group.proofs.Common.{and_parts, eqb-true, is_grouping, KeyPart, key_view, all_hidden, group_with, listed_entries, AreRows}
+use Rattle.star_group.proofs.Common.{◌≡◌, [], ℕ, ℤ, List, Option, Some, length, nat_eq, slice_get, subst, sym, take, ◌∙◌, and_parts, eqb-true, is_grouping, KeyPart, key_view, all_hidden, group_with, listed_entries, AreRows}
 use Rattle.star_group.proofs.Contents.{if_ok}
 use Rattle.star_group.proofs.GivenGroups.{given_are_rows, hides_none, none_put, nothing_rows, some_put}
 use Rattle.star_group.proofs.ListedRows.{row_wide}

@@ -1,4 +1,4 @@
-use Rattle.star_group.specs.Private.Listed.{listed_entries}
+use Rattle.star_group.proofs.Common.{listed_entries}
 use Rattle.star_group.proofs.GivenRows.{nothing_row}
 use Rattle.star_group.proofs.group_rows.nothing_given.Goals as goal
 

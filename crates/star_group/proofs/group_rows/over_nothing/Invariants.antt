@@ -1,5 +1,4 @@
-use Rattle.std.proofs.Common.{◌≡◌, None, length, map, take}
-use Rattle.star_group.specs.Private.Given.{shown}
+use Rattle.star_group.proofs.Common.{◌≡◌, None, length, map, take, shown}
 use Rattle.star_group.proofs.group_rows.over_nothing.Given as goal
 
 abbrev pub invariant-loop-place : goal.invariant-loop-place

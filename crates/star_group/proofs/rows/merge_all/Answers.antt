@@ -1,5 +1,4 @@
-use Rattle.std.proofs.Common.{◌≡◌, ◌∙◌, ◌+◌, ◌-◌, [], arith, get_or, length, map, subst, sym}
-use Rattle.star_group.proofs.Common.{key_view, row_found, entries_of, HasSpace, IsNarrow}
+use Rattle.star_group.proofs.Common.{◌≡◌, ◌∙◌, ◌+◌, ◌-◌, [], arith, get_or, length, map, subst, sym, key_view, row_found, entries_of, HasSpace, IsNarrow}
 use Rattle.star_group.proofs.MergedRows.{fewer_space, key_here, key_within, merges_more, narrow_at, stays_here}
 use Rattle.star_group.proofs.rows.merge_all.Goals as goal
 
@@ -8,7 +7,7 @@ merge_one-requires-clause-narrow c =
     let own = c.args.row_keys.now in
     let i = c.loop-index.index in
     subst (λ w. IsNarrow w (get_or own i [])) (sym c.loop-index.invariant.widths.width)
-    (narrow_at c.args.rows.now.trie.width own i [] c.loop-index-test.true c.requires.narrow)
+    (narrow_at c.args.rows.now.listed.width own i [] c.loop-index-test.true c.requires.narrow)
 
 pub merge_one-requires-clause-stays : goal.merge_one-requires-clause-stays
 merge_one-requires-clause-stays c =

@@ -1,5 +1,4 @@
-use Rattle.std.proofs.Common.{◌-◌, length, map, take}
-use Rattle.star_group.proofs.Common.{key_view, row_found, entries_of, AreAsWide, HasSpace, MergesAll}
+use Rattle.star_group.proofs.Common.{◌-◌, length, map, take, key_view, row_found, entries_of, AreAsWide, HasSpace, MergesAll}
 use Rattle.star_group.proofs.MergedRows.{among}
 use Rattle.star_group.proofs.rows.merge_all.Given as goal
 

@@ -1,4 +1,4 @@
-use Rattle.std.proofs.Common.{rules}
+use Rattle.star_group.proofs.Common.{rules}
 use Rattle.star_group.proofs.deferred.coarser.merge_coarser.Goals as goal
 
 pub merge-requires-clause-stays : goal.merge-requires-clause-stays

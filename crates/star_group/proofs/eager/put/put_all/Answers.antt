@@ -1,13 +1,12 @@
-use Rattle.std.proofs.Common.{◌≡◌, ◌≢◌, ◌∙◌, List, false, inl, inr, ap, arith, length, map, rules, subst, sym, ⊎_elim}
-use Rattle.star_group.proofs.Common.{IsDistinct, filter, list_any, MatchBool-at_false, MatchBool-at_true, AllPairs-filter, AllPairs-from_IsDistinct, IsDistinct-from_AllPairs, err_from_is_err_and, Shape, KeyValue, KeyPart, key_view, row_found, entries_of}
-use Rattle.star_group.proofs.Common.{is_of_put, key_eq, padded, vary, PutsRows, SomeLeaves, is_one_of, is_row_key}
+use Rattle.star_group.proofs.Common.{◌≡◌, ◌≢◌, ◌∙◌, List, false, inl, inr, ap, arith, length, map, rules, subst, sym, ⊎_elim, IsDistinct, filter, list_any, MatchBool-at_false, MatchBool-at_true, AllPairs-filter, AllPairs-from_IsDistinct, IsDistinct-from_AllPairs, err_from_is_err_and, Shape}
+use Rattle.star_group.proofs.Common.{KeyValue, KeyPart, key_view, row_found, entries_of, is_of_put, key_eq, padded, vary, PutsRows, SomeLeaves, is_one_of, is_row_key}
 use Rattle.star_group.proofs.OwnKeyLemmas.{vary_distinct}
 use Rattle.star_group.proofs.GroupKeys.{any_kept, key_decides}
 use Rattle.star_group.proofs.KeyedRows.{row_keys_narrow}
 use Rattle.star_group.proofs.eager.put.put_all.Goals as goal
 
 pub fill_row_keys-requires : goal.fill_row_keys-requires
-fill_row_keys-requires c = omega (arith, c.requires.narrow, c.args.rows.now.trie.few)
+fill_row_keys-requires c = omega (arith, c.requires.narrow, c.args.rows.now.listed.few)
 
 pub put_rows-requires-clause-distinct : goal.put_rows-requires-clause-distinct
 put_rows-requires-clause-distinct c =
@@ -18,12 +17,12 @@ put_rows-requires-clause-distinct c =
     (IsDistinct-from_AllPairs key_decides (filter (is_row_key c.args.shape (length ks)) keys)
     (AllPairs-filter (λ x y. x ≢ y) (is_row_key c.args.shape (length ks)) keys
     (AllPairs-from_IsDistinct key_decides keys
-    (vary_distinct 6 ks (omega (arith, c.requires.narrow, c.args.rows.now.trie.few))))))
+    (vary_distinct 6 ks (omega (arith, c.requires.narrow, c.args.rows.now.listed.few))))))
 
 pub put_rows-requires-clause-narrow : goal.put_rows-requires-clause-narrow
 put_rows-requires-clause-narrow c =
-    row_keys_narrow c.args.shape c.args.keys.now c.as_slice.result.now c.args.rows.now.trie.width
-    c.requires.narrow (omega (arith, c.requires.narrow, c.args.rows.now.trie.few))
+    row_keys_narrow c.args.shape c.args.keys.now c.as_slice.result.now c.args.rows.now.listed.width
+    c.requires.narrow (omega (arith, c.requires.narrow, c.args.rows.now.listed.few))
     (ap (map key_view) c.as_slice.ensures.value ∙ c.in_ok-fill_row_keys.ensures)
 
 -- the keys are those of the rows that the put changes

@@ -1,5 +1,4 @@
-use Rattle.std.proofs.Common.{◌<◌, ◌++◌, ◌∷◌, [], ◌∙◌, Bool, List, ap, arith, length, set}
-use Rattle.star_group.proofs.Common.{filter, key_view, is_row_key, KeyPart, All}
+use Rattle.star_group.proofs.Common.{◌<◌, ◌++◌, ◌∷◌, [], ◌∙◌, Bool, List, ap, arith, length, set, filter, key_view, is_row_key, KeyPart, All}
 use Rattle.star_group.proofs.OwnKeyLemmas.{next_hidden}
 use Rattle.star_group.proofs.eager.row_keys.double.Goals as goal
 

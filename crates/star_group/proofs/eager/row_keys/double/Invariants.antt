@@ -1,5 +1,4 @@
-use Rattle.std.proofs.Common.{◌≡◌, ◌++◌, take, map, set}
-use Rattle.star_group.proofs.Common.{filter, key_view, is_row_key, All}
+use Rattle.star_group.proofs.Common.{◌≡◌, ◌++◌, take, map, set, filter, key_view, is_row_key, All}
 use Rattle.star_group.proofs.eager.row_keys.double.Given as goal
 
 abbrev pub invariant-loop-index : goal.invariant-loop-index

@@ -1,5 +1,4 @@
-use Rattle.std.proofs.Common.{◌≡◌, ◌∙◌, ◌∷◌, [], ap, map, refl, rules}
-use Rattle.star_group.specs.Base.{key_view}
+use Rattle.star_group.proofs.Common.{◌≡◌, ◌∙◌, ◌∷◌, [], ap, map, refl, rules, key_view}
 use Rattle.star_group.proofs.eager.row_keys.fill_row_keys.Goals as goal
 
 pub returns : goal.returns

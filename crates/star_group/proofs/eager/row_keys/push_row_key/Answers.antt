@@ -1,4 +1,4 @@
-use Rattle.std.proofs.Common.{rules}
+use Rattle.star_group.proofs.Common.{rules}
 use Rattle.star_group.proofs.eager.row_keys.push_row_key.Goals as goal
 
 pub returns-then-not-is_grouping : goal.returns-then-not-is_grouping

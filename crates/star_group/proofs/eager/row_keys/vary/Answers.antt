@@ -1,5 +1,4 @@
-use Rattle.std.proofs.Common.{◌∷◌, [], ◌≡◌, ◌≤◌, ◌<◌, ◌++◌, ◌+◌, ◌-◌, zero, suc, cond, ℕ, map, List, Option, length, arith, sym, ap, ◌∙◌}
-use Rattle.star_group.proofs.Common.{filter, Shape, KeyValue, padded, vary, key_view, keys_from, is_row_key}
+use Rattle.star_group.proofs.Common.{◌∷◌, [], ◌≡◌, ◌≤◌, ◌<◌, ◌++◌, ◌+◌, ◌-◌, zero, suc, cond, ℕ, map, List, Option, length, arith, sym, ap, ◌∙◌, filter, Shape, KeyValue, padded, vary, key_view, keys_from, is_row_key}
 use Rattle.star_group.proofs.AllRows.{base_keys, cube_keys}
 use Rattle.star_group.proofs.OwnKeyLemmas.{doubled}
 use Rattle.star_group.proofs.GroupKeys.{own_grouping}

@@ -1,5 +1,4 @@
-use Rattle.std.proofs.Common.{◌≡◌, ◌≤◌, ◌∷◌, [], List, map, length}
-use Rattle.star_group.proofs.Common.{filter, KeyValue, key_view, padded, keys_from, is_row_key}
+use Rattle.star_group.proofs.Common.{◌≡◌, ◌≤◌, ◌∷◌, [], List, map, length, filter, KeyValue, key_view, padded, keys_from, is_row_key}
 use Rattle.star_group.proofs.eager.row_keys.vary.Given as goal
 
 abbrev pub invariant-loop-place : goal.invariant-loop-place

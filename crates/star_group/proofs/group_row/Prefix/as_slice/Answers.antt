@@ -1,4 +1,4 @@
-use Rattle.std.proofs.Common.{rules}
+use Rattle.star_group.proofs.Common.{rules}
 use Rattle.star_group.proofs.group_row.Prefix.as_slice.Goals as goal
 
 pub returns : goal.returns

@@ -1,5 +1,4 @@
-use Rattle.std.proofs.Common.{None, ap, arith, get_or, map, sym, ◌∙◌}
-use Rattle.star_group.proofs.Common.{row_shown, listed_entries, row_at}
+use Rattle.star_group.proofs.Common.{None, ap, arith, get_or, map, sym, ◌∙◌, row_shown, listed_entries, row_at}
 use Rattle.star_group.proofs.GivenRows.{aggregates_shown, nothing_shown}
 use Rattle.star_group.proofs.group_rows.GroupRows.aggregate.Goals as goal
 

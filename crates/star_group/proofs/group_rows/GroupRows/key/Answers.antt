@@ -1,5 +1,4 @@
-use Rattle.std.proofs.Common.{None, ap, get_or, ◌∙◌}
-use Rattle.star_group.proofs.Common.{listed_entries, row_at}
+use Rattle.star_group.proofs.Common.{None, ap, get_or, ◌∙◌, listed_entries, row_at}
 use Rattle.star_group.proofs.GivenRows.{key_shown, no_key}
 use Rattle.star_group.proofs.group_rows.GroupRows.key.Goals as goal
 

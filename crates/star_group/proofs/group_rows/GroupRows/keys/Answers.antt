@@ -1,5 +1,4 @@
-use Rattle.std.proofs.Common.{ap, arith, take, ◌∙◌}
-use Rattle.star_group.proofs.Common.{key_view, listed_entries, row_at}
+use Rattle.star_group.proofs.Common.{ap, arith, take, ◌∙◌, key_view, listed_entries, row_at}
 use Rattle.star_group.proofs.GivenRows.{keys_shown, none_shown}
 use Rattle.star_group.proofs.group_rows.GroupRows.keys.Goals as goal
 

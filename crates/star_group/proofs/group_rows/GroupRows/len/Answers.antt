@@ -1,5 +1,4 @@
-use Rattle.std.proofs.Common.{length, ap, sym, ◌∙◌}
-use Rattle.star_group.proofs.Common.{length-map, row_shown, listed_entries}
+use Rattle.star_group.proofs.Common.{length, ap, sym, ◌∙◌, length-map, row_shown, listed_entries}
 use Rattle.star_group.proofs.group_rows.GroupRows.len.Goals as goal
 
 pub returns : goal.returns

@@ -1,22 +1,18 @@
-use Rattle.std.proofs.Common.{◌≡◌, ◌+◌, ◌++◌, ◌∷◌, [], ◌∙◌, ap, length, rules, take}
-use Rattle.star_program.specs.Rows.{cut}
-use Rattle.star_group.proofs.CutRows.{cut_one}
-use Rattle.star_group.proofs.KeyedRows.{push_missing}
+use Rattle.star_group.proofs.Common.{◌≡◌, ◌++◌, ◌∷◌, [], length, rules, set, subst, sym, take, IsTrie, keys_in, listed_keys}
+use Rattle.star_group.proofs.Tries.{is_trie_after}
 use Rattle.star_group.proofs.keyed.KeyedRows.push.Goals as goal
 
-pub returns-clause-ok : goal.returns-clause-ok
-returns-clause-ok c =
+pub invariant_of-self-2-clause-trie : goal.invariant_of-self-2-clause-trie
+invariant_of-self-2-clause-trie c =
     let s = c.args.self.now in
-    let new = c.push.new.self in
-    let six : length c.args.key.now ≡ 6 = search rules in
-    let keys : cut new.width new.len new.keys.items
-    ≡ cut s.trie.width s.trie.len s.trie.keys.items ++ take s.trie.width c.args.key.now ∷ [] =
-    search rules in
-    let more : new.len ≡ s.trie.len + 1 = search rules in
-    let items : c.extend_from_slice.new.self.items ≡ s.cells.items ++ c.args.row.now =
-    search rules in
-    push_missing s c.args.key.now six c.requires.narrow c.args.node c.args.digit c.requires.missing
-    c.args.row.now _ _ keys
-    (ap (λ n. cut s.aggregate_count n c.extend_from_slice.new.self.items) more
-    ∙ cut_one s.aggregate_count s.trie.len s.cells.items _ c.args.row.now s.long c.requires.wide
-    items)
+    let key = take s.listed.width c.args.key.now in
+    let keys : listed_keys c.push-2.new.self ≡ keys_in s ++ key ∷ [] = search rules in
+    let trie : IsTrie s.listed.width (listed_keys c.push-2.new.self)
+    (set c.push.new.self.items c.args.node
+    (set c.index_mut.result.now c.args.digit c.in_ok-number.number)) =
+    is_trie_after s.listed.width (keys_in s) s.links.items key c.args.node c.args.digit s.trie
+    c.requires.missing _ _ _ _ _ keys (search rules) c.index_mut.ensures.value (search rules) in
+    subst (λ w. IsTrie w (listed_keys c.push-2.new.self)
+    (set c.push.new.self.items c.args.node
+    (set c.index_mut.result.now c.args.digit c.in_ok-number.number))) (sym c.push-2.ensures.width)
+    trie

@@ -1,5 +1,4 @@
-use Rattle.std.proofs.Common.{[], None, ap, get_or, ◌∙◌}
-use Rattle.star_program.specs.Rows.{cut}
+use Rattle.star_group.proofs.Common.{[], None, ap, get_or, ◌∙◌, cut}
 use Rattle.star_group.proofs.ListedRows.{row_at}
 use Rattle.star_group.proofs.keyed.ListedRows.cell.Goals as goal
 

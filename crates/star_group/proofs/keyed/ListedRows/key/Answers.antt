@@ -1,7 +1,5 @@
-use Rattle.std.proofs.Common.{◌∙◌, [], List, Option, ℤ, ap, arith, drop, get_or, length, sym}
-use Rattle.star_group.proofs.Common.{KeyPart, filled, cut}
-use Rattle.star_group.proofs.KeyedRows.{filled_narrow}
-use Rattle.star_group.proofs.ListedRows.{entry_at, key_wide}
+use Rattle.star_group.proofs.Common.{◌∙◌, [], List, Option, ℤ, ap, arith, drop, get_or, length, sym, KeyPart, filled, cut}
+use Rattle.star_group.proofs.ListedRows.{entry_at, filled_narrow, key_wide}
 use Rattle.star_group.proofs.keyed.ListedRows.key.Goals as goal
 
 pub in_six_places-requires : goal.in_six_places-requires

@@ -1,4 +1,4 @@
-use Rattle.std.proofs.Common.{sym}
+use Rattle.star_group.proofs.Common.{sym}
 use Rattle.star_group.proofs.ListedRows.{row_count}
 use Rattle.star_group.proofs.keyed.ListedRows.len.Goals as goal
 

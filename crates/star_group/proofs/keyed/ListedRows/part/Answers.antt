@@ -1,5 +1,4 @@
-use Rattle.std.proofs.Common.{[], None, ap, get_or, ◌∙◌}
-use Rattle.star_group.proofs.Common.{key_view, cut}
+use Rattle.star_group.proofs.Common.{[], None, ap, get_or, ◌∙◌, key_view, cut}
 use Rattle.star_group.proofs.ListedRows.{part_at}
 use Rattle.star_group.proofs.keyed.ListedRows.part.Goals as goal
 

@@ -1,5 +1,4 @@
-use Rattle.std.proofs.Common.{◌∙◌, [], List, Option, ℤ, ap, get_or, length, sym}
-use Rattle.star_group.proofs.Common.{KeyPart, cut}
+use Rattle.star_group.proofs.Common.{◌∙◌, [], List, Option, ℤ, ap, get_or, length, sym, KeyPart, cut}
 use Rattle.star_group.proofs.ListedRows.{cells_wide, entry_at}
 use Rattle.star_group.proofs.keyed.ListedRows.row.Goals as goal
 

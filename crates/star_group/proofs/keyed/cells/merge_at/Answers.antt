@@ -1,5 +1,4 @@
-use Rattle.std.proofs.Common.{◌≡◌, ◌+◌, ◌-◌, ◌*◌, ◌∙◌, ap, arith, length, subst, sym}
-use Rattle.star_group.specs.Private.Merged.{IsMerged, MergeStays}
+use Rattle.star_group.proofs.Common.{◌≡◌, ◌+◌, ◌-◌, ◌*◌, ◌∙◌, ap, arith, length, subst, sym, IsMerged, MergeStays}
 use Rattle.star_group.proofs.CutRows.{cut_put, cut_wide, mid_at}
 use Rattle.star_group.proofs.keyed.cells.merge_at.Goals as goal
 

@@ -1,7 +1,7 @@
-use Rattle.std.proofs.Common.{◌∙◌, sym, true≢false}
+use Rattle.star_group.proofs.Common.{◌∙◌, sym, true≢false}
 use Rattle.star_group.proofs.OwnKeyLemmas.{part_more}
-use Rattle.star_group.proofs.keyed.key.are_shown_first.Goals as goal
 use Rattle.star_group.proofs.keyed.key.are_shown_first.Goals.{else-shown-via-then-shown+else-hides, else-shown-via-else-shown}
+use Rattle.star_group.proofs.keyed.key.are_shown_first.Goals as goal
 
 pub loop-part-preserved : goal.loop-part-preserved
 loop-part-preserved c =

@@ -1,5 +1,4 @@
-use Rattle.std.proofs.Common.{◌≡◌, drop}
-use Rattle.star_group.proofs.Common.{Rollup, is_grouping, key_view}
+use Rattle.star_group.proofs.Common.{◌≡◌, drop, Rollup, is_grouping, key_view}
 use Rattle.star_group.proofs.OwnKeyLemmas.{goes_on}
 use Rattle.star_group.proofs.keyed.key.are_shown_first.Given as goal
 

@@ -1,5 +1,4 @@
-use Rattle.std.proofs.Common.{add-one, sym, ap, ◌∙◌, Some, get_or, pos, slice_set}
-use Rattle.star_group.proofs.Common.{map-set, Number, key_view, key_value_view}
+use Rattle.star_group.proofs.Common.{add-one, sym, ap, ◌∙◌, Some, get_or, pos, slice_set, map-set, Number, key_view, key_value_view}
 use Rattle.star_group.proofs.OwnKeyLemmas.{padded-set, all_padded}
 use Rattle.star_group.proofs.keyed.key.base_key.Goals as goal
 

@@ -1,5 +1,4 @@
-use Rattle.std.proofs.Common.{◌≡◌, take}
-use Rattle.star_group.proofs.Common.{key_view, padded}
+use Rattle.star_group.proofs.Common.{◌≡◌, take, key_view, padded}
 use Rattle.star_group.proofs.keyed.key.base_key.Given as goal
 
 abbrev pub invariant-loop-place : goal.invariant-loop-place

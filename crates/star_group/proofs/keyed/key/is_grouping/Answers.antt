@@ -1,5 +1,4 @@
-use Rattle.std.proofs.Common.{◌≡◌, ap, ◌∙◌, map, rules, subst, sym, take}
-use Rattle.star_group.proofs.Common.{list_all, is_some, take-map, list_all-map, Rollup, is_grouping, key_view, key_value_view}
+use Rattle.star_group.proofs.Common.{◌≡◌, ap, ◌∙◌, map, rules, subst, sym, take, list_all, is_some, take-map, list_all-map, Rollup, is_grouping, key_view, key_value_view}
 use Rattle.star_group.proofs.keyed.key.is_grouping.Goals as goal
 
 pub returns-in-Plain : goal.returns-in-Plain

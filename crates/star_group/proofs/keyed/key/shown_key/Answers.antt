@@ -1,5 +1,4 @@
-use Rattle.std.proofs.Common.{◌≡◌, ◌<◌, ◌++◌, ◌∷◌, [], length, arith, ◌∙◌, sym}
-use Rattle.star_group.proofs.Common.{common_steps, map_more, take_more_set, key_value_view, All}
+use Rattle.star_group.proofs.Common.{◌≡◌, ◌<◌, ◌++◌, ◌∷◌, [], length, arith, ◌∙◌, sym, common_steps, map_more, take_more_set, key_value_view, All}
 use Rattle.star_group.proofs.keyed.key.shown_key.Goals as goal
 
 pub loop-place-preserved : goal.loop-place-preserved

@@ -1,5 +1,4 @@
-use Rattle.std.proofs.Common.{◌≡◌, take, length, map}
-use Rattle.star_group.specs.Base.{key_value_view}
+use Rattle.star_group.proofs.Common.{◌≡◌, take, length, map, key_value_view}
 use Rattle.star_group.proofs.keyed.key.shown_key.Given as goal
 
 abbrev pub invariant-loop-place : goal.invariant-loop-place

@@ -1,5 +1,4 @@
-use Rattle.std.proofs.Common.{◌<◌, ◌≢◌, None, length, arith, below_more, get_or, get_or-set_other, get_or-set_same, ap, ◌∙◌}
-use Rattle.star_group.proofs.Common.{common_steps, Count, leaves, merged}
+use Rattle.star_group.proofs.Common.{◌<◌, ◌≢◌, None, length, arith, below_more, get_or, get_or-set_other, get_or-set_same, ap, ◌∙◌, common_steps, Count, leaves, merged}
 use Rattle.star_group.proofs.keyed.merge.merge_into.Goals as goal
 
 pub merged_cell-requires-clause-stays : goal.merged_cell-requires-clause-stays

@@ -1,5 +1,4 @@
-use Rattle.std.proofs.Common.{◌≡◌, ℕ, ◌<◌, [], false, slice_index_or}
-use Rattle.star_group.proofs.Common.{option_copied, unwrap_or, Count, leaves, merged_at}
+use Rattle.star_group.proofs.Common.{◌≡◌, ℕ, ◌<◌, [], false, slice_index_or, option_copied, unwrap_or, Count, leaves, merged_at}
 use Rattle.star_group.proofs.keyed.merge.row_stays.Given as goal
 
 abbrev pub invariant-loop-place : goal.invariant-loop-place

@@ -1,5 +1,4 @@
-use Rattle.std.proofs.Common.{◌+◌, ◌∙◌, ap, arith, drop, sym}
-use Rattle.star_group.specs.Private.Tries.{word_from}
+use Rattle.star_group.proofs.Common.{◌+◌, ◌∙◌, ap, arith, drop, sym, word_from}
 use Rattle.star_group.proofs.Tries.{word_done, word_on}
 use Rattle.star_group.proofs.keyed.trie.word_of.Goals as goal
 

@@ -1,5 +1,4 @@
-use Rattle.std.proofs.Common.{◌≡◌, drop}
-use Rattle.star_group.specs.Private.Tries.{word_from}
+use Rattle.star_group.proofs.Common.{◌≡◌, drop, word_from}
 use Rattle.star_group.proofs.keyed.trie.word_of.Given as goal
 
 abbrev pub invariant-loop-place : goal.invariant-loop-place

@@ -1,8 +1,7 @@
-use Rattle.std.proofs.Common.{◌≡◌, ◌*◌, [], ap, arith, false, length, replicate, sym, ◌∙◌}
-use Rattle.star_group.proofs.Common.{length-replicate, entries_of}
-use Rattle.star_group.specs.Deferred as deferred
+use Rattle.star_group.proofs.Common.{◌≡◌, ◌*◌, [], ap, arith, false, length, replicate, sym, ◌∙◌, length-replicate, entries_of}
 use Rattle.star_group.proofs.Bases.{no_room}
 use Rattle.star_group.proofs.PlacedPuts.{blank_columns, placed_none}
+use Rattle.star_group.specs.Deferred as deferred
 use Rattle.star_group.proofs.placed.PlacedStore.for_ranges.Goals as goal
 
 pub invariant_of-result : goal.invariant_of-result

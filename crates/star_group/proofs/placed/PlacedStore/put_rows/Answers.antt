@@ -1,5 +1,4 @@
-use Rattle.std.proofs.Common.{◌≡◌, ◌≤◌, ◌∷◌, ◌∙◌, add-one, ap, arith, length, rules, subst, sym, take}
-use Rattle.star_group.proofs.Common.{puts_after, put_in, Has, group_view, HasRoom}
+use Rattle.star_group.proofs.Common.{◌≡◌, ◌≤◌, ◌∷◌, ◌∙◌, add-one, ap, arith, length, rules, subst, sym, take, puts_after, put_in, Has, group_view, HasRoom}
 use Rattle.star_group.proofs.PlacedPuts.{err_any}
 use Rattle.star_group.proofs.placed.PlacedStore.put_rows.Goals as goal
 

@@ -1,5 +1,4 @@
-use Rattle.std.proofs.Common.{◌≡◌, List}
-use Rattle.star_group.proofs.Common.{puts_after, put_in, Has, group_view, Update}
+use Rattle.star_group.proofs.Common.{◌≡◌, List, puts_after, put_in, Has, group_view, Update}
 use Rattle.star_group.proofs.placed.PlacedStore.put_rows.Given as goal
 
 abbrev pub invariant-loop-row : goal.invariant-loop-row

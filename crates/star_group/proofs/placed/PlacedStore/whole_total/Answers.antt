@@ -1,5 +1,4 @@
-use Rattle.std.proofs.Common.{◌≡◌, ◌<◌, Some, [], suc, add-one, ap, arith, get_or, length, pos, subst, sym, false, ◌∙◌}
-use Rattle.star_group.proofs.Common.{cut, entries_of, group_view, places, IsMerged, MergeStays}
+use Rattle.star_group.proofs.Common.{◌≡◌, ◌<◌, Some, [], suc, add-one, ap, arith, get_or, length, pos, subst, sym, false, ◌∙◌, cut, entries_of, group_view, places, IsMerged, MergeStays}
 use Rattle.star_group.proofs.PlacedRows.{IsRowAt, IsSummed, sum_end, sum_more, sum_skip, sum_start, sum_stays}
 use Rattle.star_group.proofs.placed.PlacedStore.whole_total.Goals.{then-seen-place, else-seen-place}
 use Rattle.star_group.proofs.placed.PlacedStore.whole_total.Goals as goal

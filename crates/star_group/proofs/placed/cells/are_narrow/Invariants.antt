@@ -1,5 +1,4 @@
-use Rattle.std.proofs.Common.{◌≡◌, ◌<◌, ℕ, pos, true}
-use Rattle.star_group.proofs.Common.{slice_index_or, is_i64}
+use Rattle.star_group.proofs.Common.{◌≡◌, ◌<◌, ℕ, pos, true, slice_index_or, is_i64}
 use Rattle.star_group.proofs.placed.cells.are_narrow.Given as goal
 
 abbrev pub invariant-loop-at : goal.invariant-loop-at

@@ -1,5 +1,4 @@
-use Rattle.std.proofs.Common.{◌≡◌, ◌∙◌, add-one, ap, below_more, drop, get_or, length, map, pos, subst, suc, sym}
-use Rattle.star_group.proofs.Common.{Sum, is_i64, value_count, aligned, put_in, word_in}
+use Rattle.star_group.proofs.Common.{◌≡◌, ◌∙◌, add-one, ap, below_more, drop, get_or, length, map, pos, subst, suc, sym, Sum, is_i64, value_count, aligned, put_in, word_in}
 use Rattle.star_group.proofs.PlacedLanes.{count_left, next_numbers}
 use Rattle.star_group.proofs.placed.cells.lanes_are_narrow.Goals as goal
 

@@ -1,5 +1,5 @@
-use Rattle.std.proofs.Common.{◌≡◌, ◌<◌, ◌≤◌, ◌+◌, ◌*◌, ℕ, All, drop, length, map, pos, true}
-use Rattle.star_group.proofs.Common.{is_i64, value_count, aligned, put_in, word_in, put_number}
+use Rattle.star_group.proofs.Common.{◌≡◌, ◌<◌, ◌≤◌, ◌+◌, ◌*◌, ℕ, drop, length, map, pos, true, is_i64, value_count, aligned, put_in, word_in, put_number}
+use Rattle.std.proofs.Common.{All}
 use Rattle.star_group.proofs.placed.cells.lanes_are_narrow.Given as goal
 
 abbrev pub invariant-loop-number : goal.invariant-loop-number

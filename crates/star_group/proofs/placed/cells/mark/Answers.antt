@@ -1,4 +1,4 @@
-use Rattle.std.proofs.Common.{add-one, ap, get_or, rules, slice_set, true}
+use Rattle.star_group.proofs.Common.{add-one, ap, get_or, rules, slice_set, true}
 use Rattle.star_group.specs.Private.Taken.{after_rows}
 use Rattle.star_group.proofs.placed.cells.mark.Goals as goal
 

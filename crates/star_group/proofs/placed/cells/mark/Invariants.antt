@@ -1,5 +1,4 @@
-use Rattle.std.proofs.Common.{◌≡◌, false, true}
-use Rattle.star_group.specs.Private.Taken.{after_rows}
+use Rattle.star_group.proofs.Common.{◌≡◌, false, true, after_rows}
 use Rattle.star_group.proofs.placed.cells.mark.Given as goal
 
 abbrev pub invariant-loop-row : goal.invariant-loop-row

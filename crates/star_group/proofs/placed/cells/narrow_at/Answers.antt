@@ -1,4 +1,4 @@
-use Rattle.std.proofs.Common.{FitsSigned, get_or, pos, rules, w64}
+use Rattle.star_group.proofs.Common.{FitsSigned, get_or, pos, rules, w64}
 use Rattle.star_group.proofs.PlacedCells.{is_narrow}
 use Rattle.star_group.proofs.placed.cells.narrow_at.Goals as goal
 

@@ -1,5 +1,4 @@
-use Rattle.std.proofs.Common.{◌<◌, arith, pos, replicate, ◌∙◌}
-use Rattle.std.proofs.lemmas.List.{get_or-replicate, get_or-take}
+use Rattle.star_group.proofs.Common.{◌<◌, arith, pos, replicate, ◌∙◌, get_or-replicate, get_or-take}
 use Rattle.star_group.proofs.placed.cells.ones.Goals as goal
 
 pub returns-clause-words : goal.returns-clause-words

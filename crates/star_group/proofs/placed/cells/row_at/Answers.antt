@@ -1,5 +1,4 @@
-use Rattle.std.proofs.Common.{◌≢◌, ◌<◌, ◌+◌, ◌*◌, ◌∙◌, None, Some, ap, arith, below_more, length, pos, subst, sym}
-use Rattle.std.proofs.lemmas.List.{get_or-set_same, get_or-set_other, length-set}
+use Rattle.star_group.proofs.Common.{◌≢◌, ◌<◌, ◌+◌, ◌*◌, ◌∙◌, None, Some, ap, arith, below_more, length, pos, subst, sym, get_or-set_same, get_or-set_other, length-set}
 use Rattle.star_group.proofs.CutRows.{place_read, place_within}
 use Rattle.star_group.proofs.placed.cells.row_at.Goals as goal
 

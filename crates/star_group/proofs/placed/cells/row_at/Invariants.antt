@@ -1,5 +1,4 @@
-use Rattle.std.proofs.Common.{◌≡◌, ◌<◌, ℕ, Some, None, [], length, pos}
-use Rattle.star_group.proofs.Common.{slice_index_or, cut}
+use Rattle.star_group.proofs.Common.{◌≡◌, ◌<◌, ℕ, Some, None, [], length, pos, slice_index_or, cut}
 use Rattle.star_group.proofs.placed.cells.row_at.Given as goal
 
 abbrev pub invariant-loop-number : goal.invariant-loop-number

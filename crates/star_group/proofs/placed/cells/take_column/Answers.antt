@@ -1,5 +1,4 @@
-use Rattle.std.proofs.Common.{◌≡◌, ◌+◌, ◌-◌, ◌*◌, ◌∙◌, ap, arith, length, slice_set, subst, sym}
-use Rattle.star_group.proofs.Common.{cut, CanTake, column_after}
+use Rattle.star_group.proofs.Common.{◌≡◌, ◌+◌, ◌-◌, ◌*◌, ◌∙◌, ap, arith, length, slice_set, subst, sym, cut, CanTake, column_after}
 use Rattle.star_group.proofs.CutRows.{cut_put, cut_wide, mid_at}
 use Rattle.star_group.proofs.placed.cells.take_column.Goals as goal
 

@@ -1,5 +1,4 @@
-use Rattle.std.proofs.Common.{Some, add-one, ap, get_or, pos, slice_set, ◌∙◌, rules}
-use Rattle.star_group.proofs.Common.{w128, to_z-of_z, leaves, taking}
+use Rattle.star_group.proofs.Common.{Some, add-one, ap, get_or, pos, slice_set, ◌∙◌, rules, w128, to_z-of_z, leaves, taking}
 use Rattle.star_group.specs.Private.Taken.{after_rows}
 use Rattle.star_group.proofs.placed.cells.take_lane.Goals as goal
 

@@ -1,5 +1,4 @@
-use Rattle.std.proofs.Common.{◌≡◌}
-use Rattle.star_group.specs.Private.Taken.{column_after}
+use Rattle.star_group.proofs.Common.{◌≡◌, column_after}
 use Rattle.star_group.proofs.placed.cells.take_lane.Given as goal
 
 abbrev pub invariant-loop-row : goal.invariant-loop-row

@@ -1,5 +1,5 @@
-use Rattle.std.proofs.Common.{◌≡◌, ◌≢◌, ◌<◌, ◌∙◌, [], add-one, ap, arith, below_more, drop, get_or, length, map, pos, slice_set, subst, suc, sym}
-use Rattle.star_group.proofs.Common.{get_or-set_same, get_or-set_other, get_or_default, Count, Sum, value_count, aligned, cut, length-cut, put_in, word_in, CanTake, batch_lanes, column_after, put_number}
+use Rattle.star_group.proofs.Common.{◌≡◌, ◌≢◌, ◌<◌, ◌∙◌, [], add-one, ap, arith, below_more, drop, get_or, length, map, pos, slice_set, subst, suc, sym, get_or-set_same, get_or-set_other, get_or_default, Count, Sum, value_count, aligned, cut, length-cut, put_in, word_in, CanTake, batch_lanes}
+use Rattle.star_group.proofs.Common.{column_after, put_number}
 use Rattle.star_group.proofs.PlacedLanes.{count_left, lane_same, next_numbers}
 use Rattle.star_group.proofs.placed.cells.take_lanes.Goals as goal
 

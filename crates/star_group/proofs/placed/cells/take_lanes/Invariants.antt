@@ -1,5 +1,5 @@
-use Rattle.std.proofs.Common.{◌≡◌, ◌<◌, ◌≤◌, ◌+◌, ◌*◌, ℕ, All, [], drop, length, map, pos}
-use Rattle.star_group.proofs.Common.{slice_index_or, Count, value_count, aligned, cut, put_in, word_in, batch_lanes, column_after}
+use Rattle.star_group.proofs.Common.{◌≡◌, ◌<◌, ◌≤◌, ◌+◌, ◌*◌, ℕ, [], drop, length, map, pos, slice_index_or, Count, value_count, aligned, cut, put_in, word_in, batch_lanes, column_after}
+use Rattle.std.proofs.Common.{All}
 use Rattle.star_group.proofs.placed.cells.take_lanes.Given as goal
 
 abbrev pub invariant-loop-number : goal.invariant-loop-number

@@ -1,5 +1,4 @@
-use Rattle.std.proofs.Common.{◌≡◌, ◌∷◌, [], ◌∙◌, FitsSigned, List, ap, arith, get_or, length, pos, refl, rules, slice_set, subst, sym, ℤ}
-use Rattle.star_group.proofs.Common.{w128, to_z-of_z, CanTake, column_after}
+use Rattle.star_group.proofs.Common.{◌≡◌, ◌∷◌, [], ◌∙◌, FitsSigned, List, ap, arith, get_or, length, pos, refl, rules, slice_set, subst, sym, ℤ, w128, to_z-of_z, CanTake, column_after}
 use Rattle.star_group.proofs.placed.cells.take_one_cell.Goals as goal
 
 only_cell : (xs : List ℤ) → length xs ≡ 1 → xs ≡ get_or xs 0 (pos 0) ∷ []

@@ -1,5 +1,4 @@
-use Rattle.std.proofs.Common.{◌≡◌, ◌≢◌, ◌<◌, ◌+◌, ◌-◌, ◌∙◌, drop, slice_set, take, [], ap, arith, below_more, get_or, length}
-use Rattle.star_group.proofs.Common.{get_or-set_same, get_or-set_other, get_or_default, Count, Sum, cut, length-cut, column_after, lanes_of}
+use Rattle.star_group.proofs.Common.{◌≡◌, ◌≢◌, ◌<◌, ◌+◌, ◌-◌, ◌∙◌, drop, slice_set, take, [], ap, arith, below_more, get_or, length, get_or-set_same, get_or-set_other, get_or_default, Count, Sum, cut, length-cut, column_after, lanes_of}
 use Rattle.star_group.proofs.placed.cells.take_put.Goals as goal
 
 pub loop-number-preserved : goal.loop-number-preserved

@@ -1,5 +1,4 @@
-use Rattle.std.proofs.Common.{◌≡◌, ◌<◌, ◌≤◌, ℕ, [], length}
-use Rattle.star_group.proofs.Common.{slice_index_or, Count, cut, column_after, lanes_of}
+use Rattle.star_group.proofs.Common.{◌≡◌, ◌<◌, ◌≤◌, ℕ, [], length, slice_index_or, Count, cut, column_after, lanes_of}
 use Rattle.star_group.proofs.placed.cells.take_put.Given as goal
 
 abbrev pub invariant-loop-number : goal.invariant-loop-number

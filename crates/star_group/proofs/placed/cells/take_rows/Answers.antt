@@ -1,5 +1,4 @@
-use Rattle.std.proofs.Common.{◌≡◌, ◌∷◌, [], ◌∙◌, FitsSigned, Some, add-one, ap, arith, get_or, length, pos, refl, rules, slice_set, subst, sym}
-use Rattle.star_group.proofs.Common.{w128, to_z-of_z, leaves, CanTake, column_after, taking}
+use Rattle.star_group.proofs.Common.{◌≡◌, ◌∷◌, [], ◌∙◌, FitsSigned, Some, add-one, ap, arith, get_or, length, pos, refl, rules, slice_set, subst, sym, w128, to_z-of_z, leaves, CanTake, column_after, taking}
 use Rattle.star_group.specs.Private.Taken.{after_rows}
 use Rattle.star_group.proofs.placed.cells.take_rows.Goals as goal
 

@@ -1,5 +1,4 @@
-use Rattle.std.proofs.Common.{◌≤◌, arith, length, take}
-use Rattle.std.proofs.lemmas.List.{length-take}
+use Rattle.star_group.proofs.Common.{◌≤◌, arith, length, take, length-take}
 use Rattle.star_group.proofs.KeyedRows.{base_narrow}
 use Rattle.star_group.proofs.placed.filling.key_at.Goals as goal
 

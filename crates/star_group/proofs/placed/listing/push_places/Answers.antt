@@ -1,5 +1,4 @@
-use Rattle.std.proofs.Common.{◌≡◌, ◌+◌, ◌∙◌, None, add-one, arith, length, rules, subst, suc, sym, take}
-use Rattle.star_group.proofs.Common.{get_or-take, places, AreOnce, listed_entries}
+use Rattle.star_group.proofs.Common.{◌≡◌, ◌+◌, ◌∙◌, None, add-one, arith, length, rules, subst, suc, sym, take, get_or-take, places, AreOnce, listed_entries}
 use Rattle.star_group.proofs.PlacedListing.{IsListedTo, list_end, list_more, list_skip, list_start}
 use Rattle.star_group.proofs.placed.listing.push_places.Goals.{then-seen-place+in_ok-push, else-seen-place}
 use Rattle.star_group.proofs.placed.listing.push_places.Goals as goal
@@ -69,5 +68,5 @@ returns-clause-rows c = λ once.
       c.requires.places,
     ) in
     list_end c.args.aggregates.now c.args.spans.now c.args.seen.now c.args.cells.now
-    (listed_entries c.args.rows.now) c.loop-place.place all (listed_entries c.loop-place.rows)
-    (c.loop-place.invariant.listed once)
+    (listed_entries c.args.rows.now) (omega (arith, c.requires.keys, c.args.rows.now.few))
+    c.loop-place.place all (listed_entries c.loop-place.rows) (c.loop-place.invariant.listed once)

@@ -1,6 +1,5 @@
-use Rattle.std.proofs.Common.{◌≡◌, ◌++◌, ◌∷◌, [], ◌∙◌, ap, arith, below_more, get_or, length, replicate, sym}
-use Rattle.star_group.proofs.Common.{get_or_append_left, get_or_default, length-replicate, get_or-append_seam, Count, Sum, cut, length-cut, neutral}
-use Rattle.star_group.proofs.CutRows.{cut_one, more_long}
+use Rattle.star_group.proofs.Common.{◌≡◌, ◌+◌, ◌++◌, refl, length-append, ◌∷◌, [], ◌∙◌, ap, arith, below_more, get_or, length, replicate, sym, get_or_append_left, get_or_default, length-replicate, get_or-append_seam, Count, Sum, cut, length-cut, neutral}
+use Rattle.star_group.proofs.CutRows.{cut_append, cut_one, rows_long}
 use Rattle.star_group.proofs.placed.making.blank_cells.Goals as goal
 
 pub loop-aggregate-preserved : goal.loop-aggregate-preserved
@@ -12,7 +11,10 @@ loop-aggregate-preserved c =
     let row = replicate places (neutral (get_or c.args.aggregates.now n Sum)) in
     let wide : length row ≡ places = length-replicate places _ in
     let is : new ≡ old ++ row = c.in_ok-add_blank_column.ensures in
-    let rows = cut_one places n old new row c.loop-aggregate.invariant.len wide is in
+    let rows : cut places (n + 1) new ≡ cut places n old ++ row ∷ [] =
+    ap (cut places (n + 1)) is
+    ∙ cut_append places 1 n (n + 1) old row refl c.loop-aggregate.invariant.len
+    ∙ ap (λ r. cut places n old ++ r) (cut_one places row wide) in
     record {
       cells = below_more _ _
           (λ a h. ap (λ rs. get_or rs a []) rows
@@ -23,5 +25,12 @@ loop-aggregate-preserved c =
           ∙ get_or-append_seam (cut places n old) row [] []
           ∙ ap (λ g. replicate places (neutral g))
           (get_or_default c.args.aggregates.now n Sum Count c.loop-aggregate-test.true));
-      len = more_long places n old new row c.loop-aggregate.invariant.len wide is;
+      len = omega (
+        arith,
+        ap length is,
+        length-append old row,
+        wide,
+        c.loop-aggregate.invariant.len,
+        rows_long places n 1 (n + 1) refl,
+      );
     }

@@ -1,5 +1,4 @@
-use Rattle.std.proofs.Common.{◌≡◌, ◌<◌, ◌*◌, ℕ, [], length, replicate}
-use Rattle.star_group.proofs.Common.{slice_index_or, Count, cut, neutral}
+use Rattle.star_group.proofs.Common.{◌≡◌, ◌<◌, ◌*◌, ℕ, [], length, replicate, slice_index_or, Count, cut, neutral}
 use Rattle.star_group.proofs.placed.making.blank_cells.Given as goal
 
 abbrev pub invariant-loop-aggregate : goal.invariant-loop-aggregate

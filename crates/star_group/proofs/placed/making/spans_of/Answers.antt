@@ -1,5 +1,4 @@
-use Rattle.std.proofs.Common.{◌+◌, ◌*◌, ◌^◌, ◌∷◌, [], ◌∙◌, ap, arith, length, length-append, sym}
-use Rattle.star_group.proofs.Common.{le-div, places}
+use Rattle.star_group.proofs.Common.{◌+◌, ◌*◌, ◌^◌, ◌∷◌, [], ◌∙◌, ap, arith, length, length-append, sym, le-div, places}
 use Rattle.star_group.proofs.SpanPlaces.{places_more, room_left}
 use Rattle.star_group.proofs.placed.making.spans_of.Goals as goal
 

@@ -1,5 +1,4 @@
-use Rattle.std.proofs.Common.{◌≡◌, ◌≤◌, ◌<◌, ◌*◌, ◌^◌, length}
-use Rattle.star_group.specs.Places.{places}
+use Rattle.star_group.proofs.Common.{◌≡◌, ◌≤◌, ◌<◌, ◌*◌, ◌^◌, length, places}
 use Rattle.star_group.proofs.placed.making.spans_of.Given as goal
 
 abbrev pub invariant-loop-index : goal.invariant-loop-index

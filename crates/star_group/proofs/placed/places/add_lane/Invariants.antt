@@ -1,5 +1,4 @@
-use Rattle.std.proofs.Common.{◌≡◌, ◌≤◌, ◌<◌, ◌+◌, ◌-ℤ◌, ℕ, Some, pos}
-use Rattle.star_group.proofs.Common.{slice_index_or, above, place_up_to}
+use Rattle.star_group.proofs.Common.{◌≡◌, ◌≤◌, ◌<◌, ◌+◌, ◌-ℤ◌, ℕ, Some, pos, slice_index_or, above, place_up_to}
 use Rattle.star_group.proofs.placed.places.add_lane.Given as goal
 
 abbrev pub invariant-loop-row : goal.invariant-loop-row

@@ -1,4 +1,4 @@
-use Rattle.std.proofs.Common.{◌≡◌, ℕ, ◌<◌, get_or}
+use Rattle.star_group.proofs.Common.{◌≡◌, ℕ, ◌<◌, get_or}
 use Rattle.star_group.proofs.placed.places.clear.Given as goal
 
 abbrev pub invariant-loop-place : goal.invariant-loop-place

@@ -1,8 +1,7 @@
-use Rattle.std.proofs.Common.{◌≡◌, ◌<◌, ◌-◌, Some, suc, ap, arith, drop, get_or, length, map, pos, subst, sym, ◌∙◌}
-use Rattle.star_group.proofs.Common.{length-map, IsKeyWord, put_in, word_in, IsOf}
+use Rattle.star_group.proofs.Common.{◌≡◌, ◌<◌, ◌-◌, Some, suc, ap, arith, drop, get_or, length, map, pos, subst, sym, ◌∙◌, length-map, IsKeyWord, put_in, word_in, IsOf}
+use Rattle.star_group.proofs.SpanPlaces.{batch_none, batch_place, few_places, few_values, length-keys_of, none_left, offset_other, offset_outside, word_there}
 use Rattle.star_program.specs.declared.group.GroupKey.TheVariants as declared
 use Rattle.star_group.specs.Places as spec
-use Rattle.star_group.proofs.SpanPlaces.{batch_none, batch_place, few_places, few_values, length-keys_of, none_left, offset_other, offset_outside, word_there}
 use Rattle.star_group.proofs.placed.places.find_places.Goals as goal
 
 pub loop-index-init : goal.loop-index-init

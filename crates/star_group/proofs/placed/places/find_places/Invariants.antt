@@ -1,5 +1,4 @@
-use Rattle.std.proofs.Common.{◌≡◌, ◌≤◌, ◌<◌, ℕ, Some, drop, length}
-use Rattle.star_group.proofs.Common.{slice_index_or, put_in}
+use Rattle.star_group.proofs.Common.{◌≡◌, ◌≤◌, ◌<◌, ℕ, Some, drop, length, slice_index_or, put_in}
 use Rattle.star_group.specs.Places as spec
 use Rattle.star_group.proofs.placed.places.find_places.Given as goal
 

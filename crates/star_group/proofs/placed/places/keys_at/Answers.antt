@@ -1,7 +1,6 @@
-use Rattle.std.proofs.Common.{◌≡◌, ◌<◌, ◌++◌, ◌∷◌, [], List, Some, add-one, ap, arith, drop, length, subst, suc, sym, take, ◌∙◌}
-use Rattle.star_group.proofs.Common.{take-suc-set, common_steps, KeyValue}
-use Rattle.star_group.specs.Places as spec
+use Rattle.star_group.proofs.Common.{◌≡◌, ◌<◌, ◌++◌, ◌∷◌, [], List, Some, add-one, ap, arith, drop, length, subst, suc, sym, take, ◌∙◌, take-suc-set, common_steps, KeyValue}
 use Rattle.star_group.proofs.SpanPlaces.{HasFirst, all_kept, behind_first, next_place}
+use Rattle.star_group.specs.Places as spec
 use Rattle.star_group.proofs.placed.places.keys_at.Goals as goal
 
 pub loop-index-preserved : goal.loop-index-preserved

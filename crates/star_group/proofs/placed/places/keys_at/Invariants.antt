@@ -1,5 +1,4 @@
-use Rattle.std.proofs.Common.{◌≡◌, List, Some, drop, length, take}
-use Rattle.star_program.specs.declared.key.KeyValue.{KeyValue}
+use Rattle.star_group.proofs.Common.{◌≡◌, List, Some, drop, length, take, KeyValue}
 use Rattle.star_group.specs.Places as spec
 use Rattle.star_group.proofs.placed.places.keys_at.Given as goal
 

@@ -1,7 +1,6 @@
-use Rattle.std.proofs.Common.{◌≡◌, ◌<◌, ◌+◌, ◌-◌, ◌^◌, MatchOption, suc, ap, arith, drop, get_or, length, pos, subst, sym, ◌∙◌}
-use Rattle.star_program.specs.declared.key.KeyValue.TheVariants.{Number}
-use Rattle.star_group.specs.Places as spec
+use Rattle.star_group.proofs.Common.{◌≡◌, ◌<◌, ◌+◌, ◌-◌, ◌^◌, MatchOption, suc, ap, arith, drop, get_or, length, pos, subst, sym, ◌∙◌, Number}
 use Rattle.star_group.proofs.SpanPlaces.{if_within, more, none_left, small}
+use Rattle.star_group.specs.Places as spec
 use Rattle.star_group.proofs.placed.places.place_of.Goals as goal
 
 pub above-place-requires : goal.above-place-requires

@@ -1,4 +1,4 @@
-use Rattle.std.proofs.Common.{◌≡◌, ◌≤◌, drop, length}
+use Rattle.star_group.proofs.Common.{◌≡◌, ◌≤◌, drop, length}
 use Rattle.star_group.specs.Places as spec
 use Rattle.star_group.proofs.placed.places.place_of.Given as goal
 

@@ -1,5 +1,4 @@
-use Rattle.std.proofs.Common.{◌≡◌, ◌≤◌, ◌∷◌, ◌∙◌, ap, arith, length, rules, subst, sym, take}
-use Rattle.star_group.proofs.Common.{puts_after, put_in, HasRoom}
+use Rattle.star_group.proofs.Common.{◌≡◌, ◌≤◌, ◌∷◌, ◌∙◌, ap, arith, length, rules, subst, sym, take, puts_after, put_in, HasRoom}
 use Rattle.star_group.proofs.PlacedPuts.{err_any}
 use Rattle.star_group.proofs.store.GroupStore.put_batch.Goals as goal
 

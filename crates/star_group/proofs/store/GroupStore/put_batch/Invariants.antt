@@ -1,5 +1,4 @@
-use Rattle.std.proofs.Common.{◌≡◌, List}
-use Rattle.star_group.proofs.Common.{puts_after, put_in, Update}
+use Rattle.star_group.proofs.Common.{◌≡◌, List, puts_after, put_in, Update}
 use Rattle.star_group.proofs.store.GroupStore.put_batch.Given as goal
 
 abbrev pub invariant-loop-row : goal.invariant-loop-row

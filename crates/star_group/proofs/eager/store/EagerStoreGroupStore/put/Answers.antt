@@ -1,6 +1,5 @@
-use Rattle.std.proofs.Common.{⊎_elim, sym, ◌∙◌, true≢false, rules}
+use Rattle.star_group.proofs.Common.{⊎_elim, sym, ◌∙◌, true≢false, rules, Update}
 use Rattle.star_group.specs.Eager.{group_view}
-use Rattle.star_program.specs.Puts.{Update}
 use Rattle.star_group.proofs.Rooms.{room_stays}
 use Rattle.star_group.proofs.eager.store.EagerStoreGroupStore.put.Goals as goal
 

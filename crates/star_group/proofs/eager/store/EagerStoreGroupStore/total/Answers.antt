@@ -1,5 +1,4 @@
-use Rattle.std.proofs.Common.{None, ap, ◌∙◌, get_or}
-use Rattle.star_group.proofs.Common.{get_or_default, Count, numbers_for, shown, aggregate_at}
+use Rattle.star_group.proofs.Common.{None, ap, ◌∙◌, get_or, get_or_default, Count, numbers_for, shown, aggregate_at}
 use Rattle.star_group.specs.Eager.{group_view}
 use Rattle.star_group.proofs.Totals.{shown_held}
 use Rattle.star_group.proofs.eager.store.EagerStoreGroupStore.total.Goals as goal

@@ -1,5 +1,4 @@
-use Rattle.std.proofs.Common.{refl}
-use Rattle.star_group.proofs.Common.{row_found, entries_of}
+use Rattle.star_group.proofs.Common.{refl, row_found, entries_of}
 use Rattle.star_group.proofs.Contents.{put_has, put_leaves, put_stays}
 use Rattle.star_group.proofs.eager.store.EagerStoreTryPut.try_put.Goals as goal
 

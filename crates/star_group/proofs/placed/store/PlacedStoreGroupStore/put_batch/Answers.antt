@@ -1,5 +1,4 @@
-use Rattle.std.proofs.Common.{◌≡◌, ◌<◌, ℕ, Some, get_or, subst}
-use Rattle.star_group.proofs.Common.{put_in, cell_place}
+use Rattle.star_group.proofs.Common.{◌≡◌, ◌<◌, ℕ, Some, get_or, subst, put_in, cell_place}
 use Rattle.star_group.proofs.placed.store.PlacedStoreGroupStore.put_batch.Goals as goal
 
 pub put_at-requires-clause-at : goal.put_at-requires-clause-at

@@ -1,0 +1,11 @@
+use Rattle.star_group.proofs.Common.{◌≡◌, entries_of, listed_entries}
+use Rattle.star_group.proofs.Rolling.{IsMergedSoFar}
+use Rattle.star_group.proofs.deferred.coarser.coarser_rows.Given as goal
+
+abbrev pub invariant-loop-index : goal.invariant-loop-index
+invariant-loop-index l = record {
+  merged : IsMergedSoFar l.shape l.key_count l.aggregates l.place (listed_entries l.rows) l.index
+      (entries_of l.made);
+  width : l.made.listed.width ≡ l.rows.width;
+  many : l.made.listed.aggregate_count ≡ l.rows.aggregate_count;
+}

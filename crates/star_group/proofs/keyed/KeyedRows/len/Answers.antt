@@ -1,6 +1,0 @@
-use Rattle.std.proofs.Common.{sym}
-use Rattle.star_group.proofs.KeyedRows.{row_count}
-use Rattle.star_group.proofs.keyed.KeyedRows.len.Goals as goal
-
-pub returns : goal.returns
-returns c = sym (row_count c.args.self.now)
