@@ -67,7 +67,7 @@ folders : Gives names_folders (
 folders = refl
 
 helps : Gives may_ask_help (
-    (codes "help" ∷ [], true) ∷ (codes "tables" ∷ [], true) ∷ (codes "--version" ∷ [], true)
+    (codes "help" ∷ [], true) ∷ (codes "tables" ∷ [], true) ∷ (codes "faults" ∷ [], true) ∷ (codes "--version" ∷ [], true)
     ∷ (codes "check" ∷ codes "-h" ∷ [], true) ∷ (codes "check" ∷ [], false)
     ∷ (codes "check" ∷ codes "--" ∷ codes "-h" ∷ [], false) ∷ ([], false) ∷ [])
 helps = refl

@@ -153,10 +153,14 @@ pub record IsRequest (words : List Word) (request : Request) : Type 0 where
   pub named : names_folders (request_asked request) ≡ true
   pub rows : HasMostRows request
 
+-- help, or a topic of help
+abbrev pub is_topic : Word → Bool
+is_topic command = bytes_eq command (codes "help")
+    || (bytes_eq command (codes "tables") || bytes_eq command (codes "faults"))
+
 -- help or the version may be asked for: by a command, or by an option
 abbrev pub may_ask_by : (command : Word) → (options : List Word) → Bool
-may_ask_by command options = bytes_eq command (codes "help") || (bytes_eq command (codes "tables")
-    || (is_option command || nat_lt 0 (length options)))
+may_ask_by command options = is_topic command || (is_option command || nat_lt 0 (length options))
 
 abbrev pub may_ask_help : List Word → Bool
 may_ask_help [] = false

@@ -5,7 +5,7 @@ ghost use Rattle.star_words.specs.Private.Parting.{IsParsersFault, IsRefusal};
 
 use crate::fault::WordsFault;
 use crate::help::{
-    BENCH, CHECK, EITHER_FILE, EXEC, EXPLAIN, Help, PROGRAM_FILE, QUERY, QUERY_FILE, QUOTE,
+    BENCH, CHECK, EITHER_FILE, EXEC, EXPLAIN, FAULTS, Help, PROGRAM_FILE, QUERY, QUERY_FILE, QUOTE,
     REPORTS, SESSION, STAR, TABLES, TRIAL,
 };
 use crate::parser::{Asked, asking, asking_all, wordless};
@@ -14,7 +14,7 @@ use std::alloc::{AllocError, Global};
 use std::convert::AsStr;
 
 // The commands, in the order in which help lists them.
-const COMMANDS: [(Help, Asked); 10] = [
+const COMMANDS: [(Help, Asked); 11] = [
     (CHECK, Asked::Folder),
     (BENCH, Asked::Folder),
     (QUERY, Asked::FolderAndFile(QUERY_FILE)),
@@ -25,6 +25,7 @@ const COMMANDS: [(Help, Asked); 10] = [
     (SESSION, Asked::Folder),
     (REPORTS, Asked::FoldersAndFiles),
     (TABLES, Asked::Nothing),
+    (FAULTS, Asked::Nothing),
 ];
 
 // Apart from the chain of calls, in which its clause, over all fields of a command, is dear to prove.
@@ -60,9 +61,12 @@ fn check(alloc: Global, words: &[String]) -> Result<(), WordsFault>
     ensures { IfErr result IsParsersFault }
 {
     if let [command, rest @ ..] = words {
-        // What help says of the tables is all that there is to say of them.
+        // A topic of help has no more to say than help does.
         if command.as_str() == "tables" && rest.is_empty() {
             return parse(star_command(alloc)?, &["help", "tables"]);
+        }
+        if command.as_str() == "faults" && rest.is_empty() {
+            return parse(star_command(alloc)?, &["help", "faults"]);
         }
         if let Some(parser) = command_named(alloc, command.as_str())? {
             return parse(parser, rest);

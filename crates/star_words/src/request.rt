@@ -247,11 +247,18 @@ fn names_folders(request: &Request<'_>) -> bool
     }
 }
 
+// Tests whether a command is help or a topic of help.
+fn is_topic(command: &str) -> bool
+    ensures { result ≡ spec.is_topic command.now }
+{
+    command == "help" || command == "tables" || command == "faults"
+}
+
 // Whether help or the version may be asked for.
 fn may_ask_help(command: &str, arguments: &Arguments<'_>) -> bool
     ensures { result ≡ spec.may_ask_by command.now (texts arguments.now.options.items) }
 {
-    command == "help" || command == "tables" || is_option(command) || !arguments.options.is_empty()
+    is_topic(command) || is_option(command) || !arguments.options.is_empty()
 }
 
 /// Returns the request in the arguments of a command line, `words`, without the program's own name.
