@@ -50,7 +50,7 @@ module _ {X : Type 0} where
   )
 
 module _ {X Y : Type 0} where
-  filter_mapped : (p : Y → Bool) (f : X → Y) (xs : List X)
+  pub filter_mapped : (p : Y → Bool) (f : X → Y) (xs : List X)
       → filter p (map f xs) ≡ map f (filter (λ x. p (f x)) xs)
   filter_mapped p f [] = refl
   filter_mapped p f (x ∷ xs) = by (p (f x)) (filter_mapped p f xs)
@@ -106,7 +106,7 @@ module _ {K : Type 0} (cmp : K → K → Ordering)
   key_is None (Some b) h = absurd (true≢false (sym h))
   key_is (Some a) None h = absurd (true≢false (sym h))
 
-  keys_are : (a b : List (Option K)) → are_same cmp a b ≡ true → a ≡ b
+  pub keys_are : (a b : List (Option K)) → are_same cmp a b ≡ true → a ≡ b
   keys_are [] [] h = refl
   keys_are [] (y ∷ ys) h = absurd (true≢false (sym h))
   keys_are (x ∷ xs) [] h = absurd (true≢false (sym h))
@@ -230,7 +230,7 @@ module _ {K : Type 0} (cmp : K → K → Ordering)
         by false e = e
 
     -- what is added is a group
-    added_group : (count : ℕ) (groups : List (GroupRow K)) (more : GroupRow K)
+    pub added_group : (count : ℕ) (groups : List (GroupRow K)) (more : GroupRow K)
         → Contains (all_added s groups) more → IsGroup s count (map as_row groups) more.keys
     added_group count groups more c =
         let piece = in_piece (added s) groups more c in
@@ -248,7 +248,7 @@ module _ {K : Type 0} (cmp : K → K → Ordering)
         )
 
     -- and what is a group is added
-    group_added : (groups : List (GroupRow K)) (keys : List (Option K)) (row : Entry K)
+    pub group_added : (groups : List (GroupRow K)) (keys : List (Option K)) (row : Entry K)
         → IsTrue (is_grouping s keys) → Contains (map as_row groups) row → IsMasked keys row.keys
         → (more : GroupRow K) × Contains (all_added s groups) more × (more.keys ≡ keys)
     group_added groups keys row is c masked =

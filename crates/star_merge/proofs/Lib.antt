@@ -1,0 +1,9 @@
+pub mod Adding
+pub mod Alike
+pub mod Rising
+pub mod Addends
+pub mod RowOrders
+pub mod Nulls
+pub mod Steps
+pub mod PlainReports
+pub mod Hulls

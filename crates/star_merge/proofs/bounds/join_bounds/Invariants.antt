@@ -1,0 +1,10 @@
+use Rattle.std.proofs.Common.{◌≡◌, ◌<◌, ℕ, get_or, length}
+use Rattle.star_interval.specs.Interval.{range_of}
+use Rattle.star_interval.specs.declared.Interval.{Interval}
+use Rattle.star_merge_laws.specs.Facts.{hull_of_rows}
+use Rattle.star_merge.proofs.bounds.join_bounds.Given as goal
+
+abbrev pub invariant-loop-place : goal.invariant-loop-place
+invariant-loop-place l = (length l.joined ≡ 58) × ((k : ℕ) (any : Interval) → k < l.place
+    → range_of (get_or l.joined k any)
+    ≡ hull_of_rows l.rows l.more_rows (range_of (get_or l.bounds k any)) (range_of (get_or l.more k any)))

@@ -1,0 +1,18 @@
+use Rattle.std.proofs.Common.{◌≡◌, ◌∙◌, ap, map, subst}
+use Rattle.star_schema.specs.Order.{value_cmp}
+use Rattle.star_program.specs.RowCells.{cell_of}
+use Rattle.star_merge.specs.Private.Adding.{AreSums}
+use Rattle.star_merge.proofs.Steps.{merged_rows}
+use Rattle.star_merge.proofs.merging.Merging.into_rows.Goals as goal
+
+pub returns : goal.returns
+returns c = λ s count gs told h shaped.
+    let groups = c.args.self.groups.items in
+    let sums = c.in_ok-sums.sums.items in
+    let same : c.deref.result.now ≡ gs = c.deref.ensures.value ∙ h.aggregates in
+    merged_rows s count gs c.args.sorts.now c.args.items.now told groups sums
+    c.sort_groups.new.groups.items c.in_ok-cell_rows.field-0 shaped h.alike
+    (subst (λ xs. AreSums value_cmp xs groups sums) same c.in_ok-sums.ensures)
+    c.sort_groups.ensures.moved c.sort_groups.ensures.sorted
+    (c.in_ok-cell_rows.ensures
+    ∙ ap (map (λ group. map (cell_of group) c.args.items.now)) c.deref-2.ensures.value)

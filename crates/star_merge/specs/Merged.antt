@@ -1,0 +1,55 @@
+-- The rows of merged groups.
+use Rattle.std.specs.Prelude.{◌≡◌, ◌⊎◌, ℕ, All, List, [], length, map, replicate, true}
+use Rattle.std.specs.Option.{is_some}
+use Rattle.star_schema.specs.declared.group.Aggregate.{Aggregate}
+use Rattle.star_schema.specs.declared.group.GroupColumn.{GroupColumn}
+use Rattle.star_schema.specs.declared.group.Shape.{Shape}
+use Rattle.star_schema.specs.declared.group.SortKey.{SortKey}
+use Rattle.star_schema.specs.Groups.{GroupRow}
+use Rattle.star_schema.specs.Order.{AreInOrder, value_cmp}
+use Rattle.star_schema.specs.Tables.{Value}
+use Rattle.star_program.specs.declared.outcome.Cell.{Cell}
+use Rattle.star_program.specs.RowCells.{cell_of}
+use Rattle.star_query_meaning.specs.Answers.{IsPlanAnswer}
+use Rattle.star_plan.specs.Meaning.{Plan, Row}
+use Rattle.star_schema.specs.Database.{Database}
+use Rattle.star_merge_laws.specs.Merging.{AreMerged}
+use Rattle.star_merge_laws.specs.Plain.{plain_plan}
+use Rattle.star_merge_laws.specs.Tables.{tables_with}
+use Rattle.star_merge.specs.Cells.{group_of}
+use Rattle.std.specs.List.{flat_map}
+
+-- the group of a row or more: no key is ALL, and no aggregate is NULL
+pub record IsFull (count : ℕ) (aggregates : List Aggregate) (group : GroupRow Value) : Type 0 where
+  pub keys : map is_some group.keys ≡ replicate count true
+  pub totals : map is_some group.totals ≡ map (λ g. true) aggregates
+
+-- groups of rows, or by no key
+abbrev pub AreOfShape : ℕ → List Aggregate → List (GroupRow Value) → Type 0
+AreOfShape count gs groups =
+    (count ≡ 0) × All (λ (group : GroupRow Value). group.keys ≡ []) groups
+    ⊎ All (IsFull count gs) groups
+
+-- the merged groups of some plain groups, in order, each cut to some columns
+pub record IsMergedRows (s : Shape) (count : ℕ) (aggregates : List Aggregate) (sorts : List SortKey)
+    (items : List GroupColumn) (parts : List (GroupRow Value)) (rows : List (List Cell))
+    : Type 0 where
+  pub groups : List (GroupRow Value)
+  pub merged : AreMerged value_cmp s count aggregates parts groups
+  pub in_order : AreInOrder value_cmp sorts groups
+  pub cells : rows ≡ map (λ group. map (cell_of group) items) groups
+
+-- rows of lineorder, and the printed rows of a query's plain plan over them
+pub record PlainReport : Type 0 where
+  pub lineorder : List Row
+  pub names : List (List ℕ)
+  pub rows : List (List Cell)
+
+abbrev pub ArePlainReports : Database → Plan → List PlainReport → Type 0
+ArePlainReports database p reports =
+    All (λ report. IsPlanAnswer (tables_with database report.lineorder) (plain_plan p) report.names
+    report.rows) reports
+
+-- the groups that some plain reports show
+abbrev pub groups_shown : Plan → List PlainReport → List (GroupRow Value)
+groups_shown p reports = flat_map (λ report. map (group_of (length p.keys)) report.rows) reports

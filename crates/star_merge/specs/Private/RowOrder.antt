@@ -1,0 +1,36 @@
+-- The order by which merged groups are sorted. It orders all rows, with NULL before the numbers; if
+-- rows have the same NULLs, it is the order of a report.
+use Rattle.std.specs.Prelude.{List, [], ◌∷◌, Bool, None, map, slice_index_or}
+use Rattle.std.specs.Cmp.Lexicographic.{slice_cmp}
+use Rattle.std.specs.Option.{is_some, option_cmp}
+use Rattle.std.specs.Ordering.{int_cmp, ordering_then}
+use Rattle.std.specs.declared.cmp.Ordering.{Ordering}
+use Rattle.star_schema.specs.declared.group.GroupColumn.{GroupColumn}
+use Rattle.star_schema.specs.declared.group.GroupColumn.TheVariants as column
+use Rattle.star_schema.specs.declared.group.Direction.{Direction}
+use Rattle.star_schema.specs.declared.group.Direction.TheVariants.{Ascending, Descending}
+use Rattle.star_schema.specs.declared.group.SortKey.{SortKey}
+use Rattle.star_schema.specs.Groups.{GroupRow}
+use Rattle.star_schema.specs.Order.{key_cmp, value_cmp}
+use Rattle.star_schema.specs.Tables.{Value}
+
+abbrev pub column_order : GroupColumn → GroupRow Value → GroupRow Value → Ordering
+column_order (column.Key place) a b =
+    key_cmp value_cmp (slice_index_or a.keys place None) (slice_index_or b.keys place None)
+column_order (column.Aggregate place) a b =
+    option_cmp int_cmp (slice_index_or a.totals place None) (slice_index_or b.totals place None)
+
+abbrev pub directed_order : GroupColumn → Direction → GroupRow Value → GroupRow Value → Ordering
+directed_order c Ascending a b = column_order c a b
+directed_order c Descending a b = column_order c b a
+
+abbrev pub sort_order : SortKey → GroupRow Value → GroupRow Value → Ordering
+sort_order sort a b = directed_order sort.column sort.direction a b
+
+abbrev pub row_order : List SortKey → GroupRow Value → GroupRow Value → Ordering
+row_order [] a b = slice_cmp (key_cmp value_cmp) a.keys b.keys
+row_order (sort ∷ sorts) a b = ordering_then (sort_order sort a b) (row_order sorts a b)
+
+-- which of a row's totals are not NULL
+abbrev pub numbers_in : GroupRow Value → List Bool
+numbers_in row = map is_some row.totals
