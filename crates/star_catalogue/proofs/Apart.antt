@@ -1,13 +1,7 @@
 -- Lists whose elements all differ.
 use Rattle.std.proofs.Common.{◌≡◌, ◌≢◌, ℤ, suc, List, [], ◌∷◌, AllPairs, map, ap, arith, get_or}
-use Rattle.std.specs.Bool.{Decides}
-use Rattle.std.specs.List.{IsDistinct}
-use Rattle.std.specs.Ordering.{int_eq}
-use Rattle.std.proofs.lemmas.Bool.{and_from, and_parts}
-use Rattle.std.proofs.lemmas.Bool.Decides.{Decides-int_eq}
-use Rattle.std.proofs.lemmas.List.Elements.{All-map}
-use Rattle.std.proofs.lemmas.List.Kept.{AllPairs-cons}
-use Rattle.std.proofs.lemmas.Map.Made.{AllPairs-from_IsDistinct}
+use Rattle.std.proofs.{lemmas.Bool.and_from, lemmas.Bool.and_parts, lemmas.Bool.Decides.Decides-int_eq, lemmas.List.Elements.All-map, lemmas.List.Kept.AllPairs-cons, lemmas.Map.Made.AllPairs-from_IsDistinct}
+use Rattle.std.specs.{Bool.Decides, List.IsDistinct, Ordering.int_eq}
 use Rattle.star_catalogue.specs.Private.Keys.{same_pair}
 
 -- a function that keeps elements apart

@@ -1,13 +1,7 @@
 -- Rows of the numbers from the least key on.
 use Rattle.std.proofs.Common.{◌≡◌, ◌≢◌, ℕ, zero, suc, ◌<◌, ℤ, ◌-ℤ◌, ◌≤ℤ◌, false, cond, List, Some, None, length, nat_eq, replicate, set, refl, sym, ap, ◌∙◌, inl, inr, arith, length-set}
-use Rattle.std.specs.Int.RustNames.{int_lt, unsigned_abs}
-use Rattle.std.specs.List.{slice_get}
-use Rattle.std.specs.Ordering.{int_eq}
-use Rattle.std.proofs.lemmas.Bool.{cases_Bool, cases_lt}
-use Rattle.std.proofs.lemmas.Bool.Decides.{Decides-int_eq, nat_tests}
-use Rattle.std.proofs.lemmas.Int.{ints}
-use Rattle.std.proofs.lemmas.List.{get_or-set_other, get_or-set_same}
-use Rattle.std.proofs.lemmas.Option.{slice_get-get_or, slice_get_past}
+use Rattle.std.proofs.{lemmas.Bool.cases_Bool, lemmas.Bool.cases_lt, lemmas.Bool.Decides.Decides-int_eq, lemmas.Bool.Decides.nat_tests, lemmas.Int.ints, lemmas.List.get_or-set_other, lemmas.List.get_or-set_same, lemmas.Option.slice_get-get_or, lemmas.Option.slice_get_past}
+use Rattle.std.specs.{Int.RustNames.int_lt, Int.RustNames.unsigned_abs, List.slice_get, Ordering.int_eq}
 use Rattle.star_catalogue.specs.Private.Places.{dense_at, row_of_slot}
 
 -- no number below the least key is one

@@ -1,13 +1,8 @@
 -- The row with a key of one number.
 use Rattle.std.proofs.Common.{◌≡◌, ◌∷◌, ◌∙◌, ℕ, ℤ, List, [], All, Option, Some, None, get_or, length, map, sym, ap, arith}
-use Rattle.std.specs.Prelude.{◌↔◌}
-use Rattle.std.specs.List.{slice_get}
-use Rattle.std.specs.Option.{option_map}
-use Rattle.std.specs.Ordering.{int_eq}
-use Rattle.std.proofs.lemmas.Bool.Decides.{Decides-int_eq}
-use Rattle.std.proofs.lemmas.Cmp.{int_eq_equiv}
+use Rattle.std.proofs.{lemmas.Bool.Decides.Decides-int_eq, lemmas.Cmp.int_eq_equiv, lemmas.Option.get_or_from_slice_get, lemmas.Option.slice_get-map, lemmas.Option.slice_get_within}
+use Rattle.std.specs.{Prelude.◌↔◌, List.slice_get, Option.option_map, Ordering.int_eq}
 use Rattle.star_catalogue.specs.Private.Places.{ArePlaces}
-use Rattle.std.proofs.lemmas.Option.{get_or_from_slice_get, slice_get-map, slice_get_within}
 
 one_numbers : (o : Option ℤ) (n : ℤ) → option_map (λ (m : ℤ). m ∷ []) o ≡ Some (n ∷ []) → o ≡ Some n
 one_numbers None n e = cc

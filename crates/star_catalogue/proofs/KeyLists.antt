@@ -1,22 +1,11 @@
 -- The keys of a table as numbers and as pairs of numbers.
 use Rattle.std.proofs.Common.{◌≡◌, ◌≢◌, ◌&&◌, ◌∷◌, ◌∙◌, ℕ, ℤ, List, [], All, AllPairs, Bool, true, false, Option, Some, None, length, map, refl, ap}
-use Rattle.std.specs.Cmp.Rules.{signed_items}
-use Rattle.std.specs.List.{zip}
-use Rattle.std.specs.Option.{option_map}
-use Rattle.std.specs.Ordering.{int_eq}
-use Rattle.std.proofs.lemmas.List.Elements.{All-map}
-use Rattle.star_schema.specs.declared.column.ColumnId.{ColumnId}
-use Rattle.star_schema.specs.declared.table.Key.TheVariants.{One, Two}
-use Rattle.star_schema.specs.declared.table.TableId.{TableId}
-use Rattle.star_schema.specs.Bounds.{numbers_at}
-use Rattle.star_schema.specs.Loadable.{HasDistinctKeys, key_numbers, keys_of}
-use Rattle.star_schema.specs.Schema.{key_of, place_of}
-use Rattle.star_schema.specs.Tables.{Value}
-use Rattle.star_catalogue.specs.declared.fault.LoadFault.TheVariants.{DuplicateKey}
-use Rattle.star_catalogue.specs.Load.{first_repeat, repeated_key_fault, same_key}
-use Rattle.star_catalogue.specs.Private.Keys.{same_pair}
-use Rattle.star_catalogue.proofs.Apart.{apart-map}
-use Rattle.star_catalogue.proofs.Repeats.{apart_no_repeat, first_repeat-map, no_repeat_apart}
+use Rattle.std.proofs.{lemmas.List.Elements.All-map}
+use Rattle.std.specs.{Cmp.Rules.signed_items, List.zip, Option.option_map, Ordering.int_eq}
+use Rattle.star_schema.specs.{declared.column.ColumnId.ColumnId, declared.table.Key.TheVariants.One, declared.table.Key.TheVariants.Two, declared.table.TableId.TableId, Bounds.numbers_at, Loadable.HasDistinctKeys, Loadable.key_numbers, Loadable.keys_of, Schema.key_of, Schema.place_of}
+use Rattle.star_schema.specs.{Tables.Value}
+use Rattle.star_catalogue.specs.{declared.fault.LoadFault.TheVariants.DuplicateKey, Load.first_repeat, Load.repeated_key_fault, Load.same_key, Private.Keys.same_pair}
+use Rattle.star_catalogue.proofs.{Apart.apart-map, Repeats.apart_no_repeat, Repeats.first_repeat-map, Repeats.no_repeat_apart}
 
 -- keys of one number, and of two
 abbrev pub one : ℤ → List ℤ

@@ -1,14 +1,10 @@
 -- The columns of a table at their places.
 use Rattle.std.proofs.Common.{◌≡◌, ◌∙◌, ℕ, map, get_or, sym, ap}
-use Rattle.std.proofs.Math.ListN.{get_or-map}
-use Rattle.star_schema.specs.declared.column.ColumnId.{ColumnId}
-use Rattle.star_schema.specs.Schema.{kind_of, place_of, table_of}
+use Rattle.std.proofs.{Math.ListN.get_or-map}
+use Rattle.star_schema.specs.{declared.column.ColumnId.ColumnId, Schema.kind_of, Schema.place_of, Schema.table_of}
 use Rattle.star_schema.proofs.KeyColumns.{kind_at_place}
 use Rattle.star_reader.proofs.ColumnLemmas.{IsColumnAt, column_at as column_read_at}
-use Rattle.star_catalogue.specs.declared.columns.Column.{Column}
-use Rattle.star_catalogue.specs.declared.table.LoadedTable.TheInside.{Inside}
-use Rattle.star_catalogue.specs.Private.Columns.{as_read}
-use Rattle.star_catalogue.specs.Private.Kept.{IsKept}
+use Rattle.star_catalogue.specs.{declared.columns.Column.Column, declared.table.LoadedTable.TheInside.Inside, Private.Columns.as_read, Private.Kept.IsKept}
 
 -- what is kept of a column
 abbrev pub IsKeptAs : Inside → ColumnId → Column → Type 0

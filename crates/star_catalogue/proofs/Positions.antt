@@ -1,12 +1,7 @@
 -- Keys that all differ stand at their positions.
 use Rattle.std.proofs.Common.{◌≡◌, ◌≢◌, ◌<◌, ◌∙◌, ℕ, ℤ, List, AllPairs, true, Option, Some, None, get_or, length, refl, sym, inl, inr, arith, nat_lt, position}
-use Rattle.std.specs.List.{position_or_len}
-use Rattle.std.specs.Ordering.{int_eq}
-use Rattle.std.proofs.lemmas.Bool.{cases_Bool}
-use Rattle.std.proofs.lemmas.Bool.Decides.{Decides-int_eq, nat_tests}
-use Rattle.std.proofs.lemmas.List.Quantifiers.{position-Some}
-use Rattle.std.proofs.lemmas.List.Sums.{position_or_len_is}
-use Rattle.std.proofs.lemmas.Option.{get_or_from_slice_get, slice_get-get_or, slice_get_within}
+use Rattle.std.proofs.{lemmas.Bool.cases_Bool, lemmas.Bool.Decides.Decides-int_eq, lemmas.Bool.Decides.nat_tests, lemmas.List.Quantifiers.position-Some, lemmas.List.Sums.position_or_len_is, lemmas.Option.get_or_from_slice_get, lemmas.Option.slice_get-get_or, lemmas.Option.slice_get_within}
+use Rattle.std.specs.{List.position_or_len, Ordering.int_eq}
 use Rattle.star_catalogue.specs.Private.Places.{ArePlaces, StandsAt}
 
 stands_at_position : (keys : List ℤ) (key : ℤ) (place : ℕ) → position (int_eq key) keys ≡ Some place

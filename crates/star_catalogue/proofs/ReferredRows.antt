@@ -1,19 +1,11 @@
 -- The rows that foreign keys refer to.
 use Rattle.std.proofs.Common.{◌≡◌, ◌+◌, ◌<◌, ◌≤◌, ◌∷◌, ◌++◌, ◌∙◌, ℕ, ℤ, List, [], All, Contains, IsSome, MatchOption, Option, Some, None, ap, arith, get_or, inl, inr, length, refl, sym, take}
-use Rattle.std.specs.List.{slice_get}
-use Rattle.std.specs.Option.{option_map}
-use Rattle.std.proofs.lemmas.List.{length-append, length-map, map-append, take_all}
-use Rattle.std.proofs.lemmas.Option.{get_or_from_slice_get, slice_get-get_or, slice_get-map, slice_get_within}
-use Rattle.star_schema.specs.declared.column.ColumnId.{ColumnId}
-use Rattle.star_schema.specs.declared.column.TheConstants.{COLUMNS}
-use Rattle.star_schema.specs.declared.table.TableId.{TableId}
-use Rattle.star_schema.specs.Bounds.{numbers_of}
-use Rattle.star_schema.specs.Database.{Database, rows_in}
-use Rattle.star_schema.specs.Loadable.{RefersTo, keys_of}
-use Rattle.star_schema.specs.Schema.{index_of, place_of, references, table_of}
-use Rattle.star_catalogue.specs.declared.referred.Referred.{Referred}
-use Rattle.star_catalogue.specs.ReferredRows.{AreReferredRows}
+use Rattle.std.proofs.{lemmas.List.length-append, lemmas.List.length-map, lemmas.List.map-append, lemmas.List.take_all, lemmas.Option.get_or_from_slice_get, lemmas.Option.slice_get-get_or, lemmas.Option.slice_get-map, lemmas.Option.slice_get_within}
+use Rattle.std.specs.{List.slice_get, Option.option_map}
+use Rattle.star_schema.specs.{declared.column.ColumnId.ColumnId, declared.column.TheConstants.COLUMNS, declared.table.TableId.TableId, Bounds.numbers_of, Database.Database, Database.rows_in, Loadable.RefersTo, Loadable.keys_of, Schema.index_of, Schema.place_of, Schema.references}
+use Rattle.star_schema.specs.{Schema.table_of}
 use Rattle.star_catalogue.specs.Private.Referred.{AreFound, AreOfFirst, AreReferred, AreRowsReferredTo, rows_view}
+use Rattle.star_catalogue.specs.{declared.referred.Referred.Referred, ReferredRows.AreReferredRows}
 use Rattle.star_schema.proofs.Same.{at_index}
 use Rattle.star_flat.proofs.Pushed.{pushed_cases}
 use Rattle.star_reader.proofs.RowPlaces.{length-numbers_at}

@@ -1,35 +1,16 @@
 -- The foreign keys of lineorder: found, or the first that is absent.
 use Rattle.std.proofs.Common.{◌≡◌, ◌+◌, ◌<◌, ◌∷◌, ◌∙◌, ℕ, ℤ, List, [], All, true, false, Contains, Option, Some, None, drop, get_or, length, map, refl, sym, ap, inl, inr, arith}
-use Rattle.std.specs.Cmp.{IsEquivalence}
-use Rattle.std.specs.Cmp.Lexicographic.{lists_equiv}
-use Rattle.std.specs.Cmp.Rules.{signed_items}
-use Rattle.std.specs.List.{enumerate_from, list_any, slice_get}
-use Rattle.std.specs.Option.{option_map}
-use Rattle.std.proofs.Math.ListN.{get_or-map}
-use Rattle.std.proofs.Math.Seq.{drop-length}
-use Rattle.std.proofs.lemmas.Bool.{cases_Bool}
-use Rattle.std.proofs.lemmas.List.{length-map}
-use Rattle.std.proofs.lemmas.Cmp.{int_eq_equiv}
-use Rattle.std.proofs.lemmas.List.Elements.{All-map}
-use Rattle.std.proofs.lemmas.List.FromFn.{get_or-enumerate_from, length-enumerate_from}
-use Rattle.std.proofs.lemmas.Map.Keys.{any_passes_from_place}
-use Rattle.std.proofs.lemmas.Map.Views.{Contains-from_any, list_any-from_Contains}
-use Rattle.std.proofs.lemmas.Option.{slice_get-get_or, slice_get-map}
-use Rattle.star_schema.specs.declared.column.ColumnId.{ColumnId}
-use Rattle.star_schema.specs.declared.column.ColumnId.TheVariants.{DDatekey}
-use Rattle.star_schema.specs.declared.table.TableId.{TableId}
-use Rattle.star_schema.specs.declared.table.TableId.TheVariants.{Lineorder}
-use Rattle.star_schema.specs.Bounds.{numbers_at, numbers_of}
-use Rattle.star_schema.specs.Database.{Database, rows_in}
-use Rattle.star_common.specs.First.{first_answer}
+use Rattle.std.proofs.{Math.ListN.get_or-map, Math.Seq.drop-length, lemmas.Bool.cases_Bool, lemmas.List.length-map, lemmas.Cmp.int_eq_equiv, lemmas.List.Elements.All-map, lemmas.List.FromFn.get_or-enumerate_from, lemmas.List.FromFn.length-enumerate_from}
+use Rattle.std.proofs.{lemmas.Map.Keys.any_passes_from_place, lemmas.Map.Views.Contains-from_any, lemmas.Map.Views.list_any-from_Contains, lemmas.Option.slice_get-get_or, lemmas.Option.slice_get-map}
+use Rattle.std.specs.{Cmp.IsEquivalence, Cmp.Lexicographic.lists_equiv, Cmp.Rules.signed_items, List.enumerate_from, List.list_any, List.slice_get, Option.option_map}
 use Rattle.star_schema.specs.Loadable.{IsSound, RefersTo, foreign_keys, keys_of, number_at}
-use Rattle.star_schema.specs.Schema.{references}
-use Rattle.star_schema.specs.Tables.{Value}
+use Rattle.star_schema.specs.{declared.column.ColumnId.ColumnId, declared.column.ColumnId.TheVariants.DDatekey, declared.table.TableId.TableId, declared.table.TableId.TheVariants.Lineorder, Bounds.numbers_at, Bounds.numbers_of, Database.Database, Database.rows_in, Schema.references}
+use Rattle.star_schema.specs.{Tables.Value}
+use Rattle.star_common.specs.First.{first_answer}
 use Rattle.star_common.proofs.Firsts.{all_without_answer, enumerated_at, first_answer_here, first_answer_none, first_answer_on}
 use Rattle.star_schema.proofs.KeyColumns.{foreign_key}
-use Rattle.star_catalogue.specs.declared.fault.LoadFault.{LoadFault}
-use Rattle.star_catalogue.specs.declared.fault.LoadFault.TheVariants.{AbsentKey}
 use Rattle.star_catalogue.specs.Load.{absent_fault, foreign_key_fault, is_found, row_fault, same_key}
+use Rattle.star_catalogue.specs.{declared.fault.LoadFault.LoadFault, declared.fault.LoadFault.TheVariants.AbsentKey}
 
 -- the number of a row in a column
 pub number_of_row : (c : ColumnId) (rows : List (List Value)) (row : ℕ) (n : ℤ) → row < length rows

@@ -1,19 +1,13 @@
 -- The first key of a list that an earlier one equals.
 use Rattle.std.proofs.Common.{◌≡◌, ◌≢◌, ◌↔◌, ◌+◌, ◌<◌, ◌≤◌, ◌++◌, ℕ, List, [], ◌∷◌, AllPairs, Bool, true, false, cond, Option, Some, None, drop, get_or, length, map, take, refl, sym, ap, ◌∙◌, inl, inr, arith, length-take, true≢false}
-use Rattle.std.specs.Bool.{Decides}
-use Rattle.std.specs.Cmp.{IsEquivalence}
-use Rattle.std.specs.List.{enumerate_from, list_any, slice_get, IsDistinct}
-use Rattle.std.proofs.lemmas.Bool.{cases_Bool}
 use Rattle.std.proofs.lemmas.List.{get_or_default, get_or-take, length-take-le, take_all, take_more, take-map}
-use Rattle.std.proofs.lemmas.List.Folds.{list_any_at, list_any_none}
-use Rattle.std.proofs.lemmas.List.FromFn.{get_or-enumerate_from, length-enumerate_from}
-use Rattle.std.proofs.lemmas.Map.Keys.{any_passes_from_place, IsDistinct-push}
-use Rattle.std.proofs.lemmas.Option.{get_or_from_slice_get, slice_get-get_or, slice_get_within}
+use Rattle.std.proofs.{lemmas.Bool.cases_Bool, lemmas.List.Folds.list_any_at, lemmas.List.Folds.list_any_none, lemmas.List.FromFn.get_or-enumerate_from, lemmas.List.FromFn.length-enumerate_from, lemmas.Map.Keys.any_passes_from_place, lemmas.Map.Keys.IsDistinct-push}
+use Rattle.std.proofs.{lemmas.Option.get_or_from_slice_get, lemmas.Option.slice_get-get_or, lemmas.Option.slice_get_within}
+use Rattle.std.specs.{Bool.Decides, Cmp.IsEquivalence, List.enumerate_from, List.list_any, List.slice_get, List.IsDistinct}
 use Rattle.star_common.specs.First.{first_answer}
 use Rattle.star_common.proofs.Firsts.{all_without_answer, enumerated_at, first_answer_here, first_answer_none, first_answer_on}
 use Rattle.star_flat.proofs.Pushed.{pushed_before, pushed_cases, pushed_here}
-use Rattle.star_catalogue.specs.Private.Places.{ArePlaces, StandsAt}
-use Rattle.star_catalogue.specs.Load.{first_repeat, repeat_at}
+use Rattle.star_catalogue.specs.{Private.Places.ArePlaces, Private.Places.StandsAt, Load.first_repeat, Load.repeat_at}
 
 abbrev pub repeats_from : {K : Type 0} → (K → K → Bool) → List K → ℕ → Option ℕ
 repeats_from same keys place =

@@ -1,12 +1,7 @@
 -- Pairs of numbers that rise.
 use Rattle.std.proofs.Common.{◌≡◌, ◌≢◌, ◌+◌, ◌-◌, ◌<◌, ◌≤◌, ◌⊎◌, ℕ, ℤ, List, AllPairs, Some, get_or, length, sym, ap, ◌∙◌, inl, inr, arith}
-use Rattle.std.specs.Cmp.{IsTotalOrder}
-use Rattle.std.specs.List.{slice_get}
-use Rattle.std.specs.Ordering.{ordering_reverse}
-use Rattle.std.specs.declared.cmp.Ordering.TheVariants.{Less}
-use Rattle.std.proofs.lemmas.Cmp.{int_cmp_total, on_total, then_total}
-use Rattle.std.proofs.lemmas.Map.Keys.{Less-from_sorted, sorted_from_all_adjacent}
-use Rattle.std.proofs.lemmas.Option.{slice_get-get_or}
+use Rattle.std.proofs.{lemmas.Cmp.int_cmp_total, lemmas.Cmp.on_total, lemmas.Cmp.then_total, lemmas.Map.Keys.Less-from_sorted, lemmas.Map.Keys.sorted_from_all_adjacent, lemmas.Option.slice_get-get_or}
+use Rattle.std.specs.{Cmp.IsTotalOrder, List.slice_get, Ordering.ordering_reverse, declared.cmp.Ordering.TheVariants.Less}
 use Rattle.star_catalogue.specs.Private.Keys.{pair_cmp}
 
 -- each pair before a place is greater than the pair before it

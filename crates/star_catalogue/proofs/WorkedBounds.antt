@@ -1,11 +1,6 @@
 -- The bounds of columns at the ends of 64 bits.
 use Rattle.std.proofs.Common.{List, [], ◌∷◌, ℤ, pos, negsuc, refl, sym, true≢false}
-use Rattle.star_schema.specs.declared.column.ColumnId.TheVariants.{CCustkey}
-use Rattle.star_schema.specs.Bounds.{greatest, least, numbers_at}
-use Rattle.star_schema.specs.Columns.{AreBoundsI64, bounds_in}
-use Rattle.star_schema.specs.Database.{Database, rows_in}
-use Rattle.star_schema.specs.Schema.{column_of, place_of}
-use Rattle.star_schema.specs.Tables.{Value, Number}
+use Rattle.star_schema.specs.{declared.column.ColumnId.TheVariants.CCustkey, Bounds.greatest, Bounds.least, Bounds.numbers_at, Columns.AreBoundsI64, Columns.bounds_in, Database.Database, Database.rows_in, Schema.column_of, Schema.place_of, Tables.Value, Tables.Number}
 use Rattle.star_interval.specs.Range.{FitsI64, is_i64, only}
 use Rattle.star_interval.proofs.Ranges.{fits_i64_fits}
 

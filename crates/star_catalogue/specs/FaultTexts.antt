@@ -1,10 +1,8 @@
 -- The printed form of load errors.
 use Rattle.std.specs.Prelude.{◌++◌, ℕ, List, codes, decimal}
-use Rattle.star_schema.specs.declared.table.TableId.{TableId}
-use Rattle.star_schema.specs.declared.table.TableId.TheVariants.{Lineorder}
-use Rattle.star_schema.specs.Schema.{column_name, table_name}
-use Rattle.star_catalogue.specs.declared.fault.LoadFault.{LoadFault}
+use Rattle.star_schema.specs.{declared.table.TableId.TableId, declared.table.TableId.TheVariants.Lineorder, Schema.column_name, Schema.table_name}
 use Rattle.star_catalogue.specs.declared.fault.LoadFault.TheVariants.{OutOfMemory, ByteOrderMark, TooManyRows, FieldCount, CellTooLong, BadByte, BadNumber, DuplicateKey, AbsentKey}
+use Rattle.star_catalogue.specs.{declared.fault.LoadFault.LoadFault}
 
 -- an error of a whole table
 unfoldable pub table_fault_text : List ℕ → TableId → List ℕ

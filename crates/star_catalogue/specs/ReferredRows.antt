@@ -1,11 +1,6 @@
 -- The rows that the numbers of a column refer to.
 use Rattle.std.specs.Prelude.{◌≡◌, ◌∷◌, [], ℕ, ℤ, List, Some, length, slice_get, slice_index_or}
-use Rattle.star_schema.specs.declared.column.ColumnId.{ColumnId}
-use Rattle.star_schema.specs.declared.table.TableId.{TableId}
-use Rattle.star_schema.specs.Columns.{column_numbers}
-use Rattle.star_schema.specs.Database.{Database, rows_in}
-use Rattle.star_schema.specs.Loadable.{keys_of}
-use Rattle.star_schema.specs.Schema.{references, table_of}
+use Rattle.star_schema.specs.{declared.column.ColumnId.ColumnId, declared.table.TableId.TableId, Columns.column_numbers, Database.Database, Database.rows_in, Loadable.keys_of, Schema.references, Schema.table_of}
 
 -- for each row of a column that refers to a table, the row there whose key is the column's number
 pub record AreReferredRows (database : Database) (c : ColumnId) (rows : List ℕ) : Type 0 where

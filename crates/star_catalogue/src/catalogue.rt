@@ -2,20 +2,11 @@
 
 ghost use Rattle.std.specs.Prelude.{◌≡◌, ◌↔◌, ◌≤◌, ◌<◌, ◌∷◌, [], ℕ, ℤ, All, Some, IfErr, IfOk, IsSome, length, slice_get};
 ghost use Rattle.star_common.specs.Memory.{UnlessMemory};
-ghost use Rattle.star_schema.specs.Bounds.{greatest, least};
 ghost use Rattle.star_schema.specs.Columns.{AreBoundsI64, bounds_in, column_dictionary, column_numbers, column_texts};
-ghost use Rattle.star_schema.specs.Database.{TableTexts, rows_in};
-ghost use Rattle.star_schema.specs.Loadable.{IsLoadable, IsSound, database_of, keys_of};
-ghost use Rattle.star_schema.specs.Schema.{kind_of, references, table_of};
-ghost use Rattle.star_schema.specs.Sizes.{size_of};
-ghost use Rattle.star_schema.specs.Tables.{IsRowOf};
-ghost use Rattle.star_schema.specs.declared.table.TableId.{TableId};
-ghost use Rattle.star_schema.specs.Dictionary.{HasCode, codes_of, high_in, low_in};
-ghost use Rattle.star_column.specs.Masks.{lies, mask_of};
-ghost use Rattle.star_column.specs.Width.{bits_of};
-ghost use Rattle.star_catalogue.specs.ReferredRows.{AreReferredRows};
-ghost use Rattle.star_catalogue.specs.Load.{load_fault, texts_view};
-ghost use Rattle.star_catalogue.specs.Pieces.{AreRead, AreReadSome};
+ghost use Rattle.star_schema.specs.{Bounds.greatest, Bounds.least, Database.TableTexts, Database.rows_in, Loadable.IsLoadable, Loadable.IsSound, Loadable.database_of, Loadable.keys_of, Schema.kind_of, Schema.references, Schema.table_of, Sizes.size_of, Tables.IsRowOf};
+ghost use Rattle.star_schema.specs.{declared.table.TableId.TableId, Dictionary.HasCode, Dictionary.codes_of, Dictionary.high_in, Dictionary.low_in};
+ghost use Rattle.star_column.specs.{Masks.lies, Masks.mask_of, Width.bits_of};
+ghost use Rattle.star_catalogue.specs.{ReferredRows.AreReferredRows, Load.load_fault, Load.texts_view, Pieces.AreRead, Pieces.AreReadSome};
 
 use crate::fault::LoadFault;
 use crate::read_tables::ReadTables;

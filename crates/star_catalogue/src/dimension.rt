@@ -1,14 +1,9 @@
 // The keys of a dimension, each with its row.
 
 ghost use Rattle.std.specs.Prelude.{◌≡◌, ◌<◌, ◌^◌, ◌-ℤ◌, ◌≤ℤ◌, ℤ, All, IfSome, MatchResult, Some, length};
-ghost use Rattle.std.specs.List.{IsDistinct};
-ghost use Rattle.std.specs.Int.RustNames.{unsigned_abs};
-ghost use Rattle.std.specs.Option.{option_map};
-ghost use Rattle.std.specs.Ordering.{int_eq};
+ghost use Rattle.std.specs.{List.IsDistinct, Int.RustNames.unsigned_abs, Option.option_map, Ordering.int_eq};
 ghost use Rattle.star_common.specs.Memory.{UnlessMemory};
-ghost use Rattle.star_catalogue.specs.Private.Indexed.{lent_row, row_of_key};
-ghost use Rattle.star_catalogue.specs.Private.Places.{ArePlaces, dense_at, row_of_slot};
-ghost use Rattle.star_catalogue.specs.Load.{first_repeat};
+ghost use Rattle.star_catalogue.specs.{Private.Indexed.lent_row, Private.Indexed.row_of_key, Private.Places.ArePlaces, Private.Places.dense_at, Private.Places.row_of_slot, Load.first_repeat};
 
 use crate::far_keys::FarKeys;
 use crate::fault::LoadFault;

@@ -1,9 +1,7 @@
 // The rows of sparse keys.
 
 ghost use Rattle.std.specs.Prelude.{◌≡◌, ◌<◌, ◌^◌, MatchResult, Some, length, position};
-ghost use Rattle.std.specs.List.{IsDistinct};
-ghost use Rattle.std.specs.Option.{option_map};
-ghost use Rattle.std.specs.Ordering.{int_eq};
+ghost use Rattle.std.specs.{List.IsDistinct, Option.option_map, Ordering.int_eq};
 ghost use Rattle.star_common.specs.Memory.{UnlessMemory};
 ghost use Rattle.star_catalogue.specs.Load.{first_repeat};
 

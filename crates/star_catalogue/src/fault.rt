@@ -2,8 +2,7 @@
 
 ghost use Rattle.std.specs.Prelude.{◌≡◌};
 ghost use Rattle.star_common.specs.Memory.{TellsMemory};
-ghost use Rattle.star_catalogue.specs.Load.{fault_of_read};
-ghost use Rattle.star_catalogue.specs.declared.fault.LoadFault.TheVariants.{OutOfMemory};
+ghost use Rattle.star_catalogue.specs.{Load.fault_of_read, declared.fault.LoadFault.TheVariants.OutOfMemory};
 
 use star_reader::ReadFault;
 use star_schema::{ColumnId, TableId};

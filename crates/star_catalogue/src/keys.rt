@@ -1,16 +1,10 @@
 // The keys of tables, which are distinct.
 
 ghost use Rattle.std.specs.Prelude.{◌≡◌, ◌≢◌, ◌↔◌, ◌<◌, ◌^◌, ℤ, AllPairs, IfOk, IsTrue, MatchResult, Some, length, slice_get};
-ghost use Rattle.std.specs.List.{IsDistinct, zip};
-ghost use Rattle.std.specs.BTreeMap.{get};
-ghost use Rattle.std.specs.Option.{option_map};
-ghost use Rattle.std.specs.declared.cmp.Ordering.TheVariants.{Less};
+ghost use Rattle.std.specs.{List.IsDistinct, List.zip, BTreeMap.get, Option.option_map, declared.cmp.Ordering.TheVariants.Less};
 ghost use Rattle.star_common.specs.Memory.{UnlessMemory};
 ghost use Rattle.star_schema.specs.Loadable.{HasDistinctKeys, keys_of};
-ghost use Rattle.star_catalogue.specs.Private.Indexed.{lent_row};
-ghost use Rattle.star_catalogue.specs.Private.Keys.{AreKept, pair_cmp, row_in, same_pair};
-ghost use Rattle.star_catalogue.specs.Private.Places.{ArePlaces};
-ghost use Rattle.star_catalogue.specs.Load.{first_repeat, repeated_key_fault};
+ghost use Rattle.star_catalogue.specs.{Private.Indexed.lent_row, Private.Keys.AreKept, Private.Keys.pair_cmp, Private.Keys.row_in, Private.Keys.same_pair, Private.Places.ArePlaces, Load.first_repeat, Load.repeated_key_fault};
 
 use crate::dimension::{DimensionKeys, LentKeys};
 use crate::fault::LoadFault;

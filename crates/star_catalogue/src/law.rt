@@ -1,8 +1,7 @@
 //! Laws of loads: functions with empty bodies, whose clauses are the laws.
 
 ghost use Rattle.std.specs.Prelude.{◌≡◌, ◌↔◌, ℕ, None};
-ghost use Rattle.star_schema.specs.Database.{TableTexts};
-ghost use Rattle.star_schema.specs.Loadable.{IsLoadable};
+ghost use Rattle.star_schema.specs.{Database.TableTexts, Loadable.IsLoadable};
 ghost use Rattle.star_catalogue.specs.Load.{load_fault};
 
 /// States that five texts have no error exactly if they can be loaded: each is its table, of at

@@ -2,8 +2,7 @@
 
 ghost use Rattle.std.specs.Prelude.{IfOk, map};
 ghost use Rattle.star_reader.specs.Partway.{HasReadText};
-ghost use Rattle.star_catalogue.specs.Load.{texts_view};
-ghost use Rattle.star_catalogue.specs.Pieces.{AreRead};
+ghost use Rattle.star_catalogue.specs.{Load.texts_view, Pieces.AreRead};
 
 use crate::texts::Texts;
 use star_reader::TableReader;

@@ -1,11 +1,7 @@
 // The foreign keys of lineorder.
 
 ghost use Rattle.std.specs.Prelude.{◌≡◌, ◌+◌, ◌<◌, ◌^◌, [], None, Some, MatchResult, length, slice_index_or};
-ghost use Rattle.star_schema.specs.Database.{rows_in};
-ghost use Rattle.star_schema.specs.Loadable.{RefersTo, foreign_keys};
-ghost use Rattle.star_schema.specs.Schema.{references};
-ghost use Rattle.star_schema.specs.declared.column.ColumnId.{ColumnId};
-ghost use Rattle.star_schema.specs.declared.table.TableId.{TableId};
+ghost use Rattle.star_schema.specs.{Database.rows_in, Loadable.RefersTo, Loadable.foreign_keys, Schema.references, declared.column.ColumnId.ColumnId, declared.table.TableId.TableId};
 ghost use Rattle.star_catalogue.specs.Load.{absent_fault, foreign_key_fault, row_fault};
 
 use crate::fault::LoadFault;

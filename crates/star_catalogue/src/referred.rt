@@ -1,10 +1,7 @@
 // The rows that the foreign keys of lineorder refer to.
 
 ghost use Rattle.std.specs.Prelude.{◌≡◌, ◌<◌, ◌≤◌, ◌^◌, ◌∷◌, [], ℕ, All, Contains, IfOk, MatchOption, Some, length, map};
-ghost use Rattle.star_schema.specs.Loadable.{RefersTo, keys_of};
-ghost use Rattle.star_schema.specs.Schema.{index_of, references};
-ghost use Rattle.star_schema.specs.declared.column.ColumnId.{ColumnId};
-ghost use Rattle.star_schema.specs.declared.table.TableId.{TableId};
+ghost use Rattle.star_schema.specs.{Loadable.RefersTo, Loadable.keys_of, Schema.index_of, Schema.references, declared.column.ColumnId.ColumnId, declared.table.TableId.TableId};
 ghost use Rattle.star_catalogue.specs.Private.Referred.{AreFound, AreReferred, AreRowsReferredTo, rows_view};
 
 use crate::table::LoadedTable;

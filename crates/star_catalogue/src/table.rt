@@ -1,17 +1,11 @@
 // A table in memory.
 
 ghost use Rattle.std.specs.Prelude.{◌≡◌, ◌↔◌, ◌<◌, ◌∷◌, [], ℕ, ℤ, List, Some, MatchResult, length, slice_get};
-ghost use Rattle.std.specs.Option.{option_map};
+ghost use Rattle.std.specs.{Option.option_map};
 ghost use Rattle.star_common.specs.Memory.{UnlessMemory};
-ghost use Rattle.star_schema.specs.Bounds.{numbers_of};
-ghost use Rattle.star_schema.specs.Loadable.{HasDistinctKeys, keys_of};
-ghost use Rattle.star_schema.specs.Schema.{kind_of, table_of};
-ghost use Rattle.star_schema.specs.Tables.{IsTable, rows_of};
-ghost use Rattle.star_schema.specs.Texts.{texts_of};
-ghost use Rattle.star_reader.specs.Faults.{text_fault};
-ghost use Rattle.star_reader.specs.Partway.{HasReadText};
-ghost use Rattle.star_catalogue.specs.Private.Indexed.{lent_row};
-ghost use Rattle.star_catalogue.specs.Load.{fault_of_read, repeated_key_fault, table_fault};
+ghost use Rattle.star_schema.specs.{Bounds.numbers_of, Loadable.HasDistinctKeys, Loadable.keys_of, Schema.kind_of, Schema.table_of, Tables.IsTable, Tables.rows_of, Texts.texts_of};
+ghost use Rattle.star_reader.specs.{Faults.text_fault, Partway.HasReadText};
+ghost use Rattle.star_catalogue.specs.{Private.Indexed.lent_row, Load.fault_of_read, Load.repeated_key_fault, Load.table_fault};
 
 use crate::columns::{Column, build_columns};
 use crate::dimension::LentKeys;

@@ -1,13 +1,10 @@
 -- The tables of a folder, as they are read.
 use Rattle.std.proofs.Common.{◌≡◌, ℕ, List, [], refl}
 use Rattle.std.specs.Prelude.{Bool, Result, Ok, Err, IfOk, OnOk}
-use Rattle.star_schema.specs.declared.table.TableId.{TableId}
 use Rattle.star_schema.specs.declared.table.TableId.TheVariants.{Date, Customer, Supplier, Part, Lineorder}
-use Rattle.star_schema.specs.Database.{TableTexts}
-use Rattle.star_schema.specs.Most.{most_rows}
+use Rattle.star_schema.specs.{declared.table.TableId.TableId, Database.TableTexts, Most.most_rows}
 use Rattle.star_reader.specs.Partway.{HasRead, Reading}
-use Rattle.star_catalogue.specs.Pieces.{AreRead}
-use Rattle.star_catalogue.specs.declared.read_tables.ReadTables.{ReadTables}
+use Rattle.star_catalogue.specs.{Pieces.AreRead, declared.read_tables.ReadTables.ReadTables}
 use Rattle.star_cli.specs.ReadFolders.{AreWidelyRead, HasReadSome, StaysBetween}
 
 -- nothing was read

@@ -1,37 +1,19 @@
 -- What is answered to a task, by its steps.
 use Rattle.std.proofs.Common.{◌≡◌, ℕ, List, Bool, true, false, inl, refl, subst, sym}
 use Rattle.std.specs.Prelude.{◌↔◌, Result, Ok, Err, IfOk, IsTrue}
-use Rattle.star_schema.specs.Database.{TableTexts}
-use Rattle.star_schema.specs.Loadable.{IsLoadable, database_of}
-use Rattle.star_schema.specs.Most.{most_rows, most_visits}
-use Rattle.star_schema.specs.declared.limits.Limits.{Limits}
+use Rattle.star_schema.specs.{Database.TableTexts, Loadable.IsLoadable, Loadable.database_of, Most.most_rows, Most.most_visits, declared.limits.Limits.Limits}
 use Rattle.star_verify.specs.declared.refusal.Refusal.{Refusal}
-use Rattle.star_engine.specs.declared.fault.EngineFault.{EngineFault}
-use Rattle.star_engine.specs.declared.fault.EngineFault.TheVariants.{Refused}
-use Rattle.star_engine.specs.declared.question.Question.{Question}
-use Rattle.star_engine.specs.Answered.{Change, IsAnswered, IsUntouched, OrMemory}
-use Rattle.star_engine.specs.Bench.{AllFit, IsBench, IsBenchOver}
-use Rattle.star_engine.specs.Executions.{IsQuoteOf, IsToldOf, IsUntold}
-use Rattle.star_engine.specs.Listing.{IsListing, IsListingOver}
-use Rattle.star_engine.specs.Loads.{IsUnloaded}
-use Rattle.star_engine.specs.Noted.{IsNoted, Telling}
 use Rattle.star_engine.specs.Queries.{IsExplained, IsNoQuery, IsQueryQuote, IsQueryTold, IsUnanswered}
-use Rattle.star_engine.specs.Questions.{Asks}
-use Rattle.star_engine.specs.QuoteTexts.{IsQuoteText, IsUnquoted, is_program_file}
-use Rattle.star_engine.specs.Trials.{IsNoTrial, IsTrialReport}
-use Rattle.star_engine.specs.Private.TextSteps.{IsQuoteOfTexts, IsToldOfTexts, IsUntoldOfTexts}
-use Rattle.star_engine.proofs.Answering.{stopped}
-use Rattle.star_engine.proofs.Loaded.{answered_over}
-use Rattle.star_engine.proofs.Noting.{noted_stopped}
-use Rattle.star_engine.proofs.QueryFaults.{or_memory}
+use Rattle.star_engine.specs.{declared.fault.EngineFault.EngineFault, declared.fault.EngineFault.TheVariants.Refused, declared.question.Question.Question, Answered.Change, Answered.IsAnswered, Answered.IsUntouched, Answered.OrMemory, Bench.AllFit, Bench.IsBench, Bench.IsBenchOver}
+use Rattle.star_engine.specs.{Executions.IsQuoteOf, Executions.IsToldOf, Executions.IsUntold, Listing.IsListing, Listing.IsListingOver, Loads.IsUnloaded, Noted.IsNoted, Noted.Telling, Questions.Asks, QuoteTexts.IsQuoteText, QuoteTexts.IsUnquoted, QuoteTexts.is_program_file}
+use Rattle.star_engine.specs.{Trials.IsNoTrial, Trials.IsTrialReport, Private.TextSteps.IsQuoteOfTexts, Private.TextSteps.IsToldOfTexts, Private.TextSteps.IsUntoldOfTexts}
 use Rattle.star_engine.proofs.TellingLemmas.{never_refused, none, unloaded, unquoted_none, unquoted_tables}
-use Rattle.star_engine.proofs.Trials.{no_trial_none, no_trial_unloaded}
+use Rattle.star_engine.proofs.{Answering.stopped, Loaded.answered_over, Noting.noted_stopped, QueryFaults.or_memory, Trials.no_trial_none, Trials.no_trial_unloaded}
 use Rattle.star_cli.specs.Answers.{IsBenched, IsGivenOf, IsListed, IsListedAndBenched, IsNoneRefused, IsOfTables, IsQuoted, none_refused}
-use Rattle.star_cli.specs.Private.Asking.{AsksFor, IsNotAsked}
-use Rattle.star_cli.specs.declared.answers.Asked.{Asked}
-use Rattle.star_cli.specs.declared.answers.Asked.TheVariants as asked
-use Rattle.star_words.specs.declared.request.Task.{Task}
+use Rattle.star_cli.specs.{Private.Asking.AsksFor, Private.Asking.IsNotAsked, declared.answers.Asked.Asked}
 use Rattle.star_words.specs.declared.request.Task.TheVariants.{Sample, Check, Bench, Query, Explain, Exec, Quote, Trial}
+use Rattle.star_words.specs.{declared.request.Task.Task}
+use Rattle.star_cli.specs.declared.answers.Asked.TheVariants as asked
 
 -- ---- a fault before anything is written
 

@@ -1,12 +1,8 @@
 -- What a load under the widest limits gives.
 use Rattle.std.proofs.Common.{◌≡◌, ℕ, ap, subst}
 use Rattle.std.specs.Prelude.{Result, Ok, Err, IfErr, IfOk, MatchResult}
-use Rattle.star_schema.specs.Database.{TableTexts}
-use Rattle.star_schema.specs.Loadable.{IsLoadable}
-use Rattle.star_schema.specs.Most.{most_rows, most_visits}
-use Rattle.star_engine.specs.declared.fault.EngineFault.{EngineFault}
-use Rattle.star_engine.specs.Answered.{OrMemory}
-use Rattle.star_engine.specs.Loads.{IsUnloaded, Loaded, loaded_of}
+use Rattle.star_schema.specs.{Database.TableTexts, Loadable.IsLoadable, Most.most_rows, Most.most_visits}
+use Rattle.star_engine.specs.{declared.fault.EngineFault.EngineFault, Answered.OrMemory, Loads.IsUnloaded, Loads.Loaded, Loads.loaded_of}
 use Rattle.star_cli.specs.FolderLoads.{IsWidest}
 
 abbrev pub IsLoadedOf : (rows visits : ℕ) → TableTexts → Result Loaded EngineFault → Type 0

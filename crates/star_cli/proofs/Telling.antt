@@ -1,8 +1,7 @@
 -- The text of want of memory.
 use Rattle.std.proofs.Common.{◌≡◌, ℕ, List}
 use Rattle.std.specs.Prelude.{codes}
-use Rattle.star_cli.specs.Failures.{IsTextOf, failure_text}
-use Rattle.star_cli.specs.declared.failure.Failure.TheVariants.{OutOfMemory}
+use Rattle.star_cli.specs.{Failures.IsTextOf, Failures.failure_text, declared.failure.Failure.TheVariants.OutOfMemory}
 
 pub memory_text : (text : List ℕ) → text ≡ codes "memory\n" → IsTextOf OutOfMemory text
 unfolding failure_text

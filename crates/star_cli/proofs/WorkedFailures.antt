@@ -1,21 +1,17 @@
 -- What keeps a command from its answer: the line of each failure, and its status. No other crate
 -- may name them.
 use Rattle.std.proofs.Common.{ℕ, List, [], ◌∷◌, Some, refl}
-use Rattle.std.specs.Borrow.{Bor}
-use Rattle.std.specs.Fmt.{digits}
-use Rattle.std.specs.Prelude.{◌++◌, codes}
+use Rattle.std.specs.{Borrow.Bor, Fmt.digits, Prelude.◌++◌, Prelude.codes}
 use Rattle.star_common.proofs.Tables.{Gives}
 use Rattle.star_words.specs.Faults.{words_fault_text}
-use Rattle.star_words.specs.declared.fault.WordsFault.TheVariants as words
-use Rattle.star_query.specs.FaultTexts.{query_fault_text}
-use Rattle.star_query.specs.declared.fault.QueryFault.TheVariants.{Unexpected}
-use Rattle.star_engine.specs.FaultTexts.{engine_fault_text}
-use Rattle.star_engine.specs.declared.fault.EngineFault.TheVariants as engine
-use Rattle.star_engine.specs.declared.fault.EngineFault.TheVariants.{Query}
+use Rattle.star_query.specs.{FaultTexts.query_fault_text, declared.fault.QueryFault.TheVariants.Unexpected}
+use Rattle.star_engine.specs.{FaultTexts.engine_fault_text, declared.fault.EngineFault.TheVariants.Query}
 use Rattle.star_cli.specs.declared.failure.Failure.TheVariants.{Words, File, Part, Unnamed, NamedTwice, OfFile, Unkept, Unwritten, OutOfMemory}
-use Rattle.star_service.specs.declared.reports.Halt.TheVariants as halts
-use Rattle.star_cli.specs.Failures.{failure_of_file, failure_of_halt, failure_text, status_of}
+use Rattle.star_cli.specs.{Failures.failure_of_file, Failures.failure_of_halt, Failures.failure_text, Failures.status_of}
 use Rattle.star_service.specs.Names.{printed_name}
+use Rattle.star_words.specs.declared.fault.WordsFault.TheVariants as words
+use Rattle.star_engine.specs.declared.fault.EngineFault.TheVariants as engine
+use Rattle.star_service.specs.declared.reports.Halt.TheVariants as halts
 
 -- of words that ask for nothing, of files that can't be read and of reports that end before the last,
 -- want of memory as any other

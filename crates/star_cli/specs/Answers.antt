@@ -1,22 +1,12 @@
 -- What a task asks of the bytes that were read for it.
 use Rattle.std.specs.Prelude.{◌≡◌, ◌⊎◌, ◌↔◌, ℕ, Bool, true, false, IsTrue, List, Result, Ok, Err, IfOk}
-use Rattle.star_schema.specs.declared.limits.Limits.{Limits}
-use Rattle.star_schema.specs.Most.{most_rows, most_visits}
-use Rattle.star_schema.specs.Database.{TableTexts}
-use Rattle.star_schema.specs.Loadable.{database_of}
-use Rattle.star_engine.specs.declared.fault.EngineFault.{EngineFault}
-use Rattle.star_engine.specs.Answered.{Change, IsAnswered, IsUntouched}
-use Rattle.star_engine.specs.Bench.{AllFit, IsBench}
-use Rattle.star_engine.specs.Executions.{IsQuoteOf, IsToldOf, IsUntold}
-use Rattle.star_engine.specs.Listing.{IsListing}
-use Rattle.star_engine.specs.Loads.{IsUnloaded}
-use Rattle.star_engine.specs.Noted.{IsNoted}
+use Rattle.star_schema.specs.{declared.limits.Limits.Limits, Most.most_rows, Most.most_visits, Database.TableTexts, Loadable.database_of}
 use Rattle.star_engine.specs.Queries.{IsExplained, IsNoQuery, IsQueryQuote, IsQueryTold, IsUnanswered}
-use Rattle.star_engine.specs.QuoteTexts.{IsQuoteText, IsUnquoted}
-use Rattle.star_engine.specs.Trials.{IsNoTrial, IsTrialReport}
+use Rattle.star_engine.specs.{declared.fault.EngineFault.EngineFault, Answered.Change, Answered.IsAnswered, Answered.IsUntouched, Bench.AllFit, Bench.IsBench, Executions.IsQuoteOf, Executions.IsToldOf, Executions.IsUntold, Listing.IsListing, Loads.IsUnloaded, Noted.IsNoted}
+use Rattle.star_engine.specs.{QuoteTexts.IsQuoteText, QuoteTexts.IsUnquoted, Trials.IsNoTrial, Trials.IsTrialReport}
 use Rattle.star_service.specs.Lines.{IsFaultTold}
-use Rattle.star_words.specs.declared.request.Task.{Task}
 use Rattle.star_words.specs.declared.request.Task.TheVariants.{Sample, Check, Bench, Query, Explain, Exec, Quote, Trial}
+use Rattle.star_words.specs.{declared.request.Task.Task}
 
 -- the Ok of a call that refuses nothing by it
 abbrev pub none_refused : Result (Unit {0}) EngineFault → Result Bool EngineFault

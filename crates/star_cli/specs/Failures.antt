@@ -1,17 +1,13 @@
 -- What keeps a command from an answer, its line, and its exit status.
 use Rattle.std.specs.Prelude.{◌≡◌, ◌==◌, ◌++◌, ◌⊎◌, ℕ, List, Bool, true, false, Option, Some, Result, Ok, Err, IfSome, codes, decimal}
-use Rattle.star_engine.specs.Answered.{Change, IsUntouched}
-use Rattle.star_engine.specs.FaultTexts.{engine_fault_text}
-use Rattle.star_engine.specs.declared.fault.EngineFault.{EngineFault}
-use Rattle.star_engine.specs.declared.fault.EngineFault.TheVariants as engine
-use Rattle.std.specs.Borrow.{Bor}
-use Rattle.star_service.specs.Lines.{IsTextTold, fault_status}
-use Rattle.star_service.specs.Names.{printed_name}
-use Rattle.star_service.specs.declared.reports.Halt.{Halt}
-use Rattle.star_service.specs.declared.reports.Halt.TheVariants as halts
+use Rattle.std.specs.{Borrow.Bor}
+use Rattle.star_engine.specs.{Answered.Change, Answered.IsUntouched, FaultTexts.engine_fault_text, declared.fault.EngineFault.EngineFault}
+use Rattle.star_service.specs.{Lines.IsTextTold, Lines.fault_status, Names.printed_name, declared.reports.Halt.Halt}
 use Rattle.star_words.specs.Faults.{words_fault_status, words_fault_text}
-use Rattle.star_cli.specs.declared.failure.Failure.{Failure}
 use Rattle.star_cli.specs.declared.failure.Failure.TheVariants.{Words, File, Part, Unnamed, NamedTwice, OfFile, Unkept, Unwritten, OutOfMemory}
+use Rattle.star_cli.specs.{declared.failure.Failure.Failure}
+use Rattle.star_engine.specs.declared.fault.EngineFault.TheVariants as engine
+use Rattle.star_service.specs.declared.reports.Halt.TheVariants as halts
 
 -- a file that can't be read as a query or a program: that too may be for want of memory
 abbrev pub failure_of_file : Bor (List ℕ) → EngineFault → Failure

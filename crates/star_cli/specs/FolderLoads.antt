@@ -1,13 +1,8 @@
 -- What the load of a folder gives: tables, or what is told of why there are none.
 use Rattle.std.specs.Prelude.{◌≡◌, ◌⊎◌, ℕ}
-use Rattle.star_schema.specs.Most.{most_rows, most_visits}
-use Rattle.star_schema.specs.Database.{Database, TableTexts}
-use Rattle.star_schema.specs.Loadable.{IsLoadable, database_of}
-use Rattle.star_engine.specs.declared.fault.EngineFault.{EngineFault}
-use Rattle.star_engine.specs.Answered.{Change, IsUntouched}
-use Rattle.star_engine.specs.Loads.{Loaded}
-use Rattle.star_cli.specs.declared.failure.Failure.{Failure}
-use Rattle.star_cli.specs.Failures.{IsFailureTold}
+use Rattle.star_schema.specs.{Most.most_rows, Most.most_visits, Database.Database, Database.TableTexts, Loadable.IsLoadable, Loadable.database_of}
+use Rattle.star_engine.specs.{declared.fault.EngineFault.EngineFault, Answered.Change, Answered.IsUntouched, Loads.Loaded}
+use Rattle.star_cli.specs.{declared.failure.Failure.Failure, Failures.IsFailureTold}
 use Rattle.star_service.specs.Lines.{IsFaultTold}
 
 -- the rows of five texts that can be loaded

@@ -1,11 +1,8 @@
 -- The tables of a folder, which are read in pieces.
 use Rattle.std.specs.Prelude.{ℕ, List, []}
-use Rattle.star_schema.specs.declared.table.TableId.{TableId}
-use Rattle.star_schema.specs.Database.{TableTexts}
-use Rattle.star_schema.specs.Most.{most_rows}
+use Rattle.star_schema.specs.{declared.table.TableId.TableId, Database.TableTexts, Most.most_rows}
 use Rattle.star_reader.specs.Partway.{HasRead, HasReadText, Reading}
-use Rattle.star_catalogue.specs.Pieces.{AreRead}
-use Rattle.star_catalogue.specs.declared.read_tables.ReadTables.{ReadTables}
+use Rattle.star_catalogue.specs.{Pieces.AreRead, declared.read_tables.ReadTables.ReadTables}
 
 -- a reader has been given some text, under the widest limits
 abbrev pub HasReadSome : Reading → TableId → Type 0

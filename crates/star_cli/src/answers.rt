@@ -1,19 +1,13 @@
 // The answer to a task, over the tables and the file that were read for it.
 
-ghost use Rattle.std.specs.Prelude.{◌≡◌, ℕ, List, MatchResult};
-ghost use Rattle.star_schema.specs.Database.{TableTexts};
-ghost use Rattle.star_schema.specs.Loadable.{IsLoadable};
-ghost use Rattle.star_schema.specs.Most.{most_rows, most_visits};
+ghost use Rattle.std.specs.{Prelude.◌≡◌, Prelude.ℕ, Prelude.List, Prelude.MatchResult, Borrow.Bor};
+ghost use Rattle.star_schema.specs.{Database.TableTexts, Loadable.IsLoadable, Most.most_rows, Most.most_visits};
 ghost use Rattle.star_catalogue.specs.Pieces.{AreRead};
-ghost use Rattle.star_cli.specs.Answers as spec;
 ghost use Rattle.star_cli.specs.Answers.{IsEnded, IsExitOf, IsGivenOf, IsListedAndBenched, IsOfTables};
-ghost use Rattle.star_cli.specs.Private.Asking.{AsksFor, IsNotAsked};
-ghost use Rattle.star_cli.specs.ReadFolders.{AreWidelyRead};
-ghost use Rattle.star_engine.specs.Answered.{OrMemory, change};
-ghost use Rattle.star_engine.specs.Loads.{loaded_of};
-ghost use Rattle.std.specs.Borrow.{Bor};
-ghost use Rattle.star_words.specs.declared.request.Task.{Task};
-ghost use Rattle.star_words.specs.declared.request.Task.TheVariants.{Explain};
+ghost use Rattle.star_cli.specs.{Private.Asking.AsksFor, Private.Asking.IsNotAsked, ReadFolders.AreWidelyRead};
+ghost use Rattle.star_engine.specs.{Answered.OrMemory, Answered.change, Loads.loaded_of};
+ghost use Rattle.star_words.specs.{declared.request.Task.Task, declared.request.Task.TheVariants.Explain};
+ghost use Rattle.star_cli.specs.Answers as spec;
 
 use crate::loads::engine_of;
 use star_common::Sink;

@@ -1,8 +1,6 @@
 // The files of reports: each with the name of its report, read and checked before any table.
 
-ghost use Rattle.std.specs.Prelude.{◌≡◌};
-ghost use Rattle.std.specs.Option.{option_copied};
-ghost use Rattle.std.specs.Path.{path_file_stem};
+ghost use Rattle.std.specs.{Prelude.◌≡◌, Option.option_copied, Path.path_file_stem};
 
 use crate::failure::Failure;
 use crate::files::read_file;

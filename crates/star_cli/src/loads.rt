@@ -1,14 +1,10 @@
 // The loaded tables of a folder.
 
 ghost use Rattle.std.specs.Prelude.{◌≡◌, IfErr, IfOk, MatchResult, OnOk};
-ghost use Rattle.star_schema.specs.Database.{TableTexts};
-ghost use Rattle.star_schema.specs.Loadable.{IsLoadable};
-ghost use Rattle.star_schema.specs.Most.{most_rows, most_visits};
+ghost use Rattle.star_schema.specs.{Database.TableTexts, Loadable.IsLoadable, Most.most_rows, Most.most_visits};
 ghost use Rattle.star_catalogue.specs.Pieces.{AreRead};
-ghost use Rattle.star_engine.specs.Answered.{IsUntouched, OrMemory, change};
-ghost use Rattle.star_engine.specs.Loads.{IsUnloaded, loaded_of};
-ghost use Rattle.star_cli.specs.FolderLoads.{IsFolderRefused, IsWidest};
-ghost use Rattle.star_cli.specs.ReadFolders.{AreWidelyRead};
+ghost use Rattle.star_engine.specs.{Answered.IsUntouched, Answered.OrMemory, Answered.change, Loads.IsUnloaded, Loads.loaded_of};
+ghost use Rattle.star_cli.specs.{FolderLoads.IsFolderRefused, FolderLoads.IsWidest, ReadFolders.AreWidelyRead};
 
 use crate::failure::Failure;
 use crate::files::read_tables;

@@ -1,19 +1,11 @@
 -- A column of texts as the column of its codes.
 use Rattle.std.proofs.Common.{◌≡◌, ℕ, ℤ, pos, ◌-◌, ◌-ℤ◌, ◌<◌, ◌≤ℤ◌, List, [], ◌∷◌, Some, length, get_or, refl, sym, ap, ◌∙◌, arith}
-use Rattle.std.specs.List.{All, Contains, slice_get}
-use Rattle.std.specs.Option.{option_map}
-use Rattle.std.proofs.lemmas.Int.{ints}
-use Rattle.std.proofs.lemmas.List.{get_or-map, length-map}
-use Rattle.std.proofs.lemmas.List.Elements.{All-map, Contains-get_or}
-use Rattle.std.proofs.lemmas.Option.{slice_get-map, slice_get-get_or}
-use Rattle.star_schema.specs.Bounds.{least, greatest}
-use Rattle.std.specs.Int.RustNames.{unsigned_abs}
+use Rattle.std.proofs.{lemmas.Int.ints, lemmas.List.get_or-map, lemmas.List.length-map, lemmas.List.Elements.All-map, lemmas.List.Elements.Contains-get_or, lemmas.Option.slice_get-map, lemmas.Option.slice_get-get_or}
+use Rattle.std.specs.{List.All, List.Contains, List.slice_get, Option.option_map, Int.RustNames.unsigned_abs}
+use Rattle.star_schema.specs.{Bounds.least, Bounds.greatest, Dictionary.dictionary_of, Dictionary.codes_of, Dictionary.low_in}
 use Rattle.star_column.specs.Width.{bits_of, least_width}
-use Rattle.star_schema.specs.Dictionary.{dictionary_of, codes_of, low_in}
-use Rattle.star_schema.proofs.Dictionaries.{IsDictionary-dictionary_of}
+use Rattle.star_schema.proofs.{Dictionaries.IsDictionary-dictionary_of, Extremes.least_is, Extremes.greatest_is, TextPlaces.code_within, TextPlaces.low_in-place}
 use Rattle.star_common.proofs.Members.{contains_here}
-use Rattle.star_schema.proofs.Extremes.{least_is, greatest_is}
-use Rattle.star_schema.proofs.TextPlaces.{code_within, low_in-place}
 
 module _ (texts : List (List ℕ)) where
   -- the code of a row whose text stands at a place of the dictionary is that place

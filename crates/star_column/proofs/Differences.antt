@@ -1,19 +1,10 @@
 -- Numbers as how far they lie above the least.
 use Rattle.std.proofs.Common.{◌≡◌, ℕ, ◌+◌, ◌^◌, ◌<◌, ◌≤◌, ◌≤ℤ◌, ℤ, pos, ◌+ℤ◌, ◌-ℤ◌, List, [], ◌∷◌, ◌++◌, Some, drop, get_or, length, map, set, take, ap, ◌∙◌, sym, arith}
-use Rattle.std.specs.Int.RustNames.{unsigned_abs}
-use Rattle.std.specs.List.{All, slice_get}
-use Rattle.std.specs.Option.{option_map}
-use Rattle.std.proofs.lemmas.Bool.Decides.{nat_tests}
-use Rattle.std.proofs.lemmas.Int.{ints}
 use Rattle.std.proofs.lemmas.List.{drop_more, length-map, map-append, take_more, take_more_set}
-use Rattle.std.proofs.lemmas.Option.{slice_get-map}
-use Rattle.star_interval.specs.declared.Interval.{Interval}
-use Rattle.star_interval.specs.Interval.{range_of}
-use Rattle.star_interval.specs.Range.{Holds}
-use Rattle.star_column.specs.Width.{bits_of, least_width}
-use Rattle.star_column.specs.Private.Bounds.{AreBounds}
-use Rattle.star_column.specs.Private.Words.{numbers_above, numbers_in, word_bits, IsPacked}
-use Rattle.star_column.specs.declared.words.Words.{Words}
+use Rattle.std.proofs.{lemmas.Bool.Decides.nat_tests, lemmas.Int.ints, lemmas.Option.slice_get-map}
+use Rattle.std.specs.{Int.RustNames.unsigned_abs, List.All, List.slice_get, Option.option_map}
+use Rattle.star_interval.specs.{declared.Interval.Interval, Interval.range_of, Range.Holds}
+use Rattle.star_column.specs.{Width.bits_of, Width.least_width, Private.Bounds.AreBounds, Private.Words.numbers_above, Private.Words.numbers_in, Private.Words.word_bits, Private.Words.IsPacked, declared.words.Words.Words}
 use Rattle.star_column.proofs.Extremes.{all_between}
 
 -- ---- widths

@@ -3,9 +3,7 @@ use Rattle.std.proofs.Common.{ℕ, List, refl}
 use Rattle.std.specs.List.Sorted.{IsPartitionedBy, IsStrictlySortedBy}
 use Rattle.star_schema.specs.Dictionary.{text_cmp}
 use Rattle.star_schema.proofs.Edges.{partitioned}
-use Rattle.star_column.specs.Private.Edge.{is_after}
-use Rattle.star_column.specs.declared.dictionary.Edge.{Edge}
-use Rattle.star_column.specs.declared.dictionary.Edge.TheVariants.{Low, High}
+use Rattle.star_column.specs.{Private.Edge.is_after, declared.dictionary.Edge.Edge, declared.dictionary.Edge.TheVariants.Low, declared.dictionary.Edge.TheVariants.High}
 
 pub IsPartitionedBy-is_after : (edge : Edge) (t : List ℕ) (ds : List (List ℕ))
     → IsStrictlySortedBy text_cmp ds → IsPartitionedBy (λ d. is_after edge (text_cmp d t)) ds

@@ -1,12 +1,7 @@
 -- The numbers of a column lie between its bounds.
 use Rattle.std.proofs.Common.{◌≡◌, ◌≤ℤ◌, ℤ, List, false, map, arith}
-use Rattle.std.proofs.Math.ListN.{get_or-map}
-use Rattle.std.proofs.lemmas.List.{length-map}
-use Rattle.std.specs.List.{All, Contains}
-use Rattle.std.specs.Ordering.{int_cmp, is_gt, is_lt}
-use Rattle.std.specs.declared.cmp.Ordering.{Ordering}
-use Rattle.std.proofs.lemmas.Cmp.{int_ranked}
-use Rattle.std.proofs.lemmas.List.Elements.{All-map, All-weaker}
+use Rattle.std.proofs.{Math.ListN.get_or-map, lemmas.List.length-map, lemmas.Cmp.int_ranked, lemmas.List.Elements.All-map, lemmas.List.Elements.All-weaker}
+use Rattle.std.specs.{List.All, List.Contains, Ordering.int_cmp, Ordering.is_gt, Ordering.is_lt, declared.cmp.Ordering.Ordering}
 use Rattle.star_common.proofs.Members.{contains_mapped}
 use Rattle.star_schema.specs.Bounds.{least, greatest}
 use Rattle.star_schema.proofs.Extremes.{least_below, greatest_above, greatest_is, least_is}

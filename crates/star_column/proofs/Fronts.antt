@@ -1,10 +1,7 @@
 -- The search by halves for the end of the front of a list that passes a test.
 use Rattle.std.proofs.Common.{◌≡◌, ℕ, ◌+◌, ◌<◌, ◌≤◌, Bool, true, false, List, Some, length, get_or, count_by, sym, ap, ◌∙◌, arith, nat_lt, ⊎_elim, true≢false}
-use Rattle.std.specs.List.{slice_get}
-use Rattle.std.specs.List.Sorted.{IsPartitionedBy}
-use Rattle.std.proofs.lemmas.Bool.{cases_lt}
-use Rattle.std.proofs.lemmas.List.Sums.{count_by-le-length}
-use Rattle.std.proofs.lemmas.Option.{get_or_from_slice_get}
+use Rattle.std.proofs.{lemmas.Bool.cases_lt, lemmas.List.Sums.count_by-le-length, lemmas.Option.get_or_from_slice_get}
+use Rattle.std.specs.{List.slice_get, List.Sorted.IsPartitionedBy}
 use Rattle.star_schema.proofs.Fronts.{fails_from, nat_lt-count_by}
 
 -- the elements before `low` pass, and those from `high` on fail

@@ -1,12 +1,7 @@
 -- The lowest bit of a mask that is set, taken away, and what is kept of it.
 use Rattle.std.proofs.Common.{◌≡◌, ℕ, zero, suc, ◌+◌, ◌*◌, ◌-◌, ◌/◌, ◌%◌, ◌^◌, ◌<◌, ◌≤◌, Bool, false, cond, List, length, get_or, map, refl, sym, ap, ◌∙◌, arith}
-use Rattle.std.specs.Prelude.{bit_and}
-use Rattle.std.specs.Int.Count.{count_trailing_zeros, under}
-use Rattle.std.specs.Int.Bits.{and_self}
-use Rattle.std.proofs.Math.Nat.{mod-eq_of_lt, mul_assoc, pow-suc}
-use Rattle.std.proofs.lemmas.List.{get_or-map}
-use Rattle.std.proofs.lemmas.Nat.{and_block, and_le_l, shr-shr}
-use Rattle.std.proofs.lemmas.Simd.{bit_mask_l, get_or-chunk, length-chunk}
+use Rattle.std.proofs.{Math.Nat.mod-eq_of_lt, Math.Nat.mul_assoc, Math.Nat.pow-suc, lemmas.List.get_or-map, lemmas.Nat.and_block, lemmas.Nat.and_le_l, lemmas.Nat.shr-shr, lemmas.Simd.bit_mask_l, lemmas.Simd.get_or-chunk, lemmas.Simd.length-chunk}
+use Rattle.std.specs.{Prelude.bit_and, Int.Count.count_trailing_zeros, Int.Count.under, Int.Bits.and_self}
 use lib.Lanes.{chunk}
 use Rattle.star_column.specs.Masks.{mask_of}
 

@@ -1,17 +1,12 @@
 -- The texts of rows, coded by their places in the dictionary.
 use Rattle.std.proofs.Common.{◌≡◌, ℕ, ◌-◌, ◌^◌, ◌<◌, List, [], Some, length, get_or, sym, ap, ◌∙◌, arith, subst}
-use Rattle.std.specs.List.{Contains, slice_get}
-use Rattle.std.specs.List.Sorted.{IsStrictlySortedBy}
-use Rattle.std.specs.Option.{option_map}
-use Rattle.std.proofs.lemmas.List.{get_or_default, length-map}
-use Rattle.std.proofs.lemmas.List.Elements.{All-contains, Contains-get_or}
-use Rattle.std.proofs.lemmas.Option.{get_or_from_slice_get, slice_get-get_or, slice_get-map, slice_get_within}
+use Rattle.std.proofs.{lemmas.List.get_or_default, lemmas.List.length-map, lemmas.List.Elements.All-contains, lemmas.List.Elements.Contains-get_or, lemmas.Option.get_or_from_slice_get, lemmas.Option.slice_get-get_or, lemmas.Option.slice_get-map, lemmas.Option.slice_get_within}
+use Rattle.std.specs.{List.Contains, List.slice_get, List.Sorted.IsStrictlySortedBy, Option.option_map}
 use Rattle.star_common.proofs.Members.{contains_mapped, from_contains_map}
 use Rattle.star_flat.specs.Repeated.{AreRepeated, texts_at_places}
 use Rattle.star_schema.specs.Dictionary.{codes_of, dictionary_of, text_cmp}
 use Rattle.star_schema.proofs.Dictionaries.{one_dictionary}
-use Rattle.star_column.specs.Private.Codes.{AreCodes}
-use Rattle.star_column.specs.Width.{bits_of, least_width}
+use Rattle.star_column.specs.{Private.Codes.AreCodes, Width.bits_of, Width.least_width}
 use Rattle.star_column.proofs.Coded.{least_width-codes_of}
 
 -- ---- the codes of all rows

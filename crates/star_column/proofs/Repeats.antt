@@ -1,9 +1,7 @@
 -- Places that are kept as numbers in words, and what stands there.
 use Rattle.std.proofs.Common.{◌≡◌, ℕ, ℤ, ◌<◌, List, [], ◌∷◌, length, get_or, map, sym, ap, ◌∙◌, subst}
-use Rattle.std.specs.Int.RustNames.{unsigned_abs}
-use Rattle.std.specs.List.{All}
-use Rattle.std.proofs.lemmas.List.Elements.{All-cons, All-head, All-nil, All-tail}
-use Rattle.std.proofs.lemmas.Simd.{map-map}
+use Rattle.std.proofs.{lemmas.List.Elements.All-cons, lemmas.List.Elements.All-head, lemmas.List.Elements.All-nil, lemmas.List.Elements.All-tail, lemmas.Simd.map-map}
+use Rattle.std.specs.{Int.RustNames.unsigned_abs, List.All}
 use Rattle.star_flat.specs.Repeated.{places_in}
 
 module _ {W : Type 0} (number : W → ℤ) (words : List W) (rows : List ℤ) (ns : List ℕ)

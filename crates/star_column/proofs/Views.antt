@@ -1,22 +1,15 @@
 -- Columns that are lent.
 use Rattle.std.proofs.Common.{◌≡◌, ℕ, ℤ, pos, ◌+◌, ◌+ℤ◌, ◌<◌, List, [], ◌∷◌, ◌++◌, Some, length, get_or, map, set, take, sym, ap, ◌∙◌, arith}
-use Rattle.std.specs.List.{All, slice_get}
-use Rattle.std.proofs.lemmas.Int.{ints}
 use Rattle.std.proofs.lemmas.List.{get_or-map, length-map, map-append, take_more, take_more_set}
-use Rattle.std.proofs.lemmas.List.Elements.{All-get_or, All-weaker}
-use Rattle.std.proofs.lemmas.Option.{get_or_from_slice_get, slice_get-get_or, slice_get_within}
-use Rattle.std.proofs.lemmas.Simd.{map-map}
+use Rattle.std.proofs.{lemmas.Int.ints, lemmas.List.Elements.All-get_or, lemmas.List.Elements.All-weaker, lemmas.Option.get_or_from_slice_get, lemmas.Option.slice_get-get_or, lemmas.Option.slice_get_within, lemmas.Simd.map-map}
+use Rattle.std.specs.List.{All, slice_get}
 use Rattle.star_common.proofs.Members.{map_agree}
-use Rattle.star_schema.specs.Bounds.{least}
-use Rattle.star_schema.specs.Dictionary.{codes_of, dictionary_of, low_in}
-use Rattle.star_schema.proofs.Dictionaries.{IsDictionary-dictionary_of}
-use Rattle.star_schema.proofs.TextPlaces.{low_in-place}
+use Rattle.star_schema.specs.{Bounds.least, Dictionary.codes_of, Dictionary.dictionary_of, Dictionary.low_in}
+use Rattle.star_schema.proofs.{Dictionaries.IsDictionary-dictionary_of, TextPlaces.low_in-place}
 use Rattle.star_interval.specs.Range.{Holds, Range}
-use Rattle.star_column.specs.Private.Codes.{AreCodes}
+use Rattle.star_column.specs.{Private.Codes.AreCodes, Private.Words.numbers_above}
 use Rattle.star_flat.specs.Repeated.{texts_at_places}
-use Rattle.star_column.specs.Private.Words.{numbers_above}
-use Rattle.star_column.proofs.Coded.{least-codes_of}
-use Rattle.star_column.proofs.Differences.{packed_at}
+use Rattle.star_column.proofs.{Coded.least-codes_of, Differences.packed_at}
 
 -- what holds of all values holds of a row's
 pub lent_holds : (r : Range) (low : ℤ) (ns : List ℕ) (row d : ℕ)

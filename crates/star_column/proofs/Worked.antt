@@ -1,12 +1,9 @@
 -- Masks of the numbers 0 to 129, and numbers with bounds at and beyond each width.
 use Rattle.std.proofs.Common.{◌≡◌, ℤ, List, [], ◌∷◌, map, negsuc, pos, refl}
-use Rattle.std.specs.List.{range_with_len}
-use Rattle.std.specs.Prelude.{codes}
+use Rattle.std.specs.{List.range_with_len, Prelude.codes}
 use Rattle.star_common.proofs.Tables.{Gives, Gives3}
-use Rattle.star_schema.specs.Bounds.{least, greatest}
-use Rattle.star_schema.specs.Dictionary.{dictionary_of, codes_of}
-use Rattle.star_column.specs.Masks.{lies, lies_unsigned, mask_of, narrowed}
-use Rattle.star_column.specs.Width.{bits_of, least_width}
+use Rattle.star_schema.specs.{Bounds.least, Bounds.greatest, Dictionary.dictionary_of, Dictionary.codes_of}
+use Rattle.star_column.specs.{Masks.lies, Masks.lies_unsigned, Masks.mask_of, Masks.narrowed, Width.bits_of, Width.least_width}
 
 numbers : List ℤ
 numbers = map pos (range_with_len 0 130)

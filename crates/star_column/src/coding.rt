@@ -2,12 +2,10 @@
 // order; the index of a text there is its code.
 
 ghost use Rattle.std.specs.Prelude.{◌≡◌, ◌-◌, ◌<◌, ◌^◌, All, IfOk, length, map, slice_index};
-ghost use Rattle.std.specs.Int.RustNames.{unsigned_abs};
-ghost use Rattle.std.specs.List.Sorted.{IsStrictlySortedBy};
+ghost use Rattle.std.specs.{Int.RustNames.unsigned_abs, List.Sorted.IsStrictlySortedBy};
 ghost use Rattle.star_flat.specs.Repeated.{AreRepeated, places_in, texts_at_places};
 ghost use Rattle.star_schema.specs.Dictionary.{text_cmp};
-ghost use Rattle.star_column.specs.Width.{least_width};
-ghost use Rattle.star_column.specs.Private.Words.{numbers_in, word_bits};
+ghost use Rattle.star_column.specs.{Width.least_width, Private.Words.numbers_in, Private.Words.word_bits};
 
 use crate::dictionary::Dictionary;
 use crate::words::{Word, Words};

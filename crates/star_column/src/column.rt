@@ -2,8 +2,7 @@
 
 ghost use Rattle.std.specs.Prelude.{◌≡◌, ◌<◌, ℤ, List, All, Some, length, slice_get};
 ghost use Rattle.star_schema.specs.Bounds.{least, greatest};
-ghost use Rattle.star_interval.specs.Range.{Holds};
-ghost use Rattle.star_interval.specs.Interval.{range_of};
+ghost use Rattle.star_interval.specs.{Range.Holds, Interval.range_of};
 
 use star_interval::Interval;
 

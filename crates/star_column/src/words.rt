@@ -1,11 +1,9 @@
 // Unsigned numbers in words of 8, 16, 32 or 64 bits.
 
 ghost use Rattle.std.specs.Prelude.{◌≡◌, ◌+◌, ◌-◌, ◌<◌, ◌^◌, ℕ, ◌-ℤ◌, ◌≤ℤ◌, All, IfOk, Some, length, map, slice_get, true};
-ghost use Rattle.std.specs.Int.RustNames.{unsigned_abs};
-ghost use Rattle.star_interval.specs.Range.{Holds};
-ghost use Rattle.star_interval.specs.Interval.{range_of};
-ghost use Rattle.star_column.specs.Width.{least_width};
-ghost use Rattle.star_column.specs.Private.Words.{numbers_above, numbers_in, word_bits};
+ghost use Rattle.std.specs.{Int.RustNames.unsigned_abs};
+ghost use Rattle.star_interval.specs.{Range.Holds, Interval.range_of};
+ghost use Rattle.star_column.specs.{Width.least_width, Private.Words.numbers_above, Private.Words.numbers_in, Private.Words.word_bits};
 
 use crate::view::LentWords;
 use star_flat::{SignedWord, release};

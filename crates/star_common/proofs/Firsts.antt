@@ -1,8 +1,7 @@
 -- The first answer that the elements of a list give.
 use Rattle.std.proofs.Common.{◌≡◌, ◌+◌, ℕ, zero, suc, List, [], ◌∷◌, All, Option, Some, None, drop, arith, refl}
-use Rattle.std.specs.List.{enumerate_from, slice_get}
-use Rattle.std.specs.Option.{option_or}
-use Rattle.std.proofs.lemmas.List.Elements.{All-cons, All-head, All-nil, All-tail}
+use Rattle.std.proofs.{lemmas.List.Elements.All-cons, lemmas.List.Elements.All-head, lemmas.List.Elements.All-nil, lemmas.List.Elements.All-tail}
+use Rattle.std.specs.{List.enumerate_from, List.slice_get, Option.option_or}
 use Rattle.star_common.specs.First.{first_answer}
 use Rattle.star_common.proofs.Lists.{drop_at_place}
 

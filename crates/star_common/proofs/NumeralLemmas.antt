@@ -1,15 +1,7 @@
 -- The number that some digits write.
 use Rattle.std.proofs.Common.{◌≡◌, ◌+◌, ◌*◌, ◌^◌, ◌<◌, ◌≤◌, ℕ, Option, Some, None, IfSome, Bool, true, false, ◌&&◌, List, [], ◌∷◌, get_or, length, take, arith, refl, lit<, add-one}
-use Rattle.std.specs.Char.{digit_value, is_ascii_digit}
-use Rattle.std.specs.List.{list_all}
-use Rattle.std.specs.Prelude.{if◌then◌else◌, nat_le}
-use Rattle.std.specs.Str.Parse.{AllDigits, digits_value}
-use Rattle.std.proofs.Math.Seq.{take-suc}
-use Rattle.std.proofs.lemmas.Bool.{and_parts, leb-true}
-use Rattle.std.proofs.lemmas.Int.Digits.{digits_value-lt, digits_value_more}
-use Rattle.std.proofs.lemmas.List.Folds.{list_all-append}
-use Rattle.std.proofs.lemmas.Str.{digit_value_digit}
-use Rattle.std.proofs.Math.Nat.{pow-le-pow_right, pow-suc}
+use Rattle.std.proofs.{Math.Seq.take-suc, lemmas.Bool.and_parts, lemmas.Bool.leb-true, lemmas.Int.Digits.digits_value-lt, lemmas.Int.Digits.digits_value_more, lemmas.List.Folds.list_all-append, lemmas.Str.digit_value_digit, Math.Nat.pow-le-pow_right, Math.Nat.pow-suc}
+use Rattle.std.specs.{Char.digit_value, Char.is_ascii_digit, List.list_all, Prelude.if◌then◌else◌, Prelude.nat_le, Str.Parse.AllDigits, Str.Parse.digits_value}
 use Rattle.star_common.specs.Numerals.{is_numeral, numeral_of}
 
 -- a digit is a byte from 48 to 57

@@ -1,7 +1,6 @@
 -- Tables of worked rows: what a function is given, and what it gives.
 use Rattle.std.proofs.Common.{◌≡◌, List, [], ◌∷◌, ap, subst}
-use Rattle.std.specs.Prelude.{map}
-use Rattle.std.specs.List.{AllByRecursion}
+use Rattle.std.specs.{Prelude.map, List.AllByRecursion}
 
 -- each row is an input and what comes of it
 abbrev pub Gives : {A B : Type 0} → (A → B) → List (A × B) → Type 0

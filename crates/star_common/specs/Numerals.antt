@@ -1,8 +1,6 @@
 -- Decimal numbers.
 use Rattle.std.specs.Prelude.{◌&&◌, if◌then◌else◌, Bool, ℕ, List, Option, Some, None, length, nat_le}
-use Rattle.std.specs.Char.{is_ascii_digit}
-use Rattle.std.specs.List.{list_all}
-use Rattle.std.specs.Str.Parse.{digits_value}
+use Rattle.std.specs.{Char.is_ascii_digit, List.list_all, Str.Parse.digits_value}
 
 -- 1 to `places` digits
 abbrev pub is_numeral : ℕ → List ℕ → Bool

@@ -1,7 +1,6 @@
 // Printable bytes.
 
-ghost use Rattle.std.specs.Prelude.{◌≡◌};
-ghost use Rattle.std.specs.List.{list_all};
+ghost use Rattle.std.specs.{Prelude.◌≡◌, List.list_all};
 ghost use Rattle.star_common.specs.Printable as spec;
 
 /// Tests whether a byte is printable ASCII, from space to tilde.

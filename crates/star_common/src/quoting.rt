@@ -1,7 +1,6 @@
 // Quoted texts.
 
-ghost use Rattle.std.specs.Prelude.{◌≡◌, ◌++◌, OnOk};
-ghost use Rattle.std.specs.List.{flat_map};
+ghost use Rattle.std.specs.{Prelude.◌≡◌, Prelude.◌++◌, Prelude.OnOk, List.flat_map};
 ghost use Rattle.star_common.specs.Quotes.{doubled, quoted};
 
 use std::alloc::AllocError;

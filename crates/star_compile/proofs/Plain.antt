@@ -1,23 +1,15 @@
 -- The program of a plain plan.
 use Rattle.std.proofs.Common.{◌≡◌, ◌∙◌, ◌<◌, ◌≤◌, ◌+◌, ℕ, zero, suc, List, [], ◌∷◌, ◌++◌, ap, append_assoc, arith, drop, length, length-append, map, refl, sym, true}
+use Rattle.std.proofs.{lemmas.List.append-nil, lemmas.List.drop_all}
 use Rattle.std.specs.List.{list_all}
-use Rattle.std.proofs.lemmas.List.{append-nil, drop_all}
-use Rattle.star_schema.specs.declared.group.GroupColumn.{GroupColumn}
-use Rattle.star_schema.specs.declared.group.GroupColumn.TheVariants as group
-use Rattle.star_schema.specs.declared.group.Shape.{Shape}
-use Rattle.star_schema.specs.declared.group.SortKey.{SortKey}
-use Rattle.star_plan.specs.Limits.{IsPlanWithinLimits}
-use Rattle.star_plan.specs.Meaning.{Plan}
-use Rattle.star_plan.specs.Sound.{IsSoundPlan, is_group_column}
-use Rattle.star_plan.specs.Views.{column_measure_view, measures_view, plan_view}
-use Rattle.star_plan.specs.declared.tree.Aggregate.{Aggregate}
-use Rattle.star_plan.specs.declared.tree.PlanTree.{PlanTree}
+use Rattle.star_schema.specs.{declared.group.GroupColumn.GroupColumn, declared.group.Shape.Shape, declared.group.SortKey.SortKey, declared.column.ColumnId.ColumnId}
+use Rattle.star_plan.specs.{Limits.IsPlanWithinLimits, Meaning.Plan, Sound.IsSoundPlan, Sound.is_group_column, Views.column_measure_view, Views.measures_view, Views.plan_view, declared.tree.Aggregate.Aggregate, declared.tree.PlanTree.PlanTree}
 use Rattle.star_query.specs.Tree.{Measure}
-use Rattle.star_schema.specs.declared.column.ColumnId.{ColumnId}
 use Rattle.star_compile_laws.specs.Compiled.{plan_show}
 use Rattle.star_merge_laws.specs.Plain.{columns_at, plain_plan}
 use Rattle.star_merge_laws.proofs.PartialFacts.{plain_sound}
 use Rattle.star_compile.specs.Private.Shown.{plan_shown}
+use Rattle.star_schema.specs.declared.group.GroupColumn.TheVariants as group
 
 -- what is shown of a column doesn't depend on the other columns that are shown
 pub shows_same : (p : Plan) (shape : Shape) (items : List GroupColumn) (sorts : List SortKey)

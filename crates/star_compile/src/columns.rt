@@ -2,12 +2,11 @@
 
 ghost use Rattle.std.specs.Prelude.{◌≡◌, IfOk};
 ghost use Rattle.star_program.specs.World.{is_column};
-ghost use Rattle.star_schema.specs.Schema as schema;
-ghost use Rattle.star_schema.specs.Schema.{is_table};
-ghost use Rattle.star_schema.specs.declared.table.TableId.TheVariants.{Lineorder};
-ghost use Rattle.star_compile_laws.specs.Compiled as spec;
+ghost use Rattle.star_schema.specs.{Schema.is_table, declared.table.TableId.TheVariants.Lineorder};
 ghost use Rattle.star_compile_laws.specs.Compiled.{foreign_of, register_in};
 ghost use Rattle.star_compile.specs.Private.Emitted.{HasRegisterRoom, Writes, find_code};
+ghost use Rattle.star_schema.specs.Schema as schema;
+ghost use Rattle.star_compile_laws.specs.Compiled as spec;
 
 use crate::emitter::Emitter;
 use star_plan::Join;

@@ -1,12 +1,11 @@
 // Compiles comparisons of a column with literals.
 
 ghost use Rattle.std.specs.Prelude.{◌≡◌, true, IfOk};
-ghost use Rattle.star_plan.specs.Views.{literal_value_view};
-ghost use Rattle.star_plan.specs.Spelled.{value_is_spelled};
+ghost use Rattle.star_plan.specs.{Views.literal_value_view, Spelled.value_is_spelled};
 ghost use Rattle.star_program.specs.declared.op.Operation.TheVariants.{Binary};
+ghost use Rattle.star_compile.specs.Private.Emitted.{HasRegisterRoom, Writes};
 ghost use Rattle.star_query.specs.declared.token.Relation.TheVariants as sign;
 ghost use Rattle.star_compile_laws.specs.Compiled as spec;
-ghost use Rattle.star_compile.specs.Private.Emitted.{HasRegisterRoom, Writes};
 
 use crate::emitter::Emitter;
 use crate::operands::{edge_of, end_of, start_of};

@@ -1,14 +1,10 @@
 // The program of a plan.
 
 ghost use Rattle.std.specs.Prelude.{◌≡◌, ◌+◌, ◌≤◌, true, IfOk, length};
-ghost use Rattle.std.specs.List.{list_all};
+ghost use Rattle.std.specs.{List.list_all};
 ghost use Rattle.star_schema.specs.declared.table.TableId.TheVariants.{Lineorder};
-ghost use Rattle.star_plan.specs.Limits.{IsPlanWithinLimits};
-ghost use Rattle.star_plan.specs.Views.{plan_view};
-ghost use Rattle.star_plan.specs.Sound.{IsSoundPlan, is_group_column};
-ghost use Rattle.star_plan.specs.Spelled.{IsSpelledPlan, condition_is_spelled};
-ghost use Rattle.star_program.specs.Code.{Each, Stop};
-ghost use Rattle.star_program.specs.CodeOfSteps.{code_of_steps};
+ghost use Rattle.star_plan.specs.{Limits.IsPlanWithinLimits, Views.plan_view, Sound.IsSoundPlan, Sound.is_group_column, Spelled.IsSpelledPlan, Spelled.condition_is_spelled};
+ghost use Rattle.star_program.specs.{Code.Each, Code.Stop, CodeOfSteps.code_of_steps};
 ghost use Rattle.star_compile_laws.specs.Compiled.{compiled, register_count, turn_code};
 ghost use Rattle.star_merge_laws.specs.Plain.{plain_plan};
 ghost use Rattle.star_compile.specs.Private.Shown.{plan_shown};

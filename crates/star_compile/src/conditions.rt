@@ -1,13 +1,11 @@
 // Compiles conditions and filters.
 
-ghost use Rattle.std.specs.Prelude.{◌≡◌, true, map, IfOk};
-ghost use Rattle.std.specs.List.{list_all};
+ghost use Rattle.std.specs.{Prelude.◌≡◌, Prelude.true, Prelude.map, Prelude.IfOk, List.list_all};
 ghost use Rattle.star_query.specs.Tree.{test};
-ghost use Rattle.star_plan.specs.Views.{comparison_view, row_condition_view};
-ghost use Rattle.star_plan.specs.Spelled.{condition_is_spelled};
-ghost use Rattle.star_compile_laws.specs.Compiled as spec;
+ghost use Rattle.star_plan.specs.{Views.comparison_view, Views.row_condition_view, Spelled.condition_is_spelled};
 ghost use Rattle.star_compile_laws.specs.Compiled.{condition_code};
 ghost use Rattle.star_compile.specs.Private.Emitted.{HasRegisterRoom, Writes, Wrote};
+ghost use Rattle.star_compile_laws.specs.Compiled as spec;
 
 use crate::emitter::Emitter;
 use star_plan::{Join, RowCondition};

@@ -1,13 +1,11 @@
 // The declarations of a program: its group, and the shown columns and their order.
 
 ghost use Rattle.std.specs.Prelude.{◌≡◌, ◌≤◌, true, length, map, IfOk};
-ghost use Rattle.std.specs.List.{list_all};
-ghost use Rattle.star_plan.specs.Meaning.{aggregate_of};
-ghost use Rattle.star_plan.specs.Views.{column_measure_view, measures_view, plan_view};
-ghost use Rattle.star_plan.specs.Sound.{is_group_column};
-ghost use Rattle.star_compile_laws.specs.Compiled as spec;
+ghost use Rattle.std.specs.{List.list_all};
+ghost use Rattle.star_plan.specs.{Meaning.aggregate_of, Views.column_measure_view, Views.measures_view, Views.plan_view, Sound.is_group_column};
 ghost use Rattle.star_merge_laws.specs.Plain.{plain_plan};
 ghost use Rattle.star_query_meaning.specs.Answers.{shown_name};
+ghost use Rattle.star_compile_laws.specs.Compiled as spec;
 
 use star_plan::PlanTree;
 use star_program::{GroupDecl, GroupKey, Items, Show};

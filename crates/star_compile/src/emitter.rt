@@ -1,10 +1,9 @@
 // Emits the instructions of a scan's body, in order.
 
 ghost use Rattle.std.specs.Prelude.{◌≡◌, ◌+◌, ◌<◌, ◌++◌, ◌∷◌, [], IfOk};
-ghost use Rattle.star_program.specs.declared.body.Step.TheVariants.{Act};
-ghost use Rattle.star_program.specs.declared.op.Op.TheVariants.{Assign, Keep, Put};
-ghost use Rattle.star_compile_laws.specs.Compiled as spec;
+ghost use Rattle.star_program.specs.{declared.body.Step.TheVariants.Act, declared.op.Op.TheVariants.Assign, declared.op.Op.TheVariants.Keep, declared.op.Op.TheVariants.Put};
 ghost use Rattle.star_compile.specs.Private.Emitted.{HasRegisterRoom, Writes};
+ghost use Rattle.star_compile_laws.specs.Compiled as spec;
 
 use star_program::{Items, Op, Operation, Step};
 use star_schema::{ColumnId, TableId};

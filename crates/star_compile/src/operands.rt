@@ -1,8 +1,7 @@
 // The operands of comparisons.
 
 ghost use Rattle.std.specs.Prelude.{◌≡◌, true, IfOk};
-ghost use Rattle.star_plan.specs.Views.{literal_value_view};
-ghost use Rattle.star_plan.specs.Spelled.{value_is_spelled};
+ghost use Rattle.star_plan.specs.{Views.literal_value_view, Spelled.value_is_spelled};
 ghost use Rattle.star_program.specs.declared.op.Operation.TheVariants as operation;
 ghost use Rattle.star_compile_laws.specs.Compiled as spec;
 

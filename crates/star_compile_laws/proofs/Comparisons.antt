@@ -2,9 +2,8 @@
 use Rattle.std.proofs.Common.{◌≡◌, ℕ, Bool, true, false, List, refl, sym, ap, ◌∙◌, arith, cond}
 use Rattle.std.proofs.{lemmas.Int.ints}
 use Rattle.std.specs.Prelude.{ℤ, pos, ◌+ℤ◌, ◌&&◌, not, nat_lt, nat_eq, int_lt}
-use Rattle.std.specs.declared.cmp.Ordering.{Ordering, TheVariants.Less, TheVariants.Equal, TheVariants.Greater}
 use Rattle.std.specs.Ordering.{int_cmp, nat_cmp, is_eq, is_ne, is_lt, is_le, is_gt, is_ge, ordering_reverse}
-use Rattle.std.specs.Cmp.{Lexicographic.slice_cmp, Lexicographic.nat_list_cmp_total, int_cmp_total, nat_cmp_total}
+use Rattle.std.specs.{declared.cmp.Ordering.Ordering, declared.cmp.Ordering.TheVariants.Less, declared.cmp.Ordering.TheVariants.Equal, declared.cmp.Ordering.TheVariants.Greater, Cmp.Lexicographic.slice_cmp, Cmp.Lexicographic.nat_list_cmp_total, Cmp.int_cmp_total, Cmp.nat_cmp_total}
 
 pub lt_by : (a b : Bool) → is_lt (cond a Less (cond b Greater Equal)) ≡ a
 lt_by true b = refl

@@ -3,15 +3,14 @@ use Rattle.std.proofs.Common.{◌≡◌, ℕ, Bool, true, false, List, [], ◌�
 use Rattle.std.specs.Prelude.{ℤ, pos, ◌+ℤ◌}
 use Rattle.star_schema.specs.{declared.table.TableId.TableId, declared.column.ColumnId.ColumnId, Schema.table_of, Tables.Value, Tables.Number, Tables.Text}
 use Rattle.star_interval.specs.Range.{is_i64}
-use Rattle.star_query.specs.{declared.token.Relation.Relation, Spelled.has_few_digits, Spelled.is_printable_text}
-use Rattle.star_query.specs.declared.token.Relation.TheVariants as sign
 use Rattle.star_query.specs.Tree.{Comparison, Expression, Measure, constant, add, sub, mul, or, and, not, compare, between, test, count, fold}
+use Rattle.star_query.specs.{declared.token.Relation.Relation, Spelled.has_few_digits, Spelled.is_printable_text}
 use Rattle.star_plan.specs.{declared.tree.Join.Join, Meaning.RowCondition, Sound.joins_table}
-use Rattle.star_program.specs.declared.op.{Edge.Edge, Edge.TheVariants.High, Edge.TheVariants.Low, Operation.Operation, Operator.Operator}
 use Rattle.star_program.specs.declared.op.Operation.TheVariants.{Binary, Const, Edge as edge_of, Find, Load, Not, Within}
-use Rattle.star_program.specs.declared.op.Operator.TheVariants as operator
-use Rattle.star_program.specs.{Code.Code, World.is_text}
+use Rattle.star_program.specs.{declared.op.Edge.Edge, declared.op.Edge.TheVariants.High, declared.op.Edge.TheVariants.Low, declared.op.Operation.Operation, declared.op.Operator.Operator, Code.Code, World.is_text}
 use Rattle.star_compile_laws.specs.Compiled.{Env, Rest, beside, column_code, condition_code, foreign_of, test_code, between_code, write}
+use Rattle.star_query.specs.declared.token.Relation.TheVariants as sign
+use Rattle.star_program.specs.declared.op.Operator.TheVariants as operator
 
 -- ---- tests
 

@@ -2,11 +2,10 @@
 use Rattle.std.proofs.Common.{◌≡◌, ℕ, zero, suc, ◌+◌, Bool, true, false, List, [], ◌∷◌, Option, Some, None, refl, sym, ap, subst, ◌∙◌, cond}
 use mathlib.Core.Logic.{inl, inr}
 use Rattle.std.specs.Prelude.{pos, ◌&&◌, map, replicate, slice_index_or}
-use Rattle.std.specs.{List.Contains, List.list_all, Option.is_none, Option.option_map, Ordering.is_eq}
-use Rattle.std.specs.declared.cmp.Ordering.{Ordering}
+use Rattle.std.specs.{List.Contains, List.list_all, Option.is_none, Option.option_map, Ordering.is_eq, declared.cmp.Ordering.Ordering}
 use Rattle.star_common.proofs.Members.{contains_here, contains_later, contains_mapped, from_contains_map}
-use Rattle.star_schema.specs.declared.group.{Shape.Shape, Shape.TheVariants.Plain, Shape.TheVariants.Cube, Shape.TheVariants.Rollup, Aggregate.Aggregate}
 use Rattle.star_schema.specs.Groups.{Entry, IsMasked, IsGroup, belongs, is_grouping, members, aggregate, numbers_for, totals_from, GroupRow, AreGroups}
+use Rattle.star_schema.specs.{declared.group.Shape.Shape, declared.group.Shape.TheVariants.Plain, declared.group.Shape.TheVariants.Cube, declared.group.Shape.TheVariants.Rollup, declared.group.Aggregate.Aggregate}
 
 -- each key by the function of its place
 abbrev pub applied : {K L : Type 0} → (ℕ → K → L) → List K → List L

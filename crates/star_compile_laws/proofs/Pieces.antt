@@ -1,24 +1,22 @@
 -- A law of a turn by one induction over the pieces of a compiled program: it holds of a piece where
 -- it holds of what follows the piece, at each point that the piece can come to.
 use Rattle.std.proofs.Common.{◌≡◌, ℕ, ◌+◌, Bool, true, false, List, [], ◌∷◌, Option, Some, None, map, refl, subst}
-use Rattle.std.specs.Prelude.{◌&&◌, ◌||◌}
-use Rattle.std.specs.{List.list_all}
-use Rattle.std.proofs.lemmas.Bool.{and_parts}
-use Rattle.star_schema.specs.declared.{table.TableId.TableId, table.TableId.TheVariants.Lineorder, column.ColumnId.ColumnId}
-use Rattle.star_schema.specs.declared.column.Kind.TheVariants as kind
-use Rattle.star_schema.specs.{Schema.is_table, Schema.kind_of, Schema.table_of, Tables.Value}
+use Rattle.std.proofs.{lemmas.Bool.and_parts}
+use Rattle.std.specs.{Prelude.◌&&◌, Prelude.◌||◌, List.list_all}
+use Rattle.star_schema.specs.{declared.table.TableId.TableId, declared.table.TableId.TheVariants.Lineorder, declared.column.ColumnId.ColumnId, Schema.is_table, Schema.kind_of, Schema.table_of, Tables.Value}
 use Rattle.star_schema.proofs.Same.{column_same, table_same}
 use Rattle.star_query.specs.Tree.{Comparison, Expression, Measure, column, constant, add, sub, mul, or, and, not, test, count, fold}
-use Rattle.star_plan.specs.declared.tree.Join.{Join}
-use Rattle.star_plan.specs.{Meaning.Plan, Meaning.RowCondition, Names.same_kind, Spelled.IsSpelledPlan, Spelled.condition_is_spelled, Spelled.expression_is_spelled, Spelled.measure_is_spelled}
 use Rattle.star_plan.specs.Sound.{IsSoundPlan, column_is_sound, comparison_is_sound, condition_is_sound, expression_is_sound, in_scope, joins_table, measure_is_sound}
-use Rattle.star_program.specs.declared.op.{Op.TheVariants.Assign, Op.TheVariants.Keep, Op.TheVariants.Put, Operation.Operation, Operator.Operator}
+use Rattle.star_plan.specs.{declared.tree.Join.Join, Meaning.Plan, Meaning.RowCondition, Names.same_kind, Spelled.IsSpelledPlan, Spelled.condition_is_spelled, Spelled.expression_is_spelled, Spelled.measure_is_spelled}
 use Rattle.star_program.specs.declared.op.Operation.TheVariants.{Binary, Const, Find, Load, Not, Within}
-use Rattle.star_program.specs.declared.op.Operator.TheVariants as operator
-use Rattle.star_program.specs.{Code.Code, Code.Stop, Code.Then, World.is_column}
-use Rattle.star_compile_laws.specs.Compiled.{Env, Rest, one_before, beside, binary_code, column_code, column_from, condition_code, conjuncts_code, env_first, expression_code, fact_code, foreign_of, keys_code, load_code, register_in, one_more, place_code, row_code, turn_code, values_code, with_found, with_loaded, write}
-use Rattle.star_compile_laws.proofs.Contents.{AllHold, Content, Form, IsLimit, Limit, Makes, OfColumn, OfCondition, OfExpression, OfLimit, OfRow, OfTest, adds, after, all_kept, before, both, column_tested, comparison_code, comparison_form, constant_made, denies, either, fails, finds, form_code, has_form, is_after, is_before, is_within, limit_of, limits, loads, multiplies, negated, numbers_put, operator_of, subtracts, tested_code, within}
+use Rattle.star_program.specs.{declared.op.Op.TheVariants.Assign, declared.op.Op.TheVariants.Keep, declared.op.Op.TheVariants.Put, declared.op.Operation.Operation, declared.op.Operator.Operator, Code.Code, Code.Stop, Code.Then, World.is_column}
+use Rattle.star_compile_laws.specs.Compiled.{Env, Rest, one_before, beside, binary_code, column_code, column_from, condition_code, conjuncts_code, env_first, expression_code, fact_code, foreign_of, keys_code, load_code, register_in, one_more, place_code, row_code, turn_code, values_code}
+use Rattle.star_compile_laws.specs.Compiled.{with_found, with_loaded, write}
+use Rattle.star_compile_laws.proofs.Contents.{AllHold, Content, Form, IsLimit, Limit, Makes, OfColumn, OfCondition, OfExpression, OfLimit, OfRow, OfTest, adds, after, all_kept, before, both, column_tested, comparison_code, comparison_form, constant_made, denies, either, fails, finds}
+use Rattle.star_compile_laws.proofs.Contents.{form_code, has_form, is_after, is_before, is_within, limit_of, limits, loads, multiplies, negated, numbers_put, operator_of, subtracts, tested_code, within}
 use Rattle.star_compile_laws.proofs.{Entries.entry_added, ForeignKeys.AreForeign, ForeignKeys.are_foreign, Limits.IsForm, Limits.form_is_fit, Limits.tested_in_scope}
+use Rattle.star_schema.specs.declared.column.Kind.TheVariants as kind
+use Rattle.star_program.specs.declared.op.Operator.TheVariants as operator
 
 -- the end of a turn
 abbrev end_of_turn : List ℕ → Env → List ℕ → Code

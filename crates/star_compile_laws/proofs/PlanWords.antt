@@ -1,9 +1,8 @@
 -- The comparisons and aggregates of worked plans, as a reader says them.
 use Rattle.star_schema.specs.{declared.column.ColumnId.ColumnId, Tables.Value}
-use Rattle.star_query.specs.declared.token.{Fold.TheVariants.Sum, Fold.TheVariants.Min, Fold.TheVariants.Max, Relation.Relation}
-use Rattle.star_query.specs.Tree as tree
-use Rattle.star_query.specs.Tree.{Expression, Measure, fold, test}
+use Rattle.star_query.specs.{declared.token.Fold.TheVariants.Sum, declared.token.Fold.TheVariants.Min, declared.token.Fold.TheVariants.Max, declared.token.Relation.Relation, Tree.Expression, Tree.Measure, Tree.fold, Tree.test}
 use Rattle.star_plan.specs.Meaning.{RowCondition}
+use Rattle.star_query.specs.Tree as tree
 
 abbrev pub compare : ColumnId → Relation → Value → RowCondition
 compare c sign value = test (tree.compare c sign value)

@@ -1,6 +1,5 @@
 -- The answers of plans are those of their queries.
-use Rattle.std.proofs.Common.{ℕ, List, refl, ◌∙◌}
-use Rattle.std.proofs.{lemmas.List.Sorted.length_permutation}
+use Rattle.std.proofs.{Common.ℕ, Common.List, Common.refl, Common.◌∙◌, lemmas.List.Sorted.length_permutation}
 use Rattle.std.specs.Prelude.{All}
 use Rattle.star_schema.specs.{declared.table.TableId.TableId, Database.Database, Database.rows_in, Loadable.IsSound, Tables.IsRowOf}
 use Rattle.star_query.specs.{Derives.Means, Tree.Tree}

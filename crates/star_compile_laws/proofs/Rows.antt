@@ -2,21 +2,20 @@
 use Rattle.std.proofs.Common.{◌≡◌, ℕ, zero, suc, ◌+◌, ◌<◌, Bool, true, false, List, [], ◌∷◌, ◌++◌, length, Option, Some, None, refl, sym, ap, subst, ◌∙◌, arith, append-nil, zero-add, cond}
 use mathlib.Core.List.{reverse_aux, map-map}
 use Rattle.std.proofs.lemmas.Bool.{and_parts, cond-true, cond-false, false_from_ne_true, true≢false}
+use Rattle.std.proofs.{lemmas.List.length-map, lemmas.List.Sums.sum_by-cons, lemmas.Cmp.tied_itself}
 use Rattle.std.specs.Prelude.{ℤ, ◌||◌, map, filter, if◌then◌else◌, unwrap_or}
-use Rattle.std.specs.{List.flat_map, List.AllByRecursion, List.sum_by, Ordering.int_cmp, Ordering.is_eq, FinMap.int_cmp-IsAntisymmetric, Cmp.int_cmp_total}
-use Rattle.std.proofs.lemmas.{List.length-map, List.Sums.sum_by-cons, Cmp.tied_itself}
-use Rattle.std.specs.declared.cmp.Ordering.{Ordering, TheVariants.Less, TheVariants.Equal, TheVariants.Greater}
-use Rattle.star_schema.specs.declared.{table.TableId.TableId, table.TableId.TheVariants.Lineorder, column.ColumnId.ColumnId}
-use Rattle.star_schema.specs.{Order.value_cmp, Schema.is_table, Schema.key_of, Schema.references, Schema.table_of, Tables.Value, Tables.Number, Tables.Text}
+use Rattle.std.specs.{List.flat_map, List.AllByRecursion, List.sum_by, Ordering.int_cmp, Ordering.is_eq, FinMap.int_cmp-IsAntisymmetric, Cmp.int_cmp_total, declared.cmp.Ordering.Ordering, declared.cmp.Ordering.TheVariants.Less, declared.cmp.Ordering.TheVariants.Equal}
+use Rattle.std.specs.{declared.cmp.Ordering.TheVariants.Greater}
+use Rattle.star_schema.specs.{declared.table.TableId.TableId, declared.table.TableId.TheVariants.Lineorder, declared.column.ColumnId.ColumnId, Order.value_cmp, Schema.is_table, Schema.key_of, Schema.references, Schema.table_of, Tables.Value, Tables.Number, Tables.Text}
 use Rattle.star_schema.proofs.{KeyColumns.foreign_key, Same.table_same}
-use Rattle.star_plan.specs.{declared.tree.Join.Join, Joins.is_foreign, Joins.is_lone_key, Joins.refers, Sound.joins_table, Sound.IsSoundPlan}
 use Rattle.star_plan.specs.Meaning.{Row, Tables, Joined, value_in, joined_value, with_row, only_row, matches, partners, joined_rows, all_hold, plan_rows, Plan}
-use Rattle.star_program.specs.{World.World, World.IsRowNumberOf, World.is_text, Values.no_registers, Effects.State, Effects.empty_state, ShowLines.shown_fault}
+use Rattle.star_plan.specs.{declared.tree.Join.Join, Joins.is_foreign, Joins.is_lone_key, Joins.refers, Sound.joins_table, Sound.IsSoundPlan}
 use Rattle.star_program.specs.Run.{End, Ended, unless_unshown, meaning_of, run_while}
+use Rattle.star_program.specs.{World.World, World.IsRowNumberOf, World.is_text, Values.no_registers, Effects.State, Effects.empty_state, ShowLines.shown_fault}
 use Rattle.star_query_meaning.proofs.{Choices.IsStar, Choices.is_star, Choices.no_key_of_fact, Choices.table_turned, OwnTables.among_dimensions}
+use Rattle.star_compile_laws.proofs.TurnRows.{Sees, Shows, IsTurn, row_at, numbers, place_in}
 use Rattle.star_compile_laws.proofs.{ForeignKeys.each_passes, ForeignKeys.join_of, Joins.foreign_refers, Joins.of_text, Turns.Scanned, Turns.scan_runs, Turns.updates_of_rows, Programs.shows_what_is_there}
 use Rattle.star_compile_laws.specs.{Compiled.foreign_of, Compiled.compiled, Answers.PutsTheRows, Answers.update_of_row, Counts.lookups_of, Counts.turn_lookups}
-use Rattle.star_compile_laws.proofs.TurnRows.{Sees, Shows, IsTurn, row_at, numbers, place_in}
 
 -- what a join of the plan gives
 record IsJoin (ts : Tables) (w : World) (j : Join) : Type 0 where

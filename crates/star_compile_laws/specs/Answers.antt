@@ -1,16 +1,14 @@
 -- What a run of a compiled program has put, and what it answers.
 use Rattle.std.specs.Prelude.{◌≡◌, ℕ, Bool, List, map, reverse}
-use Rattle.star_schema.specs.declared.column.ColumnId.{ColumnId}
-use Rattle.star_schema.specs.{Tables.Value, Tables.Number, Tables.Text, Database.Database}
+use Rattle.star_schema.specs.{declared.column.ColumnId.ColumnId, Tables.Value, Tables.Number, Tables.Text, Database.Database}
 use Rattle.star_query.specs.Tree.{Tree}
 use Rattle.star_plan.specs.Meaning.{Joined, Plan, Tables, measured, plan_rows, joined_value}
-use Rattle.star_program.specs.declared.{key.KeyValue.KeyValue, outcome.Outcome.Outcome}
-use Rattle.star_program.specs.declared.key.KeyValue.TheVariants as key
-use Rattle.star_program.specs.{Effects.State, Outcome.IsOutcome, Puts.Update, Run.Ended, Run.run_while, World.World}
+use Rattle.star_program.specs.{declared.key.KeyValue.KeyValue, declared.outcome.Outcome.Outcome, Effects.State, Outcome.IsOutcome, Puts.Update, Run.Ended, Run.run_while, World.World}
 use Rattle.star_report.specs.Report.{report_text}
 use Rattle.star_world.specs.WorldOf.{world_of}
 use Rattle.star_query_meaning.specs.{Answers.IsAnswer, Answers.IsPlanAnswer, Reports.IsReport}
 use Rattle.star_compile_laws.specs.Compiled.{compiled}
+use Rattle.star_program.specs.declared.key.KeyValue.TheVariants as key
 
 -- a value of a column as a key: a number is itself, and a text is its code
 abbrev pub coded : World → ColumnId → Value → KeyValue

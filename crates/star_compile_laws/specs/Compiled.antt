@@ -1,18 +1,17 @@
 -- The program of a plan.
 use Rattle.std.specs.Prelude.{ℕ, ◌+◌, pos, ◌+ℤ◌, Bool, true, false, List, [], ◌∷◌, ◌++◌, map, Option, Some, None, if◌then◌else◌}
-use Rattle.star_schema.specs.declared.{table.TableId.TableId, table.TableId.TheVariants.Lineorder, column.ColumnId.ColumnId, column.ColumnId.TheVariants.LoOrderdate, group.GroupColumn.GroupColumn}
-use Rattle.star_schema.specs.{Schema.is_table, Schema.table_of, Tables.Value, Tables.Number, Tables.Text}
-use Rattle.star_query.specs.declared.token.Relation.{Relation}
-use Rattle.star_query.specs.declared.token.Relation.TheVariants as sign
-use Rattle.star_plan.specs.declared.tree.Join.{Join}
+use Rattle.star_schema.specs.{declared.table.TableId.TableId, declared.table.TableId.TheVariants.Lineorder, declared.column.ColumnId.ColumnId, declared.column.ColumnId.TheVariants.LoOrderdate, declared.group.GroupColumn.GroupColumn, Schema.is_table, Schema.table_of, Tables.Value}
+use Rattle.star_schema.specs.{Tables.Number, Tables.Text}
 use Rattle.star_query.specs.Tree.{Expression, column, constant, add, sub, mul, or, and, not, test, compare, between, Measure, count, fold}
-use Rattle.star_plan.specs.Meaning.{aggregate_of, Plan, RowCondition}
-use Rattle.star_program.specs.declared.{group.GroupDecl.GroupDecl, group.GroupKey.GroupKey, op.Edge.TheVariants.Low, op.Edge.TheVariants.High, op.Op.TheVariants.Assign, op.Op.TheVariants.Keep, op.Op.TheVariants.Put, op.Operation.Operation, op.Operator.Operator, program.Parts.Parts, program.Show.Show}
-use Rattle.star_program.specs.declared.group.GroupKey.TheVariants as key
+use Rattle.star_query.specs.{declared.token.Relation.Relation}
+use Rattle.star_plan.specs.{declared.tree.Join.Join, Meaning.aggregate_of, Meaning.Plan, Meaning.RowCondition}
 use Rattle.star_program.specs.declared.op.Operation.TheVariants.{Const, Edge, Load, Find, Binary, Within, Not}
-use Rattle.star_program.specs.declared.op.Operator.TheVariants as operator
-use Rattle.star_program.specs.{Code.Code, Code.Stop, Code.Then, Code.Each, Faults.target_of, World.is_column, World.is_text}
+use Rattle.star_program.specs.{declared.group.GroupDecl.GroupDecl, declared.group.GroupKey.GroupKey, declared.op.Edge.TheVariants.Low, declared.op.Edge.TheVariants.High, declared.op.Op.TheVariants.Assign, declared.op.Op.TheVariants.Keep, declared.op.Op.TheVariants.Put}
+use Rattle.star_program.specs.{declared.op.Operation.Operation, declared.op.Operator.Operator, declared.program.Parts.Parts, declared.program.Show.Show, Code.Code, Code.Stop, Code.Then, Code.Each, Faults.target_of, World.is_column, World.is_text}
 use Rattle.star_query_meaning.specs.Answers.{shown_name}
+use Rattle.star_query.specs.declared.token.Relation.TheVariants as sign
+use Rattle.star_program.specs.declared.group.GroupKey.TheVariants as key
+use Rattle.star_program.specs.declared.op.Operator.TheVariants as operator
 
 -- ---- what is known where an instruction stands
 

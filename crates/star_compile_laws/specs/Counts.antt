@@ -1,11 +1,10 @@
 -- How many rows the run of a query's program looks up by their keys.
 use Rattle.std.specs.Prelude.{◌≡◌, ℕ, ◌+◌, Bool, true, List, ◌∷◌, length, map}
-use Rattle.std.specs.List.{sum_by}
+use Rattle.std.specs.{List.sum_by}
 use Rattle.star_schema.specs.declared.table.TableId.TheVariants.{Lineorder}
 use Rattle.star_query.specs.Tree.{Tree}
 use Rattle.star_plan.specs.Meaning.{Joined, Plan, Tables, holds, joined_rows}
-use Rattle.star_program.specs.declared.op.{Op.TheVariants.Assign, Op.TheVariants.Keep, Operation.TheVariants.Find}
-use Rattle.star_program.specs.{Code.Code, Code.Then, Effects.State, Run.Ended, Run.run_while, World.World}
+use Rattle.star_program.specs.{declared.op.Op.TheVariants.Assign, declared.op.Op.TheVariants.Keep, declared.op.Operation.TheVariants.Find, Code.Code, Code.Then, Effects.State, Run.Ended, Run.run_while, World.World}
 use Rattle.star_query_meaning.specs.Rows.{selected}
 use Rattle.star_compile_laws.specs.Compiled.{compiled, turn_code}
 

@@ -1,7 +1,6 @@
 -- What is told of a compiled program that leaves 64 bits.
 use Rattle.std.specs.Prelude.{◌≡◌, ℕ, ℤ, List, Option, Some}
-use Rattle.star_safety.specs.declared.reason.{Reached.Reached, Reason.TheVariants.Overflow}
-use Rattle.star_safety.specs.Admissible.{Refusal, Refused}
+use Rattle.star_safety.specs.{declared.reason.Reached.Reached, declared.reason.Reason.TheVariants.Overflow, Admissible.Refusal, Admissible.Refused}
 
 -- an instruction is refused since a range leaves 64 bits
 abbrev pub IsOverflow : Option Refusal → Type 0

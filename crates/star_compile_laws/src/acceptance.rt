@@ -1,20 +1,13 @@
 //! When nothing refuses a compiled program: exactly where its query fits.
 
 ghost use Rattle.std.specs.Prelude.{◌≡◌, ◌↔◌, ◌≤◌, ◌<◌, ℕ, None, Some, length};
-ghost use Rattle.std.specs.Option.{option_map};
-ghost use Rattle.star_schema.specs.Database.{Database, rows_in};
-ghost use Rattle.star_schema.specs.declared.table.TableId.TheVariants.{Lineorder};
-ghost use Rattle.star_plan.specs.Meaning.{Plan};
-ghost use Rattle.star_plan.specs.Sound.{IsSoundPlan};
-ghost use Rattle.star_plan.specs.Spelled.{IsSpelledPlan};
+ghost use Rattle.std.specs.{Option.option_map};
+ghost use Rattle.star_schema.specs.{Database.Database, Database.rows_in, declared.table.TableId.TheVariants.Lineorder, Columns.bounds_in, Columns.AreBoundsI64};
+ghost use Rattle.star_plan.specs.{Meaning.Plan, Sound.IsSoundPlan, Spelled.IsSpelledPlan};
 ghost use Rattle.star_world.specs.WorldOf.{world_of};
 ghost use Rattle.star_safety.specs.Admissible.{Refused, TooCostly, first_refusal};
-ghost use Rattle.star_schema.specs.Columns.{bounds_in};
 ghost use Rattle.star_query_meaning.specs.Fitting.{PlanFitsTables};
-ghost use Rattle.star_compile_laws.specs.Compiled.{compiled};
-ghost use Rattle.star_schema.specs.Columns.{AreBoundsI64};
-ghost use Rattle.star_compile_laws.specs.Judged.{IsOverflow};
-ghost use Rattle.star_compile_laws.specs.Wide.{turn_wide};
+ghost use Rattle.star_compile_laws.specs.{Compiled.compiled, Judged.IsOverflow, Wide.turn_wide};
 
 /// Nothing refuses the program of a query that fits the tables. Else lineorder's rows are over the
 /// limit on visits, and the program is refused for its quote, which is their number; or one of its

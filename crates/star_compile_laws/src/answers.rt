@@ -1,20 +1,12 @@
 //! Laws of what compiled programs answer: functions with no body, whose clauses are the laws.
 
 ghost use Rattle.std.specs.Prelude.{All, List, ℕ};
-ghost use Rattle.star_schema.specs.declared.table.TableId.{TableId};
-ghost use Rattle.star_schema.specs.Database.{Database, rows_in};
-ghost use Rattle.star_schema.specs.Loadable.{IsSound};
-ghost use Rattle.star_schema.specs.Tables.{IsRowOf};
-ghost use Rattle.star_query.specs.Derives.{Means};
-ghost use Rattle.star_query.specs.Tree.{Tree};
-ghost use Rattle.star_plan.specs.Meaning.{Plan};
-ghost use Rattle.star_plan.specs.Resolved.{IsResolved};
-ghost use Rattle.star_plan.specs.Sound.{IsSoundPlan};
-ghost use Rattle.star_plan.specs.WellNamed.{IsWellNamed};
+ghost use Rattle.star_schema.specs.{declared.table.TableId.TableId, Database.Database, Database.rows_in, Loadable.IsSound, Tables.IsRowOf};
+ghost use Rattle.star_query.specs.{Derives.Means, Tree.Tree};
+ghost use Rattle.star_plan.specs.{Meaning.Plan, Resolved.IsResolved, Sound.IsSoundPlan, WellNamed.IsWellNamed};
 ghost use Rattle.star_program.specs.World.{World};
 ghost use Rattle.star_world.specs.RowsSeen.{IsWorldOf};
-ghost use Rattle.star_compile_laws.specs.Answers.{AnswersThePlan, AnswersTheQuery, ReportsTheQuery};
-ghost use Rattle.star_compile_laws.specs.Counts.{CountsTheRows};
+ghost use Rattle.star_compile_laws.specs.{Answers.AnswersThePlan, Answers.AnswersTheQuery, Answers.ReportsTheQuery, Counts.CountsTheRows};
 
 use star_world::law::sound_rows_have_a_world;
 

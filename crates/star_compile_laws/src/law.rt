@@ -1,16 +1,9 @@
 //! Laws of compiled programs: functions with no body, whose clauses are the laws.
 
 ghost use Rattle.std.specs.Prelude.{◌≡◌, ◌≤◌, ℕ, None};
-ghost use Rattle.star_schema.specs.declared.table.TableId.{TableId};
-ghost use Rattle.star_schema.specs.declared.table.TableId.TheVariants.{Lineorder};
-ghost use Rattle.star_plan.specs.Limits.{IsPlanWithinLimits};
-ghost use Rattle.star_plan.specs.Meaning.{Plan};
-ghost use Rattle.star_plan.specs.Sound.{IsSoundPlan};
-ghost use Rattle.star_plan.specs.Spelled.{IsSpelledPlan};
-ghost use Rattle.star_program.specs.Code.{code_size};
-ghost use Rattle.star_program.specs.Limits.{IsWithinLimits};
-ghost use Rattle.star_program.specs.ShowLines.{shown_fault};
-ghost use Rattle.star_program.specs.Text.Spellable.{IsSpellable};
+ghost use Rattle.star_schema.specs.{declared.table.TableId.TableId, declared.table.TableId.TheVariants.Lineorder};
+ghost use Rattle.star_plan.specs.{Limits.IsPlanWithinLimits, Meaning.Plan, Sound.IsSoundPlan, Spelled.IsSpelledPlan};
+ghost use Rattle.star_program.specs.{Code.code_size, Limits.IsWithinLimits, ShowLines.shown_fault, Text.Spellable.IsSpellable};
 ghost use Rattle.star_safety.specs.Quote.{quote};
 ghost use Rattle.star_compile_laws.specs.Compiled.{compiled};
 

@@ -1,9 +1,8 @@
 -- What a call that writes a text answers, by its last step.
 use Rattle.std.proofs.Common.{ℕ, List}
 use Rattle.std.specs.Prelude.{Result, Ok, Err}
-use Rattle.star_engine.specs.declared.fault.EngineFault.{EngineFault}
-use Rattle.star_engine.specs.declared.fault.EngineFault.TheVariants.{OutOfMemory, Write}
 use Rattle.star_engine.specs.Answered.{Change, IsAnswered, IsUntouched, IsWritten, OrMemory}
+use Rattle.star_engine.specs.{declared.fault.EngineFault.EngineFault, declared.fault.EngineFault.TheVariants.OutOfMemory, declared.fault.EngineFault.TheVariants.Write}
 
 -- a fault of a step before anything is written
 pub stopped : {S : Type 0} (A : Type 0) (sink : Change S) (IsText : List ℕ → Type 0)

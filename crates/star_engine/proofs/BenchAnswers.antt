@@ -1,29 +1,18 @@
 -- What is printed of the programs of the thirteen queries is what is printed of the queries.
 use Rattle.std.proofs.Common.{◌≡◌, ◌≤◌, ◌<◌, ◌+◌, ◌++◌, ◌∙◌, ℕ, Bool, true, false, List, [], ◌∷◌, Some, ap, append_assoc, arith, drop, inl, inr, length, refl, subst, sym}
-use Rattle.std.specs.Prelude.{◌&&◌, ◌↔◌, IsTrue, codes}
-use Rattle.std.specs.Prelude.{Result, Err}
-use Rattle.std.specs.List.{AllByRecursion, slice_get}
-use Rattle.std.proofs.lemmas.List.{append-nil, drop_all, length-append}
+use Rattle.std.proofs.{lemmas.List.append-nil, lemmas.List.drop_all, lemmas.List.length-append}
+use Rattle.std.specs.Prelude.{◌&&◌, ◌↔◌, IsTrue, codes, Result, Err}
+use Rattle.std.specs.{List.AllByRecursion, List.slice_get}
 use Rattle.star_common.proofs.Lists.{drop_at_place}
 use Rattle.star_schema.specs.Database.{Database}
 use Rattle.star_plan.specs.Meaning.{Plan}
 use Rattle.star_program.specs.declared.program.Parts.{Parts}
 use Rattle.star_compile_laws.specs.Compiled.{compiled}
-use Rattle.star_engine.specs.declared.fault.EngineFault.{EngineFault}
-use Rattle.star_engine.specs.declared.fault.EngineFault.TheVariants as engine
-use Rattle.star_engine.specs.declared.thirteen.BenchmarkQuery.{BenchmarkQuery}
-use Rattle.star_engine.specs.declared.thirteen.BenchmarkQuery.TheVariants.{Q11}
-use Rattle.star_engine.specs.declared.thirteen.TheConstants.{THIRTEEN}
-use Rattle.star_engine.specs.Answered.{Change, IsAnswered, IsWritten}
 use Rattle.star_engine.specs.Bench.{AreSections, IsBenchOver, IsFinding, IsSection, named_quote}
-use Rattle.star_engine.specs.Executions.{quote_over}
-use Rattle.star_engine.specs.Notes.{quote_line}
-use Rattle.star_engine.specs.Queries.{FitsRows, IsPlanOf, fact_rows}
-use Rattle.star_engine.specs.Questions.{IsProgramOfQuery}
-use Rattle.star_engine.specs.Thirteen.{query_name, query_text}
-use Rattle.star_engine.specs.Private.BenchSteps.{IsRunFound}
-use Rattle.star_engine.specs.Private.QuerySteps.{IsJudged}
+use Rattle.star_engine.specs.{declared.fault.EngineFault.EngineFault, declared.thirteen.BenchmarkQuery.BenchmarkQuery, declared.thirteen.BenchmarkQuery.TheVariants.Q11, declared.thirteen.TheConstants.THIRTEEN, Answered.Change, Answered.IsAnswered, Answered.IsWritten, Executions.quote_over}
+use Rattle.star_engine.specs.{Notes.quote_line, Queries.FitsRows, Queries.IsPlanOf, Queries.fact_rows, Questions.IsProgramOfQuery, Thirteen.query_name, Thirteen.query_text, Private.BenchSteps.IsRunFound, Private.QuerySteps.IsJudged}
 use Rattle.star_engine.proofs.QueryAnswers.{refusal_told}
+use Rattle.star_engine.specs.declared.fault.EngineFault.TheVariants as engine
 
 -- ---- one query
 

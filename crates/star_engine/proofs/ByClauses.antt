@@ -1,10 +1,9 @@
 -- What a call answers, in one and clause by clause.
 use Rattle.std.proofs.Common.{◌≡◌, ℕ, List, refl}
 use Rattle.std.specs.Prelude.{Result, Ok, Err, IfErr, OnOk}
-use Rattle.star_engine.specs.declared.fault.EngineFault.{EngineFault}
-use Rattle.star_engine.specs.declared.fault.EngineFault.TheVariants.{OutOfMemory, Refused, Write}
 use Rattle.star_engine.specs.Answered.{Change, HasWritten, IsAnswered, IsBrokenOff, IsRefused, IsUntouched}
 use Rattle.star_engine.specs.Noted.{HasTold, IsNoted, IsTellingBrokenOff, IsTellingRefused, IsTellingUntold, Telling}
+use Rattle.star_engine.specs.{declared.fault.EngineFault.EngineFault, declared.fault.EngineFault.TheVariants.OutOfMemory, declared.fault.EngineFault.TheVariants.Refused, declared.fault.EngineFault.TheVariants.Write}
 
 -- ---- a text
 

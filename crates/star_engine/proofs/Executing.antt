@@ -4,23 +4,14 @@ use Rattle.std.specs.Prelude.{◌↔◌}
 use Rattle.star_common.specs.Memory.{UnlessMemory}
 use Rattle.star_schema.specs.Database.{Database}
 use Rattle.star_program.specs.declared.program.Parts.{Parts}
-use Rattle.star_safety.specs.Admissible as admissible
-use Rattle.star_safety.specs.Admissible.{first_refusal}
-use Rattle.star_safety.specs.Admissible.{IsAdmissible}
-use Rattle.star_verify.specs.declared.refusal.Refusal.{Refusal}
-use Rattle.star_verify.specs.declared.refusal.Refusal.TheVariants as why
-use Rattle.star_verify.specs.Views.{refusal_view}
+use Rattle.star_safety.specs.Admissible.{first_refusal, IsAdmissible}
+use Rattle.star_verify.specs.{declared.refusal.Refusal.Refusal, Views.refusal_view}
 use Rattle.star_world.specs.WorldOf.{world_of}
-use Rattle.star_engine.specs.declared.fault.EngineFault.{EngineFault}
-use Rattle.star_engine.specs.declared.fault.EngineFault.TheVariants.{Refused}
-use Rattle.star_engine.specs.Answered.{OrMemory}
-use Rattle.star_engine.specs.Executions.{IsProgramTold, IsRefusal, IsUntoldOver, quote_over}
-use Rattle.star_engine.specs.Faults.{fault_of_refusal}
-use Rattle.star_engine.specs.Loads.{HoldsOfFile, IsProgramOf}
-use Rattle.star_engine.specs.Noted.{Telling}
-use Rattle.star_engine.specs.Notes.{counts_line, quote_line}
-use Rattle.star_engine.specs.Private.Steps.{IsNotVerified}
+use Rattle.star_engine.specs.{declared.fault.EngineFault.EngineFault, declared.fault.EngineFault.TheVariants.Refused, Answered.OrMemory, Executions.IsProgramTold, Executions.IsRefusal, Executions.IsUntoldOver, Executions.quote_over, Faults.fault_of_refusal, Loads.HoldsOfFile}
+use Rattle.star_engine.specs.{Loads.IsProgramOf, Noted.Telling, Notes.counts_line, Notes.quote_line, Private.Steps.IsNotVerified}
 use Rattle.star_engine.proofs.Trials.{report_some}
+use Rattle.star_safety.specs.Admissible as admissible
+use Rattle.star_verify.specs.declared.refusal.Refusal.TheVariants as why
 
 -- ---- notes have bytes
 

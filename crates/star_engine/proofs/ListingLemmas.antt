@@ -1,7 +1,6 @@
 -- The listing of loaded tables.
 use Rattle.std.proofs.Common.{◌<◌, List, arith, length}
-use Rattle.star_schema.specs.declared.table.TableId.{TableId}
-use Rattle.star_schema.specs.Tables.{Value}
+use Rattle.star_schema.specs.{declared.table.TableId.TableId, Tables.Value}
 use Rattle.star_engine.specs.Listing.{listing_of, table_line, table_text}
 
 -- a listing has a byte

@@ -1,13 +1,8 @@
 -- What is answered over the rows of texts that can be loaded is answered over the texts.
 use Rattle.std.proofs.Common.{◌≡◌, ℕ, List, subst}
 use Rattle.std.specs.Prelude.{Result, Ok, Err}
-use Rattle.star_schema.specs.Database.{Database, TableTexts}
-use Rattle.star_schema.specs.Loadable.{IsLoadable, database_of}
-use Rattle.star_engine.specs.declared.fault.EngineFault.{EngineFault}
-use Rattle.star_engine.specs.declared.fault.EngineFault.TheVariants.{OutOfMemory, Write}
-use Rattle.star_engine.specs.Answered.{Change, IsAnswered}
-use Rattle.star_engine.specs.Loads.{HoldsOfRows}
-use Rattle.star_engine.specs.Noted.{IsNoted, Telling}
+use Rattle.star_schema.specs.{Database.Database, Database.TableTexts, Loadable.IsLoadable, Loadable.database_of}
+use Rattle.star_engine.specs.{declared.fault.EngineFault.EngineFault, declared.fault.EngineFault.TheVariants.OutOfMemory, declared.fault.EngineFault.TheVariants.Write, Answered.Change, Answered.IsAnswered, Loads.HoldsOfRows, Noted.IsNoted, Noted.Telling}
 use Rattle.star_engine.proofs.NotedAs.{noted_as}
 
 -- what is answered of one text is answered of another, where all that is due of the one is due of

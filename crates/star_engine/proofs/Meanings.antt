@@ -1,16 +1,9 @@
 -- What a text means, and that its names are well, where both compute.
 use Rattle.std.proofs.Common.{◌≡◌, ◌∙◌, ◌≤◌, ℕ, List, [], None, Result, Ok, Err, Bool, true, false, refl, length, ap, sym}
-use Rattle.star_query.specs.declared.fault.QueryFault.{QueryFault}
-use Rattle.star_query.specs.Symbols.{Placed, symbols}
-use Rattle.star_query.specs.Private.Cut.{cut_of}
 use Rattle.star_query.specs.Private.Phrases.{Query, query_tree, one, plain, ungrouped}
-use Rattle.star_query.specs.Tree.{Name, Tree}
-use Rattle.star_query.specs.Derives.{Means}
-use Rattle.star_query.specs.Private.Machine.{Verdict, Whole, Bad}
-use Rattle.star_query.proofs.Cuts.{tokens_make_text}
-use Rattle.star_query.proofs.Verdicts.{derives, one_meaning, verdict_of}
-use Rattle.star_plan.specs.Faults.{plan_fault}
-use Rattle.star_plan.specs.WellNamed.{IsWellNamed}
+use Rattle.star_query.specs.{declared.fault.QueryFault.QueryFault, Symbols.Placed, Symbols.symbols, Private.Cut.cut_of, Tree.Name, Tree.Tree, Derives.Means, Private.Machine.Verdict, Private.Machine.Whole, Private.Machine.Bad}
+use Rattle.star_query.proofs.{Cuts.tokens_make_text, Verdicts.derives, Verdicts.one_meaning, Verdicts.verdict_of}
+use Rattle.star_plan.specs.{Faults.plan_fault, WellNamed.IsWellNamed}
 use Rattle.star_plan.proofs.Conditions.{well_named}
 
 abbrev pub nameless : Name

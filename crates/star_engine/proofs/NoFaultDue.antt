@@ -1,20 +1,14 @@
 -- Where a report of a query is due, no fault is.
 use Rattle.std.proofs.Common.{◌≡◌, ℕ, List, Some, None, subst}
-use Rattle.star_schema.specs.Database.{Database, TableTexts}
-use Rattle.star_schema.specs.Loadable.{database_of}
-use Rattle.star_query.specs.declared.fault.QueryFault.{QueryFault}
-use Rattle.star_query.specs.Derives.{Means}
-use Rattle.star_query.specs.Tree.{Tree}
-use Rattle.star_query.proofs.FirstFaults as texts
+use Rattle.star_schema.specs.{Database.Database, Database.TableTexts, Loadable.database_of}
+use Rattle.star_query.specs.{declared.fault.QueryFault.QueryFault, Derives.Means, Tree.Tree}
 use Rattle.star_query.proofs.Verdicts.{one_meaning}
-use Rattle.star_plan.specs.declared.fault.PlanFault.{PlanFault}
-use Rattle.star_plan.specs.Faults.{plan_fault}
-use Rattle.star_plan.specs.WellNamed.{IsWellNamed}
-use Rattle.star_plan.proofs.Conditions as names
-use Rattle.star_engine.specs.declared.fault.EngineFault.{EngineFault}
-use Rattle.star_engine.specs.declared.fault.EngineFault.TheVariants as engine
-use Rattle.star_engine.specs.Noted.{Telling}
+use Rattle.star_plan.specs.{declared.fault.PlanFault.PlanFault, Faults.plan_fault, WellNamed.IsWellNamed}
 use Rattle.star_engine.specs.Queries.{IsPlanFault, IsQueryFault, IsQueryTold, IsQueryToldOver, IsUnanswered, IsUnansweredOver}
+use Rattle.star_engine.specs.{declared.fault.EngineFault.EngineFault, Noted.Telling}
+use Rattle.star_query.proofs.FirstFaults as texts
+use Rattle.star_plan.proofs.Conditions as names
+use Rattle.star_engine.specs.declared.fault.EngineFault.TheVariants as engine
 
 no_text_fault : (query : List ℕ) (tree : Tree) (fault : QueryFault) → Means query tree
     → IsQueryFault query fault → ⊥

@@ -3,10 +3,8 @@
 -- due of the other.
 use Rattle.std.proofs.Common.{ℕ, List, inl, inr}
 use Rattle.std.specs.Prelude.{Result, Ok, Err}
-use Rattle.star_engine.specs.declared.fault.EngineFault.{EngineFault}
-use Rattle.star_engine.specs.declared.fault.EngineFault.TheVariants.{OutOfMemory, Refused, Write}
-use Rattle.star_engine.specs.Answered.{Change}
 use Rattle.star_engine.specs.Noted.{BeforeTheReport, BehindTheReport, InTheReport, IsBroken, IsNoted, Telling}
+use Rattle.star_engine.specs.{declared.fault.EngineFault.EngineFault, declared.fault.EngineFault.TheVariants.OutOfMemory, declared.fault.EngineFault.TheVariants.Refused, declared.fault.EngineFault.TheVariants.Write, Answered.Change}
 
 broken_as : {S N : Type 0} (out : Change S) (notes : Change N) (Quote OtherQuote : List ℕ → Type 0)
     (Told OtherTold : Telling → Type 0) (sent : ℕ)

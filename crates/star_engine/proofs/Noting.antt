@@ -1,15 +1,11 @@
 -- What a call that runs a program answers, by its steps.
 use Rattle.std.proofs.Common.{◌≡◌, ◌+◌, ◌++◌, ℕ, List, Option, Bool, arith, inl, inr, length, refl, subst, sym, take}
+use Rattle.std.proofs.{KnownBytes.Appends-trans, Math.Seq.take-append-add, lemmas.List.length-append}
 use Rattle.std.specs.Prelude.{Result, Ok, Err}
-use Rattle.std.proofs.KnownBytes.{Appends-trans}
-use Rattle.std.proofs.Math.Seq.{take-append-add}
-use Rattle.std.proofs.lemmas.List.{length-append}
 use Rattle.star_verify.specs.declared.refusal.Refusal.{Refusal}
-use Rattle.star_engine.specs.declared.fault.EngineFault.{EngineFault}
-use Rattle.star_engine.specs.declared.fault.EngineFault.TheVariants.{OutOfMemory, Refused, Write}
 use Rattle.star_engine.specs.Answered.{Change, HasGained, HasGainedPart, IsUntouched, IsWritten, OrMemory, change}
 use Rattle.star_engine.specs.Noted.{BeforeTheReport, BehindTheReport, InTheReport, IsNoted, Telling}
-use Rattle.star_engine.specs.Private.Steps.{AreBothWritten, IsPart}
+use Rattle.star_engine.specs.{declared.fault.EngineFault.EngineFault, declared.fault.EngineFault.TheVariants.OutOfMemory, declared.fault.EngineFault.TheVariants.Refused, declared.fault.EngineFault.TheVariants.Write, Private.Steps.AreBothWritten, Private.Steps.IsPart}
 
 -- a fault before anything is written, which is no refusal
 pub noted_stopped : {S N : Type 0} (out : Change S) (notes : Change N) (IsQuote : List ℕ → Type 0)

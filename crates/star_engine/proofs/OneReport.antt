@@ -1,27 +1,15 @@
 -- A file's report over some tables is one, and where it is due, no fault is.
 use Rattle.std.proofs.Common.{◌≡◌, ◌∙◌, ℕ, List, subst, sym}
-use Rattle.star_schema.specs.Loadable.{database_of}
-use Rattle.star_schema.specs.Database.{Database, TableTexts}
-use Rattle.star_program.specs.declared.outcome.Outcome.{Outcome}
-use Rattle.star_program.specs.declared.program.Parts.{Parts}
-use Rattle.star_program.specs.Outcome.{IsOutcome}
-use Rattle.star_program.specs.Run.{End, bounded_run_of}
-use Rattle.star_program.specs.World.{World}
-use Rattle.star_program.proofs.Text.OneProgram.{one_program}
+use Rattle.star_schema.specs.{Loadable.database_of, Database.Database, Database.TableTexts}
+use Rattle.star_program.specs.{declared.outcome.Outcome.Outcome, declared.program.Parts.Parts, Outcome.IsOutcome, Run.End, Run.bounded_run_of, World.World, Text.FirstFaults.FirstTextFault, declared.spelling.fault.TextFault.TextFault}
+use Rattle.star_program.proofs.{Text.OneProgram.one_program, Text.Faultless.never_both}
 use Rattle.star_report.specs.Report.{report_text}
 use Rattle.star_report.proofs.OneOrder.{one_outcome}
 use Rattle.star_outcome.specs.Yields.{Yields}
 use Rattle.star_world.specs.WorldOf.{world_of}
-use Rattle.star_program.specs.Text.FirstFaults.{FirstTextFault}
-use Rattle.star_program.specs.declared.spelling.fault.TextFault.{TextFault}
-use Rattle.star_program.proofs.Text.Faultless.{never_both}
 use Rattle.star_verify.specs.declared.refusal.Refusal.{Refusal}
-use Rattle.star_engine.specs.declared.fault.EngineFault.{EngineFault}
-use Rattle.star_engine.specs.declared.fault.EngineFault.TheVariants.{Load, Program, Refused}
 use Rattle.star_engine.specs.Executions.{IsAcceptedWithin, IsRefusal, IsToldOf, IsToldOver, IsUntold, IsUntoldOver}
-use Rattle.star_engine.specs.Loads.{IsProgramOf}
-use Rattle.star_engine.specs.Noted.{Telling}
-use Rattle.star_engine.specs.Trials.{IsBoundedReport}
+use Rattle.star_engine.specs.{declared.fault.EngineFault.EngineFault, declared.fault.EngineFault.TheVariants.Load, declared.fault.EngineFault.TheVariants.Program, declared.fault.EngineFault.TheVariants.Refused, Loads.IsProgramOf, Noted.Telling, Trials.IsBoundedReport}
 
 -- a run that comes to its end has one outcome
 yields_one : (w : World) (parts : Parts) (end : End) (a b : Outcome) → Yields w parts end a

@@ -1,14 +1,9 @@
 -- What holds of the plan of a query's text.
 use Rattle.std.proofs.Common.{ℕ, List}
-use Rattle.star_query.proofs.Spelled.{meant_spelled}
-use Rattle.star_query.proofs.Within.{derived_within}
+use Rattle.star_query.proofs.{Spelled.meant_spelled, Within.derived_within}
 use Rattle.star_query.specs.Limits.{IsQueryWithinLimits}
-use Rattle.star_plan.specs.Limits.{IsPlanWithinLimits}
-use Rattle.star_plan.specs.Meaning.{Plan}
-use Rattle.star_plan.specs.Sound.{IsSoundPlan}
-use Rattle.star_plan.specs.Spelled.{IsSpelledPlan}
-use Rattle.star_plan.proofs.Conditions.{no_fault}
-use Rattle.star_plan.proofs.Kept.{kept_sound, kept_spelled, kept_within}
+use Rattle.star_plan.specs.{Limits.IsPlanWithinLimits, Meaning.Plan, Sound.IsSoundPlan, Spelled.IsSpelledPlan}
+use Rattle.star_plan.proofs.{Conditions.no_fault, Kept.kept_sound, Kept.kept_spelled, Kept.kept_within}
 use Rattle.star_engine.specs.Queries.{IsPlanOf}
 
 few : (query : List ℕ) (p : Plan) (h : IsPlanOf query p) → IsQueryWithinLimits h.tree

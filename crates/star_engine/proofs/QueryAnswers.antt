@@ -3,16 +3,10 @@ use Rattle.std.proofs.Common.{◌∙◌, ℕ, List, ap, subst, sym}
 use Rattle.star_schema.specs.Database.{Database}
 use Rattle.star_plan.specs.Meaning.{Plan}
 use Rattle.star_verify.specs.declared.refusal.Refusal.{Refusal}
-use Rattle.star_compile_laws.specs.Compiled.{compiled}
-use Rattle.star_compile_laws.specs.Judged.{IsOverflow}
-use Rattle.star_engine.specs.declared.fault.EngineFault.{EngineFault}
-use Rattle.star_engine.specs.declared.fault.EngineFault.TheVariants as engine
-use Rattle.star_engine.specs.Executions.{IsRefusal, IsProgramTold}
-use Rattle.star_engine.specs.Noted.{Telling}
-use Rattle.star_engine.specs.Notes.{counts_line, quote_line}
+use Rattle.star_compile_laws.specs.{Compiled.compiled, Judged.IsOverflow}
 use Rattle.star_engine.specs.Queries.{FitsRows, IsPlanOf, IsQueryToldOver, IsUnansweredOver, IsUnfit}
-use Rattle.star_engine.specs.Private.QuerySteps.{IsJudged}
-use Rattle.star_engine.specs.Private.Steps.{IsNotVerified}
+use Rattle.star_engine.specs.{declared.fault.EngineFault.EngineFault, Executions.IsRefusal, Executions.IsProgramTold, Noted.Telling, Notes.counts_line, Notes.quote_line, Private.QuerySteps.IsJudged, Private.Steps.IsNotVerified}
+use Rattle.star_engine.specs.declared.fault.EngineFault.TheVariants as engine
 
 module _ (most : ℕ) (database : Database) (query : List ℕ) (p : Plan)
     (meant : IsPlanOf query p) (judged : IsJudged most database query p) where

@@ -1,9 +1,7 @@
 -- The faults of the steps of an answer to a query, and when they are due.
 use Rattle.std.specs.Prelude.{MatchResult, Result, Ok, Err}
-use Rattle.star_engine.specs.Answered.{OrMemory}
-use Rattle.star_engine.specs.declared.fault.EngineFault.{EngineFault}
+use Rattle.star_engine.specs.{Answered.OrMemory, declared.fault.EngineFault.EngineFault, Private.Steps.IsMemory}
 use Rattle.star_engine.specs.declared.fault.EngineFault.TheVariants as engine
-use Rattle.star_engine.specs.Private.Steps.{IsMemory}
 
 -- a step's faults are due where each of them is
 pub or_memory : (IsDue IsAlso : EngineFault → Type 0) (fault : EngineFault)

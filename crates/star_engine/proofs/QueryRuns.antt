@@ -2,11 +2,10 @@
 use Rattle.std.proofs.Common.{◌≡◌, ◌≤◌, ℕ, List, subst}
 use Rattle.star_schema.specs.Database.{Database}
 use Rattle.star_plan.specs.Meaning.{Plan}
-use Rattle.star_program.specs.Effects.{State}
 use Rattle.star_program.specs.Run.{End, Ended, Trapped, Limited, EndsWith}
+use Rattle.star_program.specs.{Effects.State}
 use Rattle.star_safety.specs.Laws.{EndsWithin}
-use Rattle.star_engine.specs.Queries.{fact_rows}
-use Rattle.star_engine.specs.QueryRuns.{HasReported, PrintsTheReport}
+use Rattle.star_engine.specs.{Queries.fact_rows, QueryRuns.HasReported, QueryRuns.PrintsTheReport}
 
 -- a run that ends within a quote has reported, where the quote is the number of rows and each end
 -- prints the report

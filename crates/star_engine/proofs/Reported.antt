@@ -1,10 +1,7 @@
 -- The report alone of what is told.
 use Rattle.std.proofs.Common.{ℕ, List}
-use Rattle.star_schema.specs.Database.{Database, TableTexts}
-use Rattle.star_schema.specs.Loadable.{database_of}
-use Rattle.star_engine.specs.Executions.{IsFileReport, IsFileReportOver, IsToldOf, IsToldOver}
-use Rattle.star_engine.specs.Noted.{Telling}
-use Rattle.star_engine.specs.Queries.{IsQueryTold, IsReportOf}
+use Rattle.star_schema.specs.{Database.Database, Database.TableTexts, Loadable.database_of}
+use Rattle.star_engine.specs.{Executions.IsFileReport, Executions.IsFileReportOver, Executions.IsToldOf, Executions.IsToldOver, Noted.Telling, Queries.IsQueryTold, Queries.IsReportOf}
 
 pub query_report : (rows visits : ℕ) (texts : TableTexts) (query : List ℕ) (telling : Telling)
     → IsQueryTold rows visits texts query telling → IsReportOf rows texts query telling.report

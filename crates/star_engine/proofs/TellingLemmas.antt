@@ -1,32 +1,17 @@
 -- What is told of a file, by what is told of its program.
 use Rattle.std.proofs.Common.{◌∙◌, ℕ, Bool, true, false, List, ap, refl, subst}
 use Rattle.std.specs.Prelude.{MatchResult, Result, Ok, Err}
-use Rattle.star_schema.specs.Database.{Database, TableTexts}
-use Rattle.star_schema.specs.Loadable.{IsLoadable, database_of}
+use Rattle.star_schema.specs.{Database.Database, Database.TableTexts, Loadable.IsLoadable, Loadable.database_of}
 use Rattle.star_verify.specs.declared.refusal.Refusal.{Refusal}
 use Rattle.star_plan.specs.Meaning.{Plan}
 use Rattle.star_compile_laws.specs.Compiled.{compiled}
 use Rattle.star_program.specs.declared.program.Parts.{Parts}
-use Rattle.star_engine.specs.declared.fault.EngineFault.{EngineFault}
-use Rattle.star_engine.specs.declared.fault.EngineFault.TheVariants as engine
-use Rattle.star_engine.specs.declared.fault.EngineFault.TheVariants.{Load, Refused}
-use Rattle.star_engine.specs.Answered.{Change, OrMemory}
-use Rattle.star_engine.specs.Executions.{IsProgramTold, IsQuote, quote_over}
-use Rattle.star_engine.specs.Loads.{IsUnloaded}
-use Rattle.star_engine.specs.Noted.{IsNoted, Telling}
-use Rattle.star_engine.specs.Notes.{forecast_line, quote_line}
-use Rattle.star_engine.specs.Queries.{IsPlanOf}
-use Rattle.star_engine.specs.Questions.{IsProgramOfKind}
-use Rattle.star_engine.specs.QuoteTexts.{IsNoneOfKind, IsQuoteOfKindOver, IsUnquotedOfKind}
 use Rattle.star_engine.specs.Tellings.{IsJudgedOfKind, IsProgramForecast, IsToldOfKind, IsUnjudgedOfKind, most_rows_over}
-use Rattle.star_engine.specs.Private.QuerySteps.{IsJudged}
-use Rattle.star_engine.specs.Private.Steps.{IsNotVerified}
-use Rattle.star_engine.specs.Private.TextSteps.{IsQuoteOfTexts, IsToldOfTexts, IsUntoldOfTexts}
-use Rattle.star_engine.proofs.Executing.{fault_of_program}
-use Rattle.star_engine.proofs.Loaded.{noted_over}
-use Rattle.star_engine.proofs.NotedAs.{noted_as}
-use Rattle.star_engine.proofs.QueryAnswers.{fault_told, report_told}
-use Rattle.star_engine.proofs.QueryFaults.{or_memory}
+use Rattle.star_engine.specs.{declared.fault.EngineFault.EngineFault, declared.fault.EngineFault.TheVariants.Load, declared.fault.EngineFault.TheVariants.Refused, Answered.Change, Answered.OrMemory, Executions.IsProgramTold, Executions.IsQuote, Executions.quote_over, Loads.IsUnloaded}
+use Rattle.star_engine.specs.{Noted.IsNoted, Noted.Telling, Notes.forecast_line, Notes.quote_line, Queries.IsPlanOf, Questions.IsProgramOfKind, QuoteTexts.IsNoneOfKind, QuoteTexts.IsQuoteOfKindOver, QuoteTexts.IsUnquotedOfKind, Private.QuerySteps.IsJudged, Private.Steps.IsNotVerified}
+use Rattle.star_engine.specs.{Private.TextSteps.IsQuoteOfTexts, Private.TextSteps.IsToldOfTexts, Private.TextSteps.IsUntoldOfTexts}
+use Rattle.star_engine.proofs.{Executing.fault_of_program, Loaded.noted_over, NotedAs.noted_as, QueryAnswers.fault_told, QueryAnswers.report_told, QueryFaults.or_memory}
+use Rattle.star_engine.specs.declared.fault.EngineFault.TheVariants as engine
 
 -- a file that was not read
 pub unread : (is_program : Bool) (most : ℕ) (database : Database) (file : List ℕ)

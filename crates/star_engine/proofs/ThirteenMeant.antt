@@ -2,23 +2,14 @@
 use Rattle.std.proofs.Common.{◌≡◌, Some, None, lit≤, refl}
 use Rattle.star_common.specs.First.{first_answer}
 use Rattle.star_schema.specs.Schema.{column_of, table_name}
-use Rattle.star_query.specs.Private.Cut.{cut_from, reserved, reserved_words}
-use Rattle.star_query.specs.Derives.{Means}
-use Rattle.star_query.specs.Symbols.{spelling}
-use Rattle.star_query.specs.Tree.{Tree}
+use Rattle.star_query.specs.{Private.Cut.cut_from, Private.Cut.reserved, Private.Cut.reserved_words, Derives.Means, Symbols.spelling, Tree.Tree}
 use Rattle.star_query.proofs.FirstFaults.{no_fault as no_first_fault}
-use Rattle.star_plan.specs.Faults.{plan_fault}
-use Rattle.star_plan.specs.Names.{column_called, has_name, table_called}
-use Rattle.star_plan.specs.Naming.{function_word, has_text}
-use Rattle.star_plan.specs.WellNamed.{IsWellNamed}
+use Rattle.star_plan.specs.{Faults.plan_fault, Names.column_called, Names.has_name, Names.table_called, Naming.function_word, Naming.has_text, WellNamed.IsWellNamed}
 use Rattle.star_plan.proofs.Conditions.{no_fault}
-use Rattle.star_engine.specs.declared.fault.EngineFault.{EngineFault}
-use Rattle.star_engine.specs.declared.fault.EngineFault.TheVariants as engine
-use Rattle.star_engine.specs.declared.thirteen.BenchmarkQuery.{BenchmarkQuery}
 use Rattle.star_engine.specs.declared.thirteen.BenchmarkQuery.TheVariants.{Q11, Q12, Q13, Q21, Q22, Q23, Q31, Q32, Q33, Q34, Q41, Q42, Q43}
-use Rattle.star_engine.specs.Queries.{IsNoQuery}
-use Rattle.star_engine.specs.Thirteen.{query_text}
+use Rattle.star_engine.specs.{declared.fault.EngineFault.EngineFault, declared.thirteen.BenchmarkQuery.BenchmarkQuery, Queries.IsNoQuery, Thirteen.query_text}
 use Rattle.star_engine.proofs.Meanings.{IsWorked, are_named, meaning, means}
+use Rattle.star_engine.specs.declared.fault.EngineFault.TheVariants as engine
 
 pub worked : (q : BenchmarkQuery) → IsWorked (query_text q)
 unfolding query_text cut_from reserved reserved_words spelling column_of column_called table_called

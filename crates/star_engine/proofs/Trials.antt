@@ -1,23 +1,15 @@
 -- What a trial over loaded tables answers.
 use Rattle.std.proofs.Common.{◌<◌, ◌++◌, ℕ, List, arith, codes, length}
+use Rattle.std.proofs.{lemmas.List.length-append}
 use Rattle.std.specs.List.{flat_map, join_with_byte}
-use Rattle.std.proofs.lemmas.List.{length-append}
-use Rattle.star_schema.specs.Loadable.{IsLoadable, database_of}
-use Rattle.star_schema.specs.Database.{Database, TableTexts}
-use Rattle.star_program.specs.declared.outcome.Cell.{Cell}
-use Rattle.star_program.specs.declared.program.Parts.{Parts}
-use Rattle.star_program.specs.Run.{bounded_run_of}
+use Rattle.star_schema.specs.{Loadable.IsLoadable, Loadable.database_of, Database.Database, Database.TableTexts}
+use Rattle.star_program.specs.{declared.outcome.Cell.Cell, declared.program.Parts.Parts, Run.bounded_run_of}
 use Rattle.star_report.specs.Report.{line_text, report_text, row_text}
-use Rattle.star_trial.specs.declared.fault.TrialFault.{TrialFault}
-use Rattle.star_trial.specs.declared.fault.TrialFault.TheVariants as trial
-use Rattle.star_trial.specs.Trials.{IsFaultOfEnd}
+use Rattle.star_trial.specs.{declared.fault.TrialFault.TrialFault, Trials.IsFaultOfEnd}
 use Rattle.star_world.specs.WorldOf.{world_of}
-use Rattle.star_engine.specs.declared.fault.EngineFault.{EngineFault}
+use Rattle.star_engine.specs.{declared.fault.EngineFault.EngineFault, Answered.OrMemory, Faults.fault_of_trial, Loads.IsNoProgram, Loads.IsProgramOf, Loads.IsUnloaded, Trials.IsNoTrial, Trials.IsNoTrialOver}
+use Rattle.star_trial.specs.declared.fault.TrialFault.TheVariants as trial
 use Rattle.star_engine.specs.declared.fault.EngineFault.TheVariants as engine
-use Rattle.star_engine.specs.Answered.{OrMemory}
-use Rattle.star_engine.specs.Faults.{fault_of_trial}
-use Rattle.star_engine.specs.Loads.{IsNoProgram, IsProgramOf, IsUnloaded}
-use Rattle.star_engine.specs.Trials.{IsNoTrial, IsNoTrialOver}
 
 -- over the texts that hold the rows
 pub no_trial_over : (most : ℕ) (texts : TableTexts) (file : List ℕ) (visits : ℕ)

@@ -1,16 +1,10 @@
 -- The text of `bench`: for each query of the benchmark its quote, then its report or its refusal.
 use Rattle.std.specs.Prelude.{◌≡◌, ◌++◌, ◌⊎◌, ℕ, List, [], ◌∷◌, codes}
-use Rattle.std.specs.List.{AllByRecursion}
+use Rattle.std.specs.{List.AllByRecursion}
 use Rattle.star_schema.specs.Database.{Database, TableTexts}
-use Rattle.star_verify.specs.declared.refusal.Refusal.{Refusal}
-use Rattle.star_verify.specs.RefusalTexts.{refusal_text}
+use Rattle.star_verify.specs.{declared.refusal.Refusal.Refusal, RefusalTexts.refusal_text}
 use Rattle.star_query_meaning.specs.Reports.{IsReport}
-use Rattle.star_engine.specs.declared.thirteen.BenchmarkQuery.{BenchmarkQuery}
-use Rattle.star_engine.specs.declared.thirteen.TheConstants.{THIRTEEN}
-use Rattle.star_engine.specs.Loads.{HoldsOfRows}
-use Rattle.star_engine.specs.Notes.{quote_line}
-use Rattle.star_engine.specs.Queries.{FitsRows, IsUnfit, fact_rows}
-use Rattle.star_engine.specs.Thirteen.{query_name, query_text}
+use Rattle.star_engine.specs.{declared.thirteen.BenchmarkQuery.BenchmarkQuery, declared.thirteen.TheConstants.THIRTEEN, Loads.HoldsOfRows, Notes.quote_line, Queries.FitsRows, Queries.IsUnfit, Queries.fact_rows, Thirteen.query_name, Thirteen.query_text}
 
 abbrev pub refusal_line : Refusal → List ℕ
 refusal_line refusal = refusal_text refusal ++ codes "\n"

@@ -1,22 +1,14 @@
 -- The text of a program that is verified and then run over five tables.
 use Rattle.std.specs.Prelude.{◌≡◌, ◌≤◌, ℕ, List, Some}
 use Rattle.star_schema.specs.Database.{Database, TableTexts}
-use Rattle.star_program.specs.declared.outcome.Outcome.{Outcome}
-use Rattle.star_program.specs.declared.program.Parts.{Parts}
-use Rattle.star_program.specs.Run.{run_of}
-use Rattle.star_safety.specs.Admissible as admissible
-use Rattle.star_safety.specs.Admissible.{IsAdmissible, first_refusal}
-use Rattle.star_safety.specs.Quote.{quote}
-use Rattle.star_verify.specs.declared.refusal.Refusal.{Refusal}
-use Rattle.star_verify.specs.Views.{refusal_view}
+use Rattle.star_program.specs.{declared.outcome.Outcome.Outcome, declared.program.Parts.Parts, Run.run_of}
+use Rattle.star_safety.specs.{Admissible.IsAdmissible, Admissible.first_refusal, Quote.quote}
+use Rattle.star_verify.specs.{declared.refusal.Refusal.Refusal, Views.refusal_view}
 use Rattle.star_outcome.specs.Yields.{Yields}
 use Rattle.star_report.specs.Report.{report_text}
 use Rattle.star_world.specs.WorldOf.{world_of}
-use Rattle.star_engine.specs.declared.fault.EngineFault.{EngineFault}
-use Rattle.star_engine.specs.declared.fault.EngineFault.TheVariants.{Refused}
-use Rattle.star_engine.specs.Loads.{HoldsOfFile, HoldsOfRows, IsNoProgram, IsUnread}
-use Rattle.star_engine.specs.Noted.{Telling}
-use Rattle.star_engine.specs.Notes.{counts_line, quote_line}
+use Rattle.star_engine.specs.{declared.fault.EngineFault.EngineFault, declared.fault.EngineFault.TheVariants.Refused, Loads.HoldsOfFile, Loads.HoldsOfRows, Loads.IsNoProgram, Loads.IsUnread, Noted.Telling, Notes.counts_line, Notes.quote_line}
+use Rattle.star_safety.specs.Admissible as admissible
 
 -- the quote of a program over these tables
 abbrev pub quote_over : Database → Parts → ℕ

@@ -1,17 +1,10 @@
 -- The text of `check`: the row count of each of five tables, and the bounds of its numeric columns.
 use Rattle.std.specs.Prelude.{◌≡◌, ◌++◌, ℕ, ℤ, List, [], codes, decimal, length}
-use Rattle.std.specs.Fmt.{signed_decimal}
-use Rattle.std.specs.List.{flat_map}
-use Rattle.star_schema.specs.declared.column.ColumnId.{ColumnId}
-use Rattle.star_schema.specs.declared.column.Kind.{Kind}
-use Rattle.star_schema.specs.declared.column.Kind.TheVariants as kind
-use Rattle.star_schema.specs.declared.table.TableId.{TableId}
-use Rattle.star_schema.specs.declared.table.TheConstants.{TABLES}
-use Rattle.star_schema.specs.Bounds.{greatest, least, numbers_of}
-use Rattle.star_schema.specs.Schema.{column_name, columns_of, kind_of, table_name}
-use Rattle.star_schema.specs.Tables.{Value}
-use Rattle.star_schema.specs.Database.{Database, TableTexts, rows_in}
+use Rattle.std.specs.{Fmt.signed_decimal, List.flat_map}
+use Rattle.star_schema.specs.{declared.column.ColumnId.ColumnId, declared.column.Kind.Kind, declared.table.TableId.TableId, declared.table.TheConstants.TABLES, Bounds.greatest, Bounds.least, Bounds.numbers_of, Schema.column_name, Schema.columns_of, Schema.kind_of, Schema.table_name}
+use Rattle.star_schema.specs.{Tables.Value, Database.Database, Database.TableTexts, Database.rows_in}
 use Rattle.star_engine.specs.Loads.{HoldsOfRows}
+use Rattle.star_schema.specs.declared.column.Kind.TheVariants as kind
 
 unfoldable pub table_line : TableId → ℕ → List ℕ
 table_line t rows =

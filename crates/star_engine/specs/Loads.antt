@@ -1,19 +1,10 @@
 -- What is read before a run, a program's file and five texts, and the errors of reading them. Also
 -- what holds of all loaded rows.
 use Rattle.std.specs.Prelude.{◌≡◌, ℕ, List, All, Some}
-use Rattle.star_schema.specs.declared.table.TableId.{TableId}
-use Rattle.star_schema.specs.Database.{Database, TableTexts, rows_in}
-use Rattle.star_schema.specs.Loadable.{IsLoadable, IsSound, database_of}
-use Rattle.star_schema.specs.Tables.{IsRowOf}
-use Rattle.star_schema.specs.Columns.{AreBoundsI64, bounds_in}
-use Rattle.star_catalogue.specs.Load.{load_fault}
-use Rattle.star_catalogue.specs.declared.fault.LoadFault.{LoadFault}
-use Rattle.star_program.specs.declared.program.Parts.{Parts}
-use Rattle.star_program.specs.Limits.{IsWithinLimits}
-use Rattle.star_program.specs.Text.FirstFaults.{FirstTextFault}
-use Rattle.star_program.specs.Text.Spelling.{Spells}
-use Rattle.star_engine.specs.declared.fault.EngineFault.{EngineFault}
-use Rattle.star_engine.specs.declared.fault.EngineFault.TheVariants.{Load, Program}
+use Rattle.star_schema.specs.{declared.table.TableId.TableId, Database.Database, Database.TableTexts, Database.rows_in, Loadable.IsLoadable, Loadable.IsSound, Loadable.database_of, Tables.IsRowOf, Columns.AreBoundsI64, Columns.bounds_in}
+use Rattle.star_catalogue.specs.{Load.load_fault, declared.fault.LoadFault.LoadFault}
+use Rattle.star_program.specs.{declared.program.Parts.Parts, Limits.IsWithinLimits, Text.FirstFaults.FirstTextFault, Text.Spelling.Spells}
+use Rattle.star_engine.specs.{declared.fault.EngineFault.EngineFault, declared.fault.EngineFault.TheVariants.Load, declared.fault.EngineFault.TheVariants.Program}
 
 -- the first error of five texts that cannot be loaded
 pub record IsLoadFault (most : ℕ) (texts : TableTexts) (fault : LoadFault)

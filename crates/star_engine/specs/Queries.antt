@@ -2,35 +2,17 @@
 -- query's program occurs here by its text, by its look-ups and by the number of a refused
 -- instruction; no run of it occurs.
 use Rattle.std.specs.Prelude.{◌≡◌, ◌≢◌, ◌≤◌, ◌<◌, ℕ, List, Some, length, option_map}
-use Rattle.star_schema.specs.declared.table.TableId.TheVariants.{Lineorder}
-use Rattle.star_schema.specs.Database.{Database, TableTexts, rows_in}
-use Rattle.star_query.specs.declared.fault.QueryFault.{QueryFault}
-use Rattle.star_query.specs.declared.fault.QueryFault.TheVariants as parsing
-use Rattle.star_query.specs.Derives.{IsFirstQueryFault, Means}
-use Rattle.star_query.specs.Tree.{Tree}
-use Rattle.star_plan.specs.declared.fault.PlanFault.{PlanFault}
-use Rattle.star_plan.specs.Faults.{plan_fault}
-use Rattle.star_plan.specs.Meaning.{Plan}
-use Rattle.star_plan.specs.Resolved.{IsResolved}
-use Rattle.star_plan.specs.WellNamed.{IsWellNamed}
-use Rattle.star_program.specs.Text.Spelling.{Spells}
-use Rattle.star_program.specs.Text.Written.{program_text}
+use Rattle.star_schema.specs.{declared.table.TableId.TheVariants.Lineorder, Database.Database, Database.TableTexts, Database.rows_in, Columns.bounds_in}
+use Rattle.star_query.specs.{declared.fault.QueryFault.QueryFault, Derives.IsFirstQueryFault, Derives.Means, Tree.Tree}
+use Rattle.star_plan.specs.{declared.fault.PlanFault.PlanFault, Faults.plan_fault, Meaning.Plan, Resolved.IsResolved, WellNamed.IsWellNamed}
+use Rattle.star_program.specs.{Text.Spelling.Spells, Text.Written.program_text}
 use Rattle.star_safety.specs.Admissible.{Refused, TooCostly}
-use Rattle.star_verify.specs.declared.refusal.Refusal.{Refusal}
-use Rattle.star_verify.specs.Views.{refusal_view}
-use Rattle.star_schema.specs.Columns.{bounds_in}
-use Rattle.star_query_meaning.specs.Fitting.{FitsTables}
-use Rattle.star_query_meaning.specs.Reports.{IsReport}
-use Rattle.star_query_meaning.specs.Rows.{selected}
-use Rattle.star_compile_laws.specs.Compiled.{compiled}
-use Rattle.star_compile_laws.specs.Counts.{lookups_of}
-use Rattle.star_compile_laws.specs.Judged.{IsOverflow}
-use Rattle.star_compile_laws.specs.Wide.{turn_wide}
-use Rattle.star_engine.specs.declared.fault.EngineFault.{EngineFault}
+use Rattle.star_verify.specs.{declared.refusal.Refusal.Refusal, Views.refusal_view}
+use Rattle.star_query_meaning.specs.{Fitting.FitsTables, Reports.IsReport, Rows.selected}
+use Rattle.star_compile_laws.specs.{Compiled.compiled, Counts.lookups_of, Judged.IsOverflow, Wide.turn_wide}
+use Rattle.star_engine.specs.{declared.fault.EngineFault.EngineFault, Loads.HoldsOfRows, Loads.IsLoadFault, Noted.Telling, Notes.counts_line, Notes.quote_line}
+use Rattle.star_query.specs.declared.fault.QueryFault.TheVariants as parsing
 use Rattle.star_engine.specs.declared.fault.EngineFault.TheVariants as engine
-use Rattle.star_engine.specs.Loads.{HoldsOfRows, IsLoadFault}
-use Rattle.star_engine.specs.Noted.{Telling}
-use Rattle.star_engine.specs.Notes.{counts_line, quote_line}
 
 -- ---- queries
 

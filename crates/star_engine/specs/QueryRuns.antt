@@ -2,9 +2,7 @@
 use Rattle.std.specs.Prelude.{◌≤◌, ℕ, List}
 use Rattle.star_schema.specs.Database.{Database}
 use Rattle.star_plan.specs.Meaning.{Plan}
-use Rattle.star_program.specs.declared.outcome.Outcome.{Outcome}
-use Rattle.star_program.specs.Effects.{State}
-use Rattle.star_program.specs.Outcome.{IsOutcome}
+use Rattle.star_program.specs.{declared.outcome.Outcome.Outcome, Effects.State, Outcome.IsOutcome}
 use Rattle.star_report.specs.Report.{report_text}
 use Rattle.star_world.specs.WorldOf.{world_of}
 use Rattle.star_query_meaning.specs.Reports.{IsReport}

@@ -4,9 +4,7 @@ use Rattle.std.specs.Prelude.{◌≡◌, ℕ, List, Bool, true, false}
 use Rattle.star_plan.specs.Meaning.{Plan}
 use Rattle.star_program.specs.declared.program.Parts.{Parts}
 use Rattle.star_compile_laws.specs.Compiled.{compiled}
-use Rattle.star_engine.specs.declared.question.Question.{Question}
-use Rattle.star_engine.specs.Loads.{IsProgramOf}
-use Rattle.star_engine.specs.Queries.{IsPlanOf}
+use Rattle.star_engine.specs.{declared.question.Question.Question, Loads.IsProgramOf, Queries.IsPlanOf}
 
 -- the program of the query that a text means
 pub record IsProgramOfQuery (text : List ℕ) (program : Parts) : Type 0 where

@@ -1,11 +1,8 @@
 -- The quote of a file: that of its program, or of the program of its query.
 use Rattle.std.specs.Prelude.{ℕ, nat_eq, Bool, true, false, List, codes}
-use Rattle.std.specs.List.{starts_with}
+use Rattle.std.specs.{List.starts_with}
 use Rattle.star_schema.specs.Database.{Database, TableTexts}
-use Rattle.star_engine.specs.declared.fault.EngineFault.{EngineFault}
-use Rattle.star_engine.specs.Executions.{IsQuoteOver}
-use Rattle.star_engine.specs.Loads.{HoldsOfRows, IsNoProgram, IsUnread}
-use Rattle.star_engine.specs.Queries.{IsNoQuery, IsQueryQuoteOver, IsUnasked}
+use Rattle.star_engine.specs.{declared.fault.EngineFault.EngineFault, Executions.IsQuoteOver, Loads.HoldsOfRows, Loads.IsNoProgram, Loads.IsUnread, Queries.IsNoQuery, Queries.IsQueryQuoteOver, Queries.IsUnasked}
 
 -- a file that begins in this way is taken for a program, any other for a query
 abbrev pub is_program_file : List ℕ → Bool

@@ -6,14 +6,8 @@ use Rattle.star_safety.specs.MostRows.{most_report_rows}
 use Rattle.star_compile_laws.specs.Compiled.{compiled}
 use Rattle.star_plan.specs.Meaning.{Plan}
 use Rattle.star_program.specs.declared.program.Parts.{Parts}
-use Rattle.star_engine.specs.declared.fault.EngineFault.{EngineFault}
-use Rattle.star_engine.specs.declared.executions.Told.{Told}
-use Rattle.star_engine.specs.Executions.{IsAcceptedWithin, IsToldOver, IsUntoldOver, quote_over}
-use Rattle.star_engine.specs.Loads.{HoldsOfFile}
-use Rattle.star_engine.specs.Noted.{Telling}
-use Rattle.star_engine.specs.Notes.{forecast_line}
 use Rattle.star_engine.specs.Queries.{FitsRows, IsPlanOf, IsQueryToldOver, IsUnansweredOver, fact_rows}
-use Rattle.star_engine.specs.QuoteTexts.{is_program_file}
+use Rattle.star_engine.specs.{declared.fault.EngineFault.EngineFault, declared.executions.Told.Told, Executions.IsAcceptedWithin, Executions.IsToldOver, Executions.IsUntoldOver, Executions.quote_over, Loads.HoldsOfFile, Noted.Telling, Notes.forecast_line, QuoteTexts.is_program_file}
 use Rattle.star_world.specs.WorldOf.{world_of}
 
 -- the maximum number of rows of the report of a program over these tables

@@ -1,18 +1,14 @@
 -- The text of `trial` for a program over five tables.
 use Rattle.std.specs.Prelude.{◌≡◌, ℕ, List}
 use Rattle.star_schema.specs.Database.{Database, TableTexts}
-use Rattle.star_program.specs.declared.outcome.Outcome.{Outcome}
-use Rattle.star_program.specs.declared.program.Parts.{Parts}
-use Rattle.star_program.specs.Run.{End, bounded_run_of}
+use Rattle.star_program.specs.{declared.outcome.Outcome.Outcome, declared.program.Parts.Parts, Run.End, Run.bounded_run_of}
 use Rattle.star_report.specs.Report.{report_text}
-use Rattle.star_trial.specs.declared.fault.TrialFault.{TrialFault}
-use Rattle.star_trial.specs.declared.fault.TrialFault.TheVariants as trial
+use Rattle.star_trial.specs.{declared.fault.TrialFault.TrialFault, Trials.IsFaultOfEnd}
 use Rattle.star_outcome.specs.Yields.{Yields}
-use Rattle.star_trial.specs.Trials.{IsFaultOfEnd}
 use Rattle.star_world.specs.WorldOf.{world_of}
-use Rattle.star_engine.specs.declared.fault.EngineFault.{EngineFault}
-use Rattle.star_engine.specs.declared.fault.EngineFault.TheVariants.{Trial}
 use Rattle.star_engine.specs.Loads.{HoldsOfFile, HoldsOfRows, IsNoProgram, IsProgramOf, IsUnread}
+use Rattle.star_engine.specs.{declared.fault.EngineFault.EngineFault, declared.fault.EngineFault.TheVariants.Trial}
+use Rattle.star_trial.specs.declared.fault.TrialFault.TheVariants as trial
 
 -- the printed report of the program that a file spells, run over these tables for at most `visits`
 -- visits

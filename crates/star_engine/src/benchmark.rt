@@ -1,14 +1,8 @@
 // The thirteen queries of the benchmark over one load.
 
 ghost use Rattle.std.specs.Prelude.{◌≡◌, ◌↔◌, IfOk, IsTrue, MatchResult, false};
+ghost use Rattle.star_engine.specs.{Bench.AllFit, Bench.IsBenchOver, Bench.IsSection, Executions.quote_over, Private.BenchSteps.IsRunFound, Private.Steps.IsMemory, Queries.FitsRows, Questions.Asks, Thirteen.query_text};
 ghost use Rattle.star_engine.specs.Bench as spec;
-ghost use Rattle.star_engine.specs.Bench.{AllFit, IsBenchOver, IsSection};
-ghost use Rattle.star_engine.specs.Executions.{quote_over};
-ghost use Rattle.star_engine.specs.Private.BenchSteps.{IsRunFound};
-ghost use Rattle.star_engine.specs.Private.Steps.{IsMemory};
-ghost use Rattle.star_engine.specs.Queries.{FitsRows};
-ghost use Rattle.star_engine.specs.Questions.{Asks};
-ghost use Rattle.star_engine.specs.Thirteen.{query_text};
 
 use crate::executions::run_checked;
 use crate::fault::EngineFault;

@@ -4,16 +4,10 @@ ghost use Rattle.std.specs.Prelude.{◌≡◌, ◌≤◌, ◌^◌, ◌↔◌, �
 ghost use Rattle.star_schema.specs.Loadable.{database_of};
 ghost use Rattle.star_catalogue.specs.Load.{texts_view};
 ghost use Rattle.star_engine.specs.Answered.{HasWritten, IsBrokenOff, IsRefused, IsUntouched, OrMemory, change};
-ghost use Rattle.star_engine.specs.Bench.{AllFit, IsBench};
-ghost use Rattle.star_engine.specs.Executions.{IsFileReport, IsQuoteOf, IsToldOf, IsUntold};
-ghost use Rattle.star_engine.specs.Listing.{IsListing};
-ghost use Rattle.star_engine.specs.Loads.{IsUnloaded};
 ghost use Rattle.star_engine.specs.Noted.{HasTold, IsNoted, IsTellingBrokenOff, IsTellingRefused, IsTellingUntold};
 ghost use Rattle.star_engine.specs.Queries.{IsExplained, IsNoQuery, IsQueryQuote, IsQueryTold, IsReportOf, IsUnanswered};
-ghost use Rattle.star_engine.specs.Questions.{Asks};
-ghost use Rattle.star_engine.specs.QuoteTexts.{IsNoneOfKind, IsQuoteText, IsUnquoted};
-ghost use Rattle.star_engine.specs.Trials.{IsNoTrial, IsTrialReport};
-ghost use Rattle.star_engine.specs.Private.TextSteps.{IsQuoteOfTexts, IsToldOfTexts, IsUntoldOfTexts};
+ghost use Rattle.star_engine.specs.{Bench.AllFit, Bench.IsBench, Executions.IsFileReport, Executions.IsQuoteOf, Executions.IsToldOf, Executions.IsUntold, Listing.IsListing, Loads.IsUnloaded, Questions.Asks, QuoteTexts.IsNoneOfKind, QuoteTexts.IsQuoteText, QuoteTexts.IsUnquoted};
+ghost use Rattle.star_engine.specs.{Trials.IsNoTrial, Trials.IsTrialReport, Private.TextSteps.IsQuoteOfTexts, Private.TextSteps.IsToldOfTexts, Private.TextSteps.IsUntoldOfTexts};
 
 use crate::engine::Engine;
 use crate::executions::write_text;

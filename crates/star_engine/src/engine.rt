@@ -1,19 +1,10 @@
 // Five tables that are loaded once and queried often.
 
 ghost use Rattle.std.specs.Prelude.{◌≡◌, ◌≤◌, ◌^◌, ◌↔◌, ℕ, Bool, true, List, IfErr, IfOk, IsTrue, MatchResult, string_bytes};
-ghost use Rattle.star_schema.specs.Database.{TableTexts};
-ghost use Rattle.star_schema.specs.Loadable.{IsLoadable, database_of};
-ghost use Rattle.star_catalogue.specs.Load.{texts_view};
-ghost use Rattle.star_catalogue.specs.Pieces.{AreRead, AreReadSome};
-ghost use Rattle.star_engine.specs.Answered.{IsAnswered, OrMemory, change};
-ghost use Rattle.star_engine.specs.Bench.{AllFit, IsBenchOver};
-ghost use Rattle.star_engine.specs.Listing.{IsListingOver};
-ghost use Rattle.star_engine.specs.Loads.{AreLoadedRows, AreOfLoadableTexts, IsUnloaded, loaded_of};
-ghost use Rattle.star_engine.specs.Noted.{IsNoted};
-ghost use Rattle.star_engine.specs.Questions.{Asks};
-ghost use Rattle.star_engine.specs.QuoteTexts.{IsQuoteOfKindOver};
-ghost use Rattle.star_engine.specs.Tellings.{IsJudgedOfKind, IsToldOfKind, IsUnjudgedOfKind, telling_of};
-ghost use Rattle.star_engine.specs.Trials.{IsBoundedReport, IsNoTrialOver};
+ghost use Rattle.star_schema.specs.{Database.TableTexts, Loadable.IsLoadable, Loadable.database_of};
+ghost use Rattle.star_catalogue.specs.{Load.texts_view, Pieces.AreRead, Pieces.AreReadSome};
+ghost use Rattle.star_engine.specs.{Answered.IsAnswered, Answered.OrMemory, Answered.change, Bench.AllFit, Bench.IsBenchOver, Listing.IsListingOver, Loads.AreLoadedRows, Loads.AreOfLoadableTexts, Loads.IsUnloaded, Loads.loaded_of, Noted.IsNoted, Questions.Asks};
+ghost use Rattle.star_engine.specs.{QuoteTexts.IsQuoteOfKindOver, Tellings.IsJudgedOfKind, Tellings.IsToldOfKind, Tellings.IsUnjudgedOfKind, Tellings.telling_of, Trials.IsBoundedReport, Trials.IsNoTrialOver};
 
 use crate::benchmark::bench_of;
 use crate::executions::{Told, checked, execute, forecast, report_of, run_checked, write_text};

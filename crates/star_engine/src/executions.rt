@@ -1,15 +1,8 @@
 // Programs that are verified and then run, with the text of their runs.
 
 ghost use Rattle.std.specs.Prelude.{◌≡◌, ◌<◌, ◌≤◌, ◌^◌, ℕ, List, IfOk, MatchResult, length, string_bytes};
-ghost use Rattle.star_engine.specs.Answered.{HasGained, IsWritten, OrMemory, change};
-ghost use Rattle.star_engine.specs.Executions.{IsAcceptedWithin, IsQuote, IsProgramTold};
-ghost use Rattle.star_engine.specs.Faults.{fault_of_refusal};
-ghost use Rattle.star_engine.specs.Loads.{IsProgramOf};
-ghost use Rattle.star_engine.specs.Noted.{IsNoted};
-ghost use Rattle.star_engine.specs.Private.Steps.{AreBothWritten, IsNotVerified, IsPart};
-ghost use Rattle.star_engine.specs.Tellings.{IsProgramForecast, telling_of};
-ghost use Rattle.star_engine.specs.Trials.{IsBoundedReport, IsNoTrialOver};
-ghost use Rattle.star_engine.specs.declared.fault.EngineFault.TheVariants.{Write};
+ghost use Rattle.star_engine.specs.{Answered.HasGained, Answered.IsWritten, Answered.OrMemory, Answered.change, Executions.IsAcceptedWithin, Executions.IsQuote, Executions.IsProgramTold, Faults.fault_of_refusal, Loads.IsProgramOf, Noted.IsNoted, Private.Steps.AreBothWritten};
+ghost use Rattle.star_engine.specs.{Private.Steps.IsNotVerified, Private.Steps.IsPart, Tellings.IsProgramForecast, Tellings.telling_of, Trials.IsBoundedReport, Trials.IsNoTrialOver, declared.fault.EngineFault.TheVariants.Write};
 
 use crate::fault::EngineFault;
 use crate::notes::{counts_note, forecast_note, program_note, quote_note};

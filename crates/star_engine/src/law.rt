@@ -1,13 +1,8 @@
 //! Laws of reports: functions with empty bodies, whose clauses are the laws.
 
 ghost use Rattle.std.specs.Prelude.{◌≡◌, ℕ, List};
-ghost use Rattle.star_schema.specs.Database.{Database, TableTexts};
-ghost use Rattle.star_engine.specs.declared.fault.EngineFault.{EngineFault};
-ghost use Rattle.star_schema.specs.Loadable.{IsLoadable, database_of};
-ghost use Rattle.star_engine.specs.Executions.{IsToldOf, IsToldOver, IsUntold, IsUntoldOver};
-ghost use Rattle.star_engine.specs.Loads.{AreLoadedRows};
-ghost use Rattle.star_engine.specs.Noted.{Telling};
-ghost use Rattle.star_engine.specs.Trials.{IsBoundedReport};
+ghost use Rattle.star_schema.specs.{Database.Database, Database.TableTexts, Loadable.IsLoadable, Loadable.database_of};
+ghost use Rattle.star_engine.specs.{declared.fault.EngineFault.EngineFault, Executions.IsToldOf, Executions.IsToldOver, Executions.IsUntold, Executions.IsUntoldOver, Loads.AreLoadedRows, Noted.Telling, Trials.IsBoundedReport};
 
 /// States that no two texts are reports of one file, run over the same tables with the same bound.
 pub fn one_report()

@@ -1,9 +1,8 @@
 // The listing of the loaded tables.
 
 ghost use Rattle.std.specs.Prelude.{◌≡◌, ◌++◌, IfOk, OnOk, string_bytes};
-ghost use Rattle.std.specs.List.{flat_map};
-ghost use Rattle.star_schema.specs.Database.{rows_in};
-ghost use Rattle.star_schema.specs.Schema.{columns_of, kind_of, table_of};
+ghost use Rattle.std.specs.{List.flat_map};
+ghost use Rattle.star_schema.specs.{Database.rows_in, Schema.columns_of, Schema.kind_of, Schema.table_of};
 ghost use Rattle.star_engine.specs.Listing.{IsListingOver, column_text, table_text};
 
 use star_catalogue::Catalogue;

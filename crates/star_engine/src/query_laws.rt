@@ -1,31 +1,17 @@
 //! Laws of queries and their reports: functions with empty bodies, whose clauses are the laws.
 
 ghost use Rattle.std.specs.Prelude.{◌≡◌, ◌≤◌, ◌<◌, ◌^◌, ◌↔◌, ℕ, List, Some};
-ghost use Rattle.std.specs.Option.{option_map};
-ghost use Rattle.star_schema.specs.Database.{Database, TableTexts, rows_in};
-ghost use Rattle.star_query.specs.Derives.{Means};
-ghost use Rattle.star_query.specs.Tree.{Tree};
-ghost use Rattle.star_plan.specs.Meaning.{Plan};
-ghost use Rattle.star_plan.specs.WellNamed.{IsWellNamed};
-ghost use Rattle.star_program.specs.Effects.{State};
-ghost use Rattle.star_program.specs.Run.{Ended, EndsWith, run_of};
-ghost use Rattle.star_program.specs.Text.Spellable.{IsSpellable};
+ghost use Rattle.std.specs.{Option.option_map};
+ghost use Rattle.star_schema.specs.{Database.Database, Database.TableTexts, Database.rows_in, Columns.bounds_in};
+ghost use Rattle.star_query.specs.{Derives.Means, Tree.Tree};
+ghost use Rattle.star_plan.specs.{Meaning.Plan, WellNamed.IsWellNamed};
+ghost use Rattle.star_program.specs.{Effects.State, Run.Ended, Run.EndsWith, Run.run_of, Text.Spellable.IsSpellable};
 ghost use Rattle.star_safety.specs.Admissible.{Refused, TooCostly, first_refusal};
 ghost use Rattle.star_world.specs.WorldOf.{world_of};
-ghost use Rattle.star_schema.specs.Columns.{bounds_in};
-ghost use Rattle.star_compile_laws.specs.Compiled.{compiled};
-ghost use Rattle.star_compile_laws.specs.Counts.{HasCounted};
-ghost use Rattle.star_compile_laws.specs.Judged.{IsOverflow};
-ghost use Rattle.star_compile_laws.specs.Wide.{turn_wide};
-ghost use Rattle.star_engine.specs.Executions.{IsAcceptedWithin, quote_over};
-ghost use Rattle.star_engine.specs.declared.fault.EngineFault.{EngineFault};
-ghost use Rattle.star_engine.specs.declared.thirteen.BenchmarkQuery.{BenchmarkQuery};
-ghost use Rattle.star_engine.specs.Loads.{AreLoadedRows};
+ghost use Rattle.star_compile_laws.specs.{Compiled.compiled, Counts.HasCounted, Judged.IsOverflow, Wide.turn_wide};
 ghost use Rattle.star_engine.specs.Queries.{FitsRows, IsNoQuery, IsPlanOf, IsQueryTold, IsQueryToldOver, IsUnanswered, IsUnansweredOver, fact_rows};
-ghost use Rattle.star_engine.specs.Noted.{Telling};
-ghost use Rattle.star_engine.specs.QueryRuns.{HasReported, PrintsTheReport};
-ghost use Rattle.star_engine.specs.Private.QuerySteps.{IsJudged};
-ghost use Rattle.star_engine.specs.Thirteen.{query_text};
+ghost use Rattle.star_engine.specs.{Executions.IsAcceptedWithin, Executions.quote_over, declared.fault.EngineFault.EngineFault, declared.thirteen.BenchmarkQuery.BenchmarkQuery, Loads.AreLoadedRows, Noted.Telling, QueryRuns.HasReported, QueryRuns.PrintsTheReport};
+ghost use Rattle.star_engine.specs.{Private.QuerySteps.IsJudged, Thirteen.query_text};
 
 use star_catalogue::Catalogue;
 use star_compile_laws::acceptance::compiled_programs_are_accepted_where_they_fit_the_tables;

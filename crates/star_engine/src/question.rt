@@ -1,12 +1,7 @@
 // Questions: queries and programs that were read.
 
 ghost use Rattle.std.specs.Prelude.{◌≡◌, ℕ, List, true, false, MatchResult};
-ghost use Rattle.star_engine.specs.Answered.{OrMemory};
-ghost use Rattle.star_engine.specs.Loads.{IsNoProgram};
-ghost use Rattle.star_engine.specs.Queries.{IsExplained, IsNoQuery};
-ghost use Rattle.star_engine.specs.Questions.{Asks};
-ghost use Rattle.star_engine.specs.QuoteTexts.{IsUnquotedOver, is_program_file};
-ghost use Rattle.star_engine.specs.Private.Steps.{IsMemory};
+ghost use Rattle.star_engine.specs.{Answered.OrMemory, Loads.IsNoProgram, Queries.IsExplained, Queries.IsNoQuery, Questions.Asks, QuoteTexts.IsUnquotedOver, QuoteTexts.is_program_file, Private.Steps.IsMemory};
 
 use crate::fault::EngineFault;
 use crate::query_laws::programs_of_queries_report_them;

@@ -1,38 +1,19 @@
 -- What queries of all rows answer over the sample, from their texts and the bytes of five files to
 -- their printed reports.
 use Rattle.std.proofs.Common.{◌≡◌, ◌∙◌, ℕ, zero, suc, Bool, true, false, List, [], ◌∷◌, Option, Some, None, ap, arith, inl, inr, length, refl, subst, sym}
-use Rattle.std.specs.Prelude.{Contains, codes, is_none, map}
-use Rattle.std.specs.Fmt.{digits}
-use Rattle.std.specs.List.{AllByRecursion}
-use Rattle.std.specs.List.Sorted.{IsStrictlySortedBy}
-use Rattle.std.specs.declared.cmp.Ordering.{Ordering}
+use Rattle.std.specs.{Prelude.Contains, Prelude.codes, Prelude.is_none, Prelude.map, Fmt.digits, List.AllByRecursion, List.Sorted.IsStrictlySortedBy, declared.cmp.Ordering.Ordering}
 use Rattle.star_common.specs.First.{first_answer}
 use Rattle.star_common.proofs.Tables.{each_row}
-use Rattle.star_schema.specs.declared.group.Aggregate.{Aggregate}
-use Rattle.star_schema.specs.declared.group.Shape.{Shape}
-use Rattle.star_schema.specs.declared.group.Shape.TheVariants.{Cube, Plain, Rollup}
-use Rattle.star_schema.specs.Database.{Database, rows_in}
 use Rattle.star_schema.specs.Groups.{AreGroups, Entry, GroupRow, IsGroup, IsMasked, members, totals_of}
-use Rattle.star_schema.specs.Loadable.{database_of}
-use Rattle.star_schema.specs.Order.{value_cmp}
-use Rattle.star_schema.specs.Records.{pieces}
-use Rattle.star_schema.specs.Schema.{column_of, columns_of, place_of, table_name}
-use Rattle.star_schema.specs.Tables.{Value}
-use Rattle.star_query.specs.Symbols.{spelling}
-use Rattle.star_query.specs.Private.Cut.{cut_from, reserved, reserved_words}
-use Rattle.star_query.specs.Tree.{Name, Tree}
+use Rattle.star_schema.specs.{declared.group.Aggregate.Aggregate, declared.group.Shape.Shape, declared.group.Shape.TheVariants.Cube, declared.group.Shape.TheVariants.Plain, declared.group.Shape.TheVariants.Rollup, Database.Database, Database.rows_in, Loadable.database_of, Order.value_cmp}
+use Rattle.star_schema.specs.{Records.pieces, Schema.column_of, Schema.columns_of, Schema.place_of, Schema.table_name, Tables.Value}
+use Rattle.star_query.specs.{Symbols.spelling, Private.Cut.cut_from, Private.Cut.reserved, Private.Cut.reserved_words, Tree.Name, Tree.Tree}
 use Rattle.star_query.proofs.Told.{Says, Told, fault, holds, means, nothing, told}
-use Rattle.star_plan.specs.declared.fault.PlanFault.{PlanFault}
-use Rattle.star_plan.specs.Faults.{plan_fault}
-use Rattle.star_plan.specs.Meaning.{Joined, aggregate_of}
-use Rattle.star_plan.specs.Names.{column_called, has_name, table_called}
-use Rattle.star_plan.specs.Naming.{function_word, has_text}
+use Rattle.star_plan.specs.{declared.fault.PlanFault.PlanFault, Faults.plan_fault, Meaning.Joined, Meaning.aggregate_of, Names.column_called, Names.has_name, Names.table_called, Naming.function_word, Naming.has_text}
 use Rattle.star_plan.proofs.Conditions.{well_named}
 use Rattle.star_program.specs.RowCells.{cell_of}
 use Rattle.star_report.specs.Report.{cell_text, line_text, report_text}
-use Rattle.star_query_meaning.specs.Reports.{IsReport}
-use Rattle.star_query_meaning.specs.Rows.{measures_of, query_entry, selected, value_named}
-use Rattle.star_query_meaning.specs.Shows.{item_columns, item_names}
+use Rattle.star_query_meaning.specs.{Reports.IsReport, Rows.measures_of, Rows.query_entry, Rows.selected, Rows.value_named, Shows.item_columns, Shows.item_names}
 use Rattle.star_examples.proofs.Sample.{five, sample_texts}
 
 -- ---- rows without keys are one group, which is there over no rows too

@@ -1,50 +1,33 @@
 -- What each command asks of the engine, what is told of a fault or a failure and with which status,
 -- and what sessions and reports of files tell: each type is the one on the right.
 use Rattle.std.proofs.Common.{◌≡◌, ◌⊎◌, ◌≤◌, ◌&&◌, ◌↔◌, ℕ, Bool, true, false, List, [], ◌∷◌, Option, Some, None, Result, Ok, Err, arith, inl, inr, refl}
-use Rattle.std.specs.Prelude.{IfOk, IsTrue, codes}
-use Rattle.std.specs.Borrow.{Bor}
+use Rattle.std.specs.{Prelude.IfOk, Prelude.IsTrue, Prelude.codes, Borrow.Bor}
 use Rattle.star_common.proofs.Tables.{Gives}
-use Rattle.star_schema.specs.declared.limits.Limits.{Limits}
-use Rattle.star_schema.specs.declared.table.TableId.TheVariants.{Lineorder}
-use Rattle.star_schema.specs.Database.{Database, TableTexts}
-use Rattle.star_schema.specs.Loadable.{IsLoadable, database_of}
-use Rattle.star_schema.specs.Most.{most_rows, most_visits}
-use Rattle.star_query.specs.declared.fault.QueryFault.TheVariants as parsing
+use Rattle.star_schema.specs.{declared.limits.Limits.Limits, declared.table.TableId.TheVariants.Lineorder, Database.Database, Database.TableTexts, Loadable.IsLoadable, Loadable.database_of, Most.most_rows, Most.most_visits}
 use Rattle.star_plan.specs.declared.fault.PlanFault.TheVariants.{JoinMissing}
 use Rattle.star_program.specs.declared.spelling.fault.TextFault.TheVariants.{BadLine}
 use Rattle.star_catalogue.specs.declared.fault.LoadFault.TheVariants.{DuplicateKey}
 use Rattle.star_verify.specs.declared.refusal.Refusal.TheVariants.{TooCostly}
 use Rattle.star_trial.specs.declared.fault.TrialFault.TheVariants.{Limit}
-use Rattle.star_statements.specs.Blanks.{without_blanks}
-use Rattle.star_statements.specs.Questions.{asked_by_text}
-use Rattle.star_statements.specs.Sources.{IsPastCounting}
-use Rattle.star_statements.specs.Statements.{ends_statement, joined_to_first, statement_lines, statements_in}
 use Rattle.star_statements.specs.declared.questions.Question.TheVariants.{Explain as Explained, Nothing, Query as Asked, Quote as Quoted, TooLong}
-use Rattle.star_statements.specs.declared.sources.ReadFault.TheVariants.{Failed, OutOfMemory as NoMemory}
-use Rattle.star_engine.specs.declared.fault.EngineFault.{EngineFault}
+use Rattle.star_statements.specs.{Blanks.without_blanks, Questions.asked_by_text, Sources.IsPastCounting, Statements.ends_statement, Statements.joined_to_first, Statements.statement_lines, Statements.statements_in, declared.sources.ReadFault.TheVariants.Failed}
+use Rattle.star_statements.specs.{declared.sources.ReadFault.TheVariants.OutOfMemory as NoMemory}
 use Rattle.star_engine.specs.declared.fault.EngineFault.TheVariants.{Load, OutOfMemory, Plan, Program, Query, Refused, Trial, Write}
-use Rattle.star_engine.specs.Answered.{Change, HasGained, HasGainedPart, IsAnswered}
-use Rattle.star_engine.specs.Bench.{AllFit, IsBench}
-use Rattle.star_engine.specs.Executions.{IsQuoteOf, IsToldOf, IsUntold}
-use Rattle.star_engine.specs.Loads.{IsUnloaded, Loaded}
-use Rattle.star_engine.specs.Noted.{IsNoted}
 use Rattle.star_engine.specs.Queries.{IsExplained, IsNoQuery, IsQueryQuote, IsQueryQuoteOver, IsQueryTold, IsQueryToldOver, IsUnanswered, IsUnansweredOver}
-use Rattle.star_engine.specs.QuoteTexts.{IsQuoteTextOver, IsUnquotedOver}
-use Rattle.star_engine.specs.Tellings.{IsJudgedOver}
-use Rattle.star_words.specs.declared.request.Task.TheVariants as task
-use Rattle.star_service.specs.Lines.{IsFaultTold, IsTextTold, fault_line, fault_status}
+use Rattle.star_engine.specs.{declared.fault.EngineFault.EngineFault, Answered.Change, Answered.HasGained, Answered.HasGainedPart, Answered.IsAnswered, Bench.AllFit, Bench.IsBench, Executions.IsQuoteOf, Executions.IsToldOf, Executions.IsUntold, Loads.IsUnloaded, Loads.Loaded}
+use Rattle.star_engine.specs.{Noted.IsNoted, QuoteTexts.IsQuoteTextOver, QuoteTexts.IsUnquotedOver, Tellings.IsJudgedOver}
 use Rattle.star_service.specs.Reports.{AreAllDelivered, AreAllJudged, AreDelivered, AreJudged, IsDelivered, IsJudged, IsJudgedLine, IsRefusedLine, IsReportKept, IsReportUnkept, named_line}
 use Rattle.star_service.specs.Sessions.{AreAllAnswered, AreRounds, IsAnswerTo, IsConversed, IsLineEnded, IsReportEnded, IsReported, IsRound, IsSession, IsSessionEnded, IsStatementUnread, IsStepEnded, IsUnwritten, may_go_on, parting_of}
 use Rattle.star_service.specs.Shelves.{Adds, HasFailedAt, HasKeptNone, IsUnkept, Kept, KeepsAll, Shelving, shelving}
-use Rattle.star_service.specs.declared.reports.Errand.{Errand}
-use Rattle.star_service.specs.declared.reports.Halt.{Halt}
-use Rattle.star_service.specs.declared.reports.Halt.TheVariants as halts
-use Rattle.star_service.specs.declared.sessions.Stop.TheVariants.{Unread, Unwritten}
-use Rattle.star_service.specs.declared.shelf.ShelfFault.TheVariants as shelf_fault
+use Rattle.star_service.specs.{Lines.IsFaultTold, Lines.IsTextTold, Lines.fault_line, Lines.fault_status, declared.reports.Errand.Errand, declared.reports.Halt.Halt, declared.sessions.Stop.TheVariants.Unread, declared.sessions.Stop.TheVariants.Unwritten}
 use Rattle.star_cli.specs.Answers.{IsBenched, IsEnded, IsExecuted, IsExplanation, IsGivenOf, IsListed, IsListedAndBenched, IsNoneRefused, IsOfTables, IsQueried, IsQuoted, IsTried, none_refused}
 use Rattle.star_cli.specs.Failures.{AreReportsEnded, IsFailureTold, IsTextOf, IsToldOn, failure_of_halt, status_of}
-use Rattle.star_cli.specs.FolderLoads.{AreLoadableRows, IsFolderRefused, IsWidest}
+use Rattle.star_cli.specs.{FolderLoads.AreLoadableRows, FolderLoads.IsFolderRefused, FolderLoads.IsWidest}
 use Rattle.star_examples.proofs.EngineAnswers.{Answer, Sink, grown, of_load, report, untouched, well}
+use Rattle.star_query.specs.declared.fault.QueryFault.TheVariants as parsing
+use Rattle.star_words.specs.declared.request.Task.TheVariants as task
+use Rattle.star_service.specs.declared.reports.Halt.TheVariants as halts
+use Rattle.star_service.specs.declared.shelf.ShelfFault.TheVariants as shelf_fault
 
 -- ---- statuses of faults
 

@@ -1,39 +1,26 @@
 -- What a call of the engine leaves in its sinks, clause by clause, over sinks whose bytes are known;
 -- and why it answers a fault: each type is the one on the right.
 use Rattle.std.proofs.Common.{◌≡◌, ◌<◌, ◌≤◌, ◌⊎◌, ◌++◌, ◌+◌, ℕ, Bool, true, false, List, [], ◌∷◌, Some, Result, Ok, Err, arith, refl, true≢false}
-use Rattle.std.specs.Prelude.{codes}
-use Rattle.std.specs.Option.{option_map}
+use Rattle.std.specs.{Prelude.codes, Option.option_map}
 use Rattle.star_common.proofs.Tables.{Gives}
-use Rattle.star_schema.specs.declared.table.TableId.TheVariants.{Lineorder}
-use Rattle.star_schema.specs.Columns.{bounds_in}
-use Rattle.star_schema.specs.Database.{Database, TableTexts, rows_in}
-use Rattle.star_catalogue.specs.declared.fault.LoadFault.{LoadFault}
-use Rattle.star_catalogue.specs.declared.fault.LoadFault.TheVariants.{DuplicateKey}
+use Rattle.star_schema.specs.{declared.table.TableId.TheVariants.Lineorder, Columns.bounds_in, Database.Database, Database.TableTexts, Database.rows_in}
+use Rattle.star_catalogue.specs.{declared.fault.LoadFault.LoadFault, declared.fault.LoadFault.TheVariants.DuplicateKey}
 use Rattle.star_query.specs.declared.fault.QueryFault.{QueryFault}
 use Rattle.star_plan.specs.declared.fault.PlanFault.{PlanFault}
-use Rattle.star_program.specs.declared.program.Parts.{Parts}
-use Rattle.star_program.specs.declared.spelling.fault.TextFault.{TextFault}
-use Rattle.star_program.specs.Text.FirstFaults.{FirstTextFault}
+use Rattle.star_program.specs.{declared.program.Parts.Parts, declared.spelling.fault.TextFault.TextFault, Text.FirstFaults.FirstTextFault}
 use Rattle.star_safety.specs.Admissible.{Refused as Reason, TooCostly as Costly}
-use Rattle.star_verify.specs.declared.refusal.Refusal.{Refusal}
-use Rattle.star_verify.specs.Views.{refusal_view}
+use Rattle.star_verify.specs.{declared.refusal.Refusal.Refusal, Views.refusal_view}
 use Rattle.star_query_meaning.specs.Reports.{IsReport}
-use Rattle.star_compile_laws.specs.Judged.{IsOverflow}
-use Rattle.star_compile_laws.specs.Wide.{turn_wide}
-use Rattle.star_engine.specs.declared.fault.EngineFault.{EngineFault}
+use Rattle.star_compile_laws.specs.{Judged.IsOverflow, Wide.turn_wide}
 use Rattle.star_engine.specs.declared.fault.EngineFault.TheVariants.{OutOfMemory, Load, Plan as Names, Program, Query, Refused, Write}
-use Rattle.star_engine.specs.declared.input.Input.{Input}
-use Rattle.star_engine.specs.declared.thirteen.BenchmarkQuery.{BenchmarkQuery}
 use Rattle.star_engine.specs.Answered.{Change, HasGained, HasGainedPart, HasWritten, IsAnswered, IsBrokenOff, IsRefused, IsWritten, OrMemory, change}
-use Rattle.star_engine.specs.Bench.{AreSections, IsFinding, IsSection, refusal_line}
 use Rattle.star_engine.specs.Executions.{IsAcceptedWithin, IsQuoteOver, IsToldOver, IsUntoldOver, quote_over}
 use Rattle.star_engine.specs.Loads.{HoldsOfFile, IsLoadFault, IsNoProgram, IsProgram, IsProgramOf, IsUnloaded, IsUnread}
 use Rattle.star_engine.specs.Noted.{HasTold, IsNoted, IsQuoteNoted, IsTellingBrokenOff, IsTellingRefused, IsTellingUntold, Telling}
 use Rattle.star_engine.specs.Queries.{FitsRows, IsNoQuery, IsPlanFault, IsQuery, IsQueryFault, IsQueryQuoteOver, IsQueryToldOver, IsUnansweredOver, IsUnasked, IsUnfit, fact_rows}
-use Rattle.star_engine.specs.Questions.{IsProgramOfKind, IsProgramOfQuery}
-use Rattle.star_engine.specs.QuoteTexts.{IsQuoteTextOver, IsUnquoted, IsUnquotedOver, is_program_file}
-use Rattle.star_engine.specs.Reading.{IsFresh, came_of, has_failed, reads_of}
 use Rattle.star_engine.specs.Tellings.{IsFileToldOver, IsJudgedOver, IsProgramForecast, IsQueryForecast, IsUnjudgedOver}
+use Rattle.star_engine.specs.{declared.fault.EngineFault.EngineFault, declared.input.Input.Input, declared.thirteen.BenchmarkQuery.BenchmarkQuery, Bench.AreSections, Bench.IsFinding, Bench.IsSection, Bench.refusal_line, Questions.IsProgramOfKind, Questions.IsProgramOfQuery}
+use Rattle.star_engine.specs.{QuoteTexts.IsQuoteTextOver, QuoteTexts.IsUnquoted, QuoteTexts.IsUnquotedOver, QuoteTexts.is_program_file, Reading.IsFresh, Reading.came_of, Reading.has_failed, Reading.reads_of}
 
 -- ---- sinks: the bytes, and whether a write has failed
 

@@ -1,23 +1,14 @@
 -- Which fault of a query's text comes first, and which of its names: the rows that no case shows.
 use Rattle.std.proofs.Common.{◌≡◌, ◌<◌, ℕ, zero, suc, List, [], ◌∷◌, ◌++◌, Option, Some, None, arith, length, refl}
-use Rattle.std.specs.Prelude.{codes, replicate}
-use Rattle.std.specs.Fmt.{digits}
-use Rattle.std.specs.List.{AllByRecursion}
+use Rattle.std.specs.{Prelude.codes, Prelude.replicate, Fmt.digits, List.AllByRecursion}
 use Rattle.star_common.specs.First.{first_answer}
 use Rattle.star_common.proofs.Tables.{each_row}
 use Rattle.star_schema.specs.Schema.{column_of, table_name}
-use Rattle.star_query.specs.declared.fault.QueryFault.{QueryFault}
 use Rattle.star_query.specs.declared.fault.QueryFault.TheVariants.{TooLong, BadCharacter, BadNumber, Unexpected, TooDeep, TooMany}
-use Rattle.star_query.specs.Private.Cut.{cut_from, reserved, reserved_words}
-use Rattle.star_query.specs.Derives.{IsFirstQueryFault, Means}
-use Rattle.star_query.specs.Symbols.{spelling}
-use Rattle.star_query.specs.Tree.{Tree}
+use Rattle.star_query.specs.{declared.fault.QueryFault.QueryFault, Private.Cut.cut_from, Private.Cut.reserved, Private.Cut.reserved_words, Derives.IsFirstQueryFault, Derives.Means, Symbols.spelling, Tree.Tree}
 use Rattle.star_query.proofs.Told.{Says, Told, fault, holds, means, nothing, told}
-use Rattle.star_plan.specs.declared.fault.PlanFault.{PlanFault}
 use Rattle.star_plan.specs.declared.fault.PlanFault.TheVariants.{UnknownName, TableNotNamed, JoinTwice, NotAKeyPair, WrongKind, NotGrouped, UnknownOrderKey, DuplicateAlias}
-use Rattle.star_plan.specs.Faults.{plan_fault}
-use Rattle.star_plan.specs.Names.{column_called, has_name, table_called}
-use Rattle.star_plan.specs.Naming.{function_word, has_text}
+use Rattle.star_plan.specs.{declared.fault.PlanFault.PlanFault, Faults.plan_fault, Names.column_called, Names.has_name, Names.table_called, Naming.function_word, Naming.has_text}
 
 -- ---- what is computed of a text holds of it
 

@@ -4,24 +4,17 @@ use Rattle.std.proofs.Common.{◌≡◌, ◌++◌, ℕ, List, [], ◌∷◌, Som
 use Rattle.std.specs.Prelude.{codes, map, pos, replicate}
 use Rattle.star_common.specs.First.{first_answer}
 use Rattle.star_common.proofs.Tables.{Gives, Gives2}
-use Rattle.star_schema.specs.declared.table.TableId.TheVariants.{Date, Supplier, Part, Lineorder}
-use Rattle.star_schema.specs.declared.table.TheConstants.{TABLES}
-use Rattle.star_schema.specs.declared.column.ColumnId.TheVariants.{LoOrderdate, LoPartkey, LoTax}
-use Rattle.star_schema.specs.declared.column.Kind.TheVariants as kind
-use Rattle.star_schema.specs.Loadable.{foreign_keys, keys_of}
-use Rattle.star_schema.specs.Records.{pieces}
-use Rattle.star_schema.specs.Schema.{column_of, columns_of, place_of}
-use Rattle.star_schema.specs.Tables.{Number, Text}
-use Rattle.star_reader.specs.declared.column.RawColumn.{RawColumn}
-use Rattle.star_reader.specs.declared.column.RawColumn.TheVariants.{Numbers, Texts}
-use Rattle.star_reader.specs.declared.fault.ReadFault.TheVariants as read
-use Rattle.star_reader.specs.Columns.{first_rows, raw_kind, row_of_columns, values}
-use Rattle.star_reader.specs.Faults as reader
+use Rattle.star_schema.specs.{declared.table.TableId.TheVariants.Date, declared.table.TableId.TheVariants.Supplier, declared.table.TableId.TheVariants.Part, declared.table.TableId.TheVariants.Lineorder, declared.table.TheConstants.TABLES, declared.column.ColumnId.TheVariants.LoOrderdate}
+use Rattle.star_schema.specs.{declared.column.ColumnId.TheVariants.LoPartkey, declared.column.ColumnId.TheVariants.LoTax, Loadable.foreign_keys, Loadable.keys_of, Records.pieces, Schema.column_of, Schema.columns_of, Schema.place_of, Tables.Number, Tables.Text}
 use Rattle.star_reader.specs.Faults.{part_fault, parts_fault, record_fault, records_fault, text_fault}
+use Rattle.star_reader.specs.{declared.column.RawColumn.RawColumn, declared.column.RawColumn.TheVariants.Numbers, declared.column.RawColumn.TheVariants.Texts, Columns.first_rows, Columns.raw_kind, Columns.row_of_columns, Columns.values}
 use Rattle.star_catalogue.specs.declared.fault.LoadFault.TheVariants.{AbsentKey, BadByte, BadNumber, ByteOrderMark, CellTooLong, FieldCount, OutOfMemory, TooManyRows}
-use Rattle.star_catalogue.specs.declared.texts.Texts as five_texts
-use Rattle.star_examples.proofs.Sample.{five, sample_texts}
 use Rattle.star_catalogue.specs.Load.{absent_fault, foreign_key_fault, fault_of_read, first_repeat, load_fault, same_key, tables_fault, texts_view}
+use Rattle.star_examples.proofs.Sample.{five, sample_texts}
+use Rattle.star_schema.specs.declared.column.Kind.TheVariants as kind
+use Rattle.star_reader.specs.declared.fault.ReadFault.TheVariants as read
+use Rattle.star_reader.specs.Faults as reader
+use Rattle.star_catalogue.specs.declared.texts.Texts as five_texts
 
 -- ---- a cell: its length, then its bytes, then the number in it
 

@@ -1,36 +1,22 @@
 -- What every plan keeps, and when it fits the sample.
 use Rattle.std.proofs.Common.{◌≡◌, ◌≤◌, ◌^◌, ℕ, ℤ, true, false, List, [], ◌∷◌, Some, None, length, pos, refl}
 use Rattle.std.specs.Prelude.{IsTrue, codes, neg_ℤ, replicate, sum_by}
-use Rattle.std.specs.List.{list_all}
+use Rattle.std.specs.{List.list_all}
 use Rattle.star_common.proofs.Tables.{Gives, Gives2}
-use Rattle.star_schema.specs.declared.table.Key.TheVariants.{Two}
-use Rattle.star_schema.specs.declared.table.TableId.TheVariants.{Customer, Date, Part, Lineorder}
-use Rattle.star_schema.specs.declared.column.ColumnId.{ColumnId}
 use Rattle.star_schema.specs.declared.column.ColumnId.TheVariants.{CCustkey, DDatekey, DYear, LoDiscount, LoExtendedprice, LoLinenumber, LoOrderdate, LoOrderkey, LoQuantity, LoRevenue, LoShipmode, LoSupplycost, LoTax, PBrand1, PSize}
-use Rattle.star_schema.specs.declared.column.Kind.TheVariants as kind
-use Rattle.star_schema.specs.declared.group.GroupColumn.TheVariants.{Key, Aggregate}
-use Rattle.star_schema.specs.Bounds.{greatest as greatest_number, least as least_number, numbers_at}
-use Rattle.star_schema.specs.Columns.{bounds_in}
-use Rattle.star_schema.specs.Records.{pieces}
-use Rattle.star_schema.specs.Schema.{column_of, columns_of, place_of, table_of}
-use Rattle.star_schema.specs.Tables.{Number, Text}
+use Rattle.star_schema.specs.{declared.table.Key.TheVariants.Two, declared.table.TableId.TheVariants.Customer, declared.table.TableId.TheVariants.Date, declared.table.TableId.TheVariants.Part, declared.table.TableId.TheVariants.Lineorder, declared.column.ColumnId.ColumnId}
+use Rattle.star_schema.specs.{declared.group.GroupColumn.TheVariants.Key, declared.group.GroupColumn.TheVariants.Aggregate, Bounds.greatest as greatest_number, Bounds.least as least_number, Bounds.numbers_at, Columns.bounds_in, Records.pieces, Schema.column_of, Schema.columns_of}
+use Rattle.star_schema.specs.{Schema.place_of, Schema.table_of, Tables.Number, Tables.Text}
 use Rattle.star_interval.specs.Range.{Range, is_i64, only}
-use Rattle.star_query.specs.declared.token.Relation.TheVariants.{Equal}
-use Rattle.star_query.specs.Limits.{comparisons_of, measure_operands, operands_of}
-use Rattle.star_query.specs.Spelled.{has_few_digits, is_name, is_printable_text}
 use Rattle.star_query.specs.Tree.{Expression, Name, Tree, add, and, column, constant, count, mul, not, or, sub}
-use Rattle.star_plan.specs.declared.tree.Join.{Join}
-use Rattle.star_plan.specs.Fits.{Fits, expression_range, measure_fits, nodes_fit}
-use Rattle.star_plan.specs.Joins.{is_foreign, is_joined, is_lone_key, joins}
-use Rattle.star_plan.specs.Limits.{IsPlanWithinLimits}
-use Rattle.star_plan.specs.Meaning.{Plan, RowCondition, value_in, value_number}
-use Rattle.star_plan.specs.Names.{column_called, is_of}
+use Rattle.star_query.specs.{declared.token.Relation.TheVariants.Equal, Limits.comparisons_of, Limits.measure_operands, Limits.operands_of, Spelled.has_few_digits, Spelled.is_name, Spelled.is_printable_text}
 use Rattle.star_plan.specs.Sound.{IsSoundPlan, are_distinct, condition_is_sound, expression_is_sound, in_scope, is_group_column, measure_is_sound}
-use Rattle.star_plan.specs.Spelled.{IsSpelledPlan, condition_is_spelled, expression_is_spelled, measure_is_spelled}
-use Rattle.star_query_meaning.specs.Fitting.{FitsTables, PlanFitsTables, range_named}
-use Rattle.star_query_meaning.specs.Rows.{measures_of}
+use Rattle.star_plan.specs.{declared.tree.Join.Join, Fits.Fits, Fits.expression_range, Fits.measure_fits, Fits.nodes_fit, Joins.is_foreign, Joins.is_joined, Joins.is_lone_key, Joins.joins, Limits.IsPlanWithinLimits, Meaning.Plan, Meaning.RowCondition, Meaning.value_in}
+use Rattle.star_plan.specs.{Meaning.value_number, Names.column_called, Names.is_of, Spelled.IsSpelledPlan, Spelled.condition_is_spelled, Spelled.expression_is_spelled, Spelled.measure_is_spelled}
+use Rattle.star_query_meaning.specs.{Fitting.FitsTables, Fitting.PlanFitsTables, Fitting.range_named, Rows.measures_of}
 use Rattle.star_compile_laws.proofs.PlanWords.{compare, between, summed, least, greatest}
 use Rattle.star_examples.proofs.Sample.{number, text, sample, by_order, by_commit, cost, discount, of_part, revenue, tax}
+use Rattle.star_schema.specs.declared.column.Kind.TheVariants as kind
 
 -- ---- sound: date is joined, and part isn't; texts are no numbers
 

@@ -1,44 +1,26 @@
 -- Which programs are verified and may be run, the ranges of a report, and words.
 use Rattle.std.proofs.Common.{◌<◌, ◌^◌, ◌∷◌, ◌≡◌, ◌≤◌, Bool, None, Option, Some, [], arith, false, inl, inr, length, refl, subst, true, ℕ, ℤ}
 use Rattle.std.specs.Prelude.{codes, pos}
-use Rattle.star_common.specs.Quotes.{quoted}
-use Rattle.star_schema.specs.declared.group.Shape.TheVariants.{Plain}
-use Rattle.star_schema.specs.Schema.{kind_of}
-use Rattle.star_program.specs.Run.{Limited, Trapped}
-use Rattle.star_safety.specs.Admissible.{IsAdmissible, Refused}
-use Rattle.star_safety.specs.declared.reason.Reason.TheVariants.{Overflow}
+use Rattle.star_common.specs.{Quotes.quoted, First.first_answer, Memory.UnlessMemory, Numerals.numeral_of}
+use Rattle.star_schema.specs.{declared.group.Shape.TheVariants.Plain, Schema.kind_of, declared.column.ColumnId.ColumnId, declared.table.TableId.TableId, Database.Database, Database.rows_in, Columns.column_dictionary, declared.group.Aggregate.TheVariants.Sum, Loadable.IsSound}
+use Rattle.star_program.specs.{Run.Limited, Run.Trapped, declared.fault.TrapKind.TheVariants.AbsentKey, declared.group.GroupDecl.GroupDecl, declared.program.Parts.Parts, Code.Stop, Code.Then, Limits.IsWithinLimits}
+use Rattle.star_safety.specs.{Admissible.IsAdmissible, Admissible.Refused, declared.reason.Reason.TheVariants.Overflow, Quote.quote}
 use Rattle.star_compile_laws.specs.Judged.{IsOverflow}
-use Rattle.star_schema.specs.declared.column.ColumnId.{ColumnId}
-use Rattle.star_schema.specs.declared.column.Kind.TheVariants as kind
-use Rattle.star_schema.specs.declared.table.TableId.{TableId}
-use Rattle.star_schema.specs.Database.{Database, rows_in}
-use Rattle.star_program.specs.declared.fault.TrapKind.TheVariants.{AbsentKey}
-use Rattle.star_program.specs.declared.group.GroupKey.TheVariants as declared
-use Rattle.star_program.specs.declared.key.KeyValue.TheVariants as key
-use Rattle.star_trial.specs.declared.fault.TrialFault.TheVariants as fault
-use Rattle.star_outcome.specs.Sound.{IsSoundValue}
-use Rattle.star_outcome.specs.SoundKeys.{AreSoundKeys, IsSoundKey}
+use Rattle.star_outcome.specs.{Sound.IsSoundValue, SoundKeys.AreSoundKeys, SoundKeys.IsSoundKey}
 use Rattle.star_trial.specs.Trials.{IsFaultOfEnd}
-use Rattle.star_schema.specs.Columns.{column_dictionary}
-use Rattle.star_schema.specs.declared.group.Aggregate.TheVariants.{Sum}
-use Rattle.star_program.specs.declared.group.GroupDecl.{GroupDecl}
-use Rattle.star_program.specs.declared.op.Op.TheVariants as op
-use Rattle.star_program.specs.declared.op.Operation.TheVariants as operation
-use Rattle.star_program.specs.declared.program.Parts.{Parts}
-use Rattle.star_program.specs.Code.{Stop, Then}
-use Rattle.star_safety.specs.Quote.{quote}
 use Rattle.star_verify.specs.Checked.{Checked, IsVerified}
 use Rattle.star_run.specs.ShownRanges.{reported_range}
 use Rattle.star_world.specs.WorldOf.{world_of}
-use Rattle.star_schema.specs.Loadable.{IsSound}
-use Rattle.star_program.specs.Limits.{IsWithinLimits}
 use Rattle.star_machine.specs.Accepted.{IsAcceptedOver}
-use Rattle.star_common.specs.First.{first_answer}
-use Rattle.star_common.specs.Memory.{UnlessMemory}
-use Rattle.star_common.specs.Numerals.{numeral_of}
+use Rattle.star_common.proofs.Tables.{Gives}
+use Rattle.star_schema.specs.declared.column.Kind.TheVariants as kind
+use Rattle.star_program.specs.declared.group.GroupKey.TheVariants as declared
+use Rattle.star_program.specs.declared.key.KeyValue.TheVariants as key
+use Rattle.star_trial.specs.declared.fault.TrialFault.TheVariants as fault
+use Rattle.star_program.specs.declared.op.Op.TheVariants as op
+use Rattle.star_program.specs.declared.op.Operation.TheVariants as operation
 use Rattle.star_program.proofs.Sample as of_programs
 use Rattle.star_program.specs.declared.value.Value.TheVariants as value
-use Rattle.star_common.proofs.Tables.{Gives}
 
 -- ---- what is verified and accepted: no more visits than any run may make
 

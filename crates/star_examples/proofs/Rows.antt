@@ -3,24 +3,19 @@
 use Rattle.std.proofs.Common.{◌≡◌, ℕ, Bool, true, false, List, [], ◌∷◌, Some, refl}
 use Rattle.std.specs.Prelude.{pos, neg_ℤ, codes, map}
 use Rattle.star_common.proofs.Tables.{Gives, Gives2}
-use Rattle.star_schema.specs.declared.table.TableId.TheVariants.{Date, Lineorder, Supplier}
-use Rattle.star_schema.specs.declared.column.ColumnId.{ColumnId}
-use Rattle.star_schema.specs.declared.column.ColumnId.TheVariants.{DYear, LoQuantity, LoShipmode, SSuppkey}
-use Rattle.star_schema.specs.declared.group.Shape.TheVariants.{Plain}
-use Rattle.star_schema.specs.declared.group.Aggregate.TheVariants.{Count, Sum, Min, Max}
-use Rattle.star_schema.specs.Records.{pieces}
-use Rattle.star_schema.specs.Schema.{column_of, columns_of, place_of, table_name}
-use Rattle.star_schema.specs.Tables as of_table
-use Rattle.star_schema.specs.Tables.{Value, row_of}
+use Rattle.star_schema.specs.{declared.table.TableId.TheVariants.Date, declared.table.TableId.TheVariants.Lineorder, declared.table.TableId.TheVariants.Supplier, declared.column.ColumnId.ColumnId, declared.column.ColumnId.TheVariants.DYear, declared.column.ColumnId.TheVariants.LoQuantity}
+use Rattle.star_schema.specs.{declared.column.ColumnId.TheVariants.LoShipmode, declared.column.ColumnId.TheVariants.SSuppkey, declared.group.Shape.TheVariants.Plain, declared.group.Aggregate.TheVariants.Count, declared.group.Aggregate.TheVariants.Sum}
+use Rattle.star_schema.specs.{declared.group.Aggregate.TheVariants.Min, declared.group.Aggregate.TheVariants.Max, Records.pieces, Schema.column_of, Schema.columns_of, Schema.place_of, Schema.table_name, Tables.Value, Tables.row_of}
 use Rattle.star_query.specs.declared.token.Relation.TheVariants.{Equal, Unequal, Less, AtMost, Greater, AtLeast}
-use Rattle.star_query.specs.Tree as tree
 use Rattle.star_query.specs.Tree.{Condition, Name, Test, Tree, add, and, constant, count, mul, not, or, sub}
 use Rattle.star_plan.specs.Meaning.{Joined, RowCondition, aggregate_of, holds, joined_value, measured, number_with, only_row}
-use Rattle.star_plan.specs.Names.{column_called, table_called}
+use Rattle.star_plan.specs.{Names.column_called, Names.table_called}
 use Rattle.star_query_meaning.specs.Rows.{is_true, product, selected, tables_of, value_named}
 use Rattle.star_compile_laws.proofs.PlanWords.{compare, between, summed, least, greatest}
-use Rattle.star_examples.proofs.QueryTests as words
 use Rattle.star_examples.proofs.Sample.{number, below_zero, text, sample, revenue, cost, discount}
+use Rattle.star_schema.specs.Tables as of_table
+use Rattle.star_query.specs.Tree as tree
+use Rattle.star_examples.proofs.QueryTests as words
 
 -- ---- which rows a condition holds of
 

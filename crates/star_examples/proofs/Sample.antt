@@ -2,15 +2,11 @@
 -- queries over it name.
 use Rattle.std.proofs.Common.{ℕ, List, [], ◌∷◌, ◌++◌, drop, take}
 use Rattle.std.specs.Prelude.{pos, neg_ℤ, codes, flat_map, map}
-use Rattle.star_schema.specs.declared.table.TableId.{TableId}
 use Rattle.star_schema.specs.declared.table.TableId.TheVariants.{Date, Customer, Supplier, Part, Lineorder}
 use Rattle.star_schema.specs.declared.column.ColumnId.TheVariants.{DDatekey, PPartkey, LoPartkey, LoOrderdate, LoCommitdate, LoRevenue, LoSupplycost, LoTax, LoDiscount}
-use Rattle.star_schema.specs.Database.{Database, TableTexts}
-use Rattle.star_schema.specs.Tables.{Value, Number, Text, row_of}
-use Rattle.star_plan.specs.declared.tree.Join.{Join}
-use Rattle.star_schema.specs.declared.column.ColumnId.{ColumnId}
+use Rattle.star_schema.specs.{declared.table.TableId.TableId, Database.Database, Database.TableTexts, Tables.Value, Tables.Number, Tables.Text, Tables.row_of, declared.column.ColumnId.ColumnId}
+use Rattle.star_plan.specs.{declared.tree.Join.Join, Meaning.Tables}
 use Rattle.star_query.specs.Tree.{Expression, column}
-use Rattle.star_plan.specs.Meaning.{Tables}
 
 abbrev pub number : ℕ → Value
 number n = Number (pos n)

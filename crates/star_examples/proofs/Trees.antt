@@ -1,22 +1,16 @@
 -- What texts mean, every form of the grammar as its tree, and what the tree of every query keeps: it
 -- is within limits, and its words are spelled.
 use Rattle.std.proofs.Common.{◌≡◌, ◌≤◌, ◌*◌, ℕ, true, false, List, [], ◌∷◌, Option, Some, None, Ok, length, refl}
-use Rattle.std.specs.Prelude.{codes, neg_ℤ, pos, sum_by}
-use Rattle.std.specs.List.{AllByRecursion, list_all}
+use Rattle.std.specs.{Prelude.codes, Prelude.neg_ℤ, Prelude.pos, Prelude.sum_by, List.AllByRecursion, List.list_all}
 use Rattle.star_common.proofs.Tables.{Gives, each_row}
-use Rattle.star_schema.specs.declared.group.Shape.TheVariants.{Plain, Cube, Rollup}
-use Rattle.star_schema.specs.declared.group.Direction.TheVariants.{Ascending, Descending}
-use Rattle.star_query.specs.declared.token.Fold.TheVariants.{Sum, Min, Max}
+use Rattle.star_schema.specs.{declared.group.Shape.TheVariants.Plain, declared.group.Shape.TheVariants.Cube, declared.group.Shape.TheVariants.Rollup, declared.group.Direction.TheVariants.Ascending, declared.group.Direction.TheVariants.Descending, Tables.Number, Tables.Text}
 use Rattle.star_query.specs.declared.token.Relation.TheVariants.{Equal, Unequal, Less, AtMost, Greater, AtLeast}
-use Rattle.star_query.specs.Private.Cut.{cut_from, cut_of, reserved, reserved_words}
-use Rattle.star_query.specs.Limits.{IsQueryWithinLimits, aggregates_in, item_operands, where_comparisons}
-use Rattle.star_query.specs.Maxima.{most_bytes}
-use Rattle.star_query.specs.Meant.{IsMeant}
 use Rattle.star_query.specs.Private.Phrases.{ascending, cube, descending, grouped, groups_tree, hiding, key_tree, one, rollup, ungrouped, unmarked}
-use Rattle.star_schema.specs.Tables.{Number, Text}
 use Rattle.star_query.specs.Spelled.{IsSpelledQuery, condition_is_spelled, expression_is_spelled, has_few_digits, is_name, is_printable_text, item_is_spelled, where_is_spelled}
 use Rattle.star_query.specs.Symbols.{Placed, Symbol, number as number_symbol, relation, spelling}
 use Rattle.star_query.specs.Tree.{Condition, Expression, Grouping, Item, Measure, Name, SortKey, Test, Tree, add, aggregate, and, column, constant, count, fold, mul, not, or, plain, sub}
+use Rattle.star_query.specs.{declared.token.Fold.TheVariants.Sum, declared.token.Fold.TheVariants.Min, declared.token.Fold.TheVariants.Max, Private.Cut.cut_from, Private.Cut.cut_of, Private.Cut.reserved, Private.Cut.reserved_words, Limits.IsQueryWithinLimits, Limits.aggregates_in}
+use Rattle.star_query.specs.{Limits.item_operands, Limits.where_comparisons, Maxima.most_bytes, Meant.IsMeant}
 use Rattle.star_query.proofs.Told.{Says, Told, holds, means, told}
 use Rattle.star_examples.proofs.QueryTests.{pair, compare, between}
 

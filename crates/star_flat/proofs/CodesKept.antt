@@ -1,27 +1,12 @@
 -- The codes of texts that were put in order.
 use Rattle.std.proofs.Common.{◌≡◌, ℕ, ◌+◌, ◌-◌, ◌<◌, ◌≤◌, false, List, [], ◌∷◌, ◌++◌, Option, Some, length, get_or, set, take, refl, sym, ap, ◌∙◌, inl, inr, ⊎_elim, arith, subst, true≢false}
-use Rattle.std.specs.Cmp.Lexicographic.{bytes_decides}
-use Rattle.std.specs.List.{Contains, slice_get}
-use Rattle.std.specs.List.Sorted.{IsStrictlySortedBy}
-use Rattle.std.specs.Option.{option_map, unwrap_or}
-use Rattle.std.specs.Ordering.{eq_by_cmp, is_eq}
-use Rattle.std.specs.declared.cmp.Ordering.{Ordering}
-use Rattle.std.specs.declared.cmp.Ordering.TheVariants.{Less, Equal, Greater}
-use Rattle.std.proofs.lemmas.Bool.{cases_Bool, cases_eq, cases_lt}
-use Rattle.std.proofs.lemmas.Cmp.{nat_list_cmp_total, tied_itself}
 use Rattle.std.proofs.lemmas.List.{ext_get_or, get_or-map, get_or_default, get_or-set_same, get_or-set_other, get_or-take, length-map, length-take}
-use Rattle.std.proofs.lemmas.List.Elements.{All-get_or, All-more, Contains-get_or}
-use Rattle.std.proofs.lemmas.List.Kept.{Contains-from_dedup, IsStrictlySortedBy-dedup}
-use Rattle.std.proofs.lemmas.Map.Keys.{Less-from_sorted}
-use Rattle.std.proofs.lemmas.Map.Lookups.{exact_bytes}
-use Rattle.std.proofs.lemmas.Option.{get_or_from_slice_get, slice_get-get_or, slice_get-map, slice_get_within}
-use Rattle.star_flat.specs.Repeated.{AreRepeated, texts_at_places}
-use Rattle.star_flat.specs.declared.ordered.Numbered.{Numbered}
-use Rattle.star_flat.specs.Private.Codes.{LeadTo, different, same_text}
-use Rattle.star_flat.specs.Private.Order.{AreInTextOrder, numbered_texts, text_at, text_cmp}
-use Rattle.star_flat.proofs.Different.{different_again, different_new, stands_last}
-use Rattle.star_flat.proofs.Enumerated.{nothing}
-use Rattle.star_flat.proofs.InOrder.{number_of}
+use Rattle.std.proofs.{lemmas.Bool.cases_Bool, lemmas.Bool.cases_eq, lemmas.Bool.cases_lt, lemmas.Cmp.nat_list_cmp_total, lemmas.Cmp.tied_itself, lemmas.List.Elements.All-get_or, lemmas.List.Elements.All-more, lemmas.List.Elements.Contains-get_or, lemmas.List.Kept.Contains-from_dedup}
+use Rattle.std.proofs.{lemmas.List.Kept.IsStrictlySortedBy-dedup, lemmas.Map.Keys.Less-from_sorted, lemmas.Map.Lookups.exact_bytes, lemmas.Option.get_or_from_slice_get, lemmas.Option.slice_get-get_or, lemmas.Option.slice_get-map, lemmas.Option.slice_get_within}
+use Rattle.std.specs.{Cmp.Lexicographic.bytes_decides, List.Contains, List.slice_get, List.Sorted.IsStrictlySortedBy, Option.option_map, Option.unwrap_or, Ordering.eq_by_cmp, Ordering.is_eq, declared.cmp.Ordering.Ordering, declared.cmp.Ordering.TheVariants.Less}
+use Rattle.std.specs.{declared.cmp.Ordering.TheVariants.Equal, declared.cmp.Ordering.TheVariants.Greater}
+use Rattle.star_flat.specs.{Repeated.AreRepeated, Repeated.texts_at_places, declared.ordered.Numbered.Numbered, Private.Codes.LeadTo, Private.Codes.different, Private.Codes.same_text, Private.Order.AreInTextOrder, Private.Order.numbered_texts, Private.Order.text_at, Private.Order.text_cmp}
+use Rattle.star_flat.proofs.{Different.different_again, Different.different_new, Different.stands_last, Enumerated.nothing, InOrder.number_of}
 
 some_same : {X : Type 0} {x y : X} → Some x ≡ Some y → x ≡ y
 some_same {X} {x} {y} e = ap (λ (o : Option X). unwrap_or o x) e

@@ -1,10 +1,7 @@
 -- The different ones of texts that are put one by one.
 use Rattle.std.proofs.Common.{◌≡◌, ◌≢◌, ℕ, ◌+◌, ◌-◌, ◌<◌, true, false, cond, List, [], ◌∷◌, ◌++◌, Some, length, get_or, take, refl, sym, ap, ◌∙◌, inl, inr, arith}
-use Rattle.std.specs.Cmp.Lexicographic.{bytes_decides}
-use Rattle.std.specs.List.{dedup_from, slice_get}
-use Rattle.std.proofs.lemmas.Bool.{cases_Bool}
-use Rattle.std.proofs.lemmas.List.{get_or-take, length_push, length-take-le, take_more}
-use Rattle.std.proofs.lemmas.Option.{slice_get-get_or, slice_get_within, get_or_from_slice_get}
+use Rattle.std.proofs.{lemmas.Bool.cases_Bool, lemmas.List.get_or-take, lemmas.List.length_push, lemmas.List.length-take-le, lemmas.List.take_more, lemmas.Option.slice_get-get_or, lemmas.Option.slice_get_within, lemmas.Option.get_or_from_slice_get}
+use Rattle.std.specs.{Cmp.Lexicographic.bytes_decides, List.dedup_from, List.slice_get}
 use Rattle.star_flat.specs.Private.Codes.{different, same_text}
 use Rattle.star_flat.proofs.Pushed.{pushed_here}
 

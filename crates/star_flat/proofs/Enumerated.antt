@@ -1,9 +1,8 @@
 -- Texts with their places as numbers.
 use Rattle.std.proofs.Common.{◌≡◌, ℕ, zero, suc, ◌+◌, List, [], ◌∷◌, ◌++◌, ap, sym, ◌∙◌, arith, add-one, map}
+use Rattle.std.proofs.{lemmas.List.map-append}
 use Rattle.std.specs.List.{range_with_len}
-use Rattle.std.proofs.lemmas.List.{map-append}
-use Rattle.star_flat.specs.declared.ordered.Numbered.{Numbered}
-use Rattle.star_flat.specs.declared.ordered.Whole.{Whole}
+use Rattle.star_flat.specs.{declared.ordered.Numbered.Numbered, declared.ordered.Whole.Whole}
 
 -- what a read past the end would give
 abbrev pub nothing : Numbered

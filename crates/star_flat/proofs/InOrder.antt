@@ -1,18 +1,11 @@
 -- Texts by their keys, sorted.
 use Rattle.std.proofs.Common.{◌≡◌, ℕ, ◌+◌, ◌<◌, List, length, get_or, map, sym, ap, ◌∙◌, arith, subst, zero-add}
-use Rattle.std.specs.List.{All, Contains, range_with_len}
-use Rattle.std.specs.List.Sorted.{IsSorted, IsPermutation}
-use Rattle.std.specs.Ordering.{is_lt}
-use Rattle.std.proofs.lemmas.List.{get_or-map, length-map}
-use Rattle.std.proofs.lemmas.List.Elements.{All-get_or, All-map}
-use Rattle.std.proofs.lemmas.List.FromFn.{get_or-range_with_len, length-range_with_len}
-use Rattle.std.proofs.lemmas.List.Sorted.{All-permutation, Contains-permutation, IsPermutation-map, length_permutation}
-use Rattle.std.proofs.lemmas.Simd.{map-map}
-use Rattle.star_flat.specs.declared.ordered.Numbered.{Numbered}
-use Rattle.star_flat.specs.declared.ordered.Whole.{Whole}
+use Rattle.std.proofs.{lemmas.List.get_or-map, lemmas.List.length-map, lemmas.List.Elements.All-get_or, lemmas.List.Elements.All-map, lemmas.List.FromFn.get_or-range_with_len, lemmas.List.FromFn.length-range_with_len, lemmas.List.Sorted.All-permutation}
+use Rattle.std.proofs.{lemmas.List.Sorted.Contains-permutation, lemmas.List.Sorted.IsPermutation-map, lemmas.List.Sorted.length_permutation, lemmas.Simd.map-map}
+use Rattle.std.specs.{List.All, List.Contains, List.range_with_len, List.Sorted.IsSorted, List.Sorted.IsPermutation, Ordering.is_lt}
 use Rattle.star_flat.specs.Private.Order.{AreInTextOrder, IsKeyed, IsWhole, by_key, key_of, numbered_texts, text_at, text_cmp}
-use Rattle.star_flat.proofs.Enumerated.{no_whole, nothing}
-use Rattle.star_flat.proofs.Keys.{as_texts, by_whole, up_by_text}
+use Rattle.star_flat.specs.{declared.ordered.Numbered.Numbered, declared.ordered.Whole.Whole}
+use Rattle.star_flat.proofs.{Enumerated.no_whole, Enumerated.nothing, Keys.as_texts, Keys.by_whole, Keys.up_by_text}
 
 abbrev pub number_of : Numbered → ℕ
 number_of e = e.number

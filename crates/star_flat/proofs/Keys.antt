@@ -1,21 +1,11 @@
 -- The order of texts by their keys.
 use Rattle.std.proofs.Common.{◌≡◌, ℕ, zero, suc, ◌+◌, ◌*◌, ◌%◌, ◌<◌, ◌≤◌, ◌++◌, if◌then◌else◌, false, List, [], ◌∷◌, length, take, get_or, nat_cmp, refl, sym, ap, ◌∙◌, ⊎_elim, add-one, zero-add, arith}
-use Rattle.std.specs.Cmp.{nat_cmp_is}
-use Rattle.std.specs.List.{All}
-use Rattle.std.specs.Ordering.{is_lt, ordering_then, ordering_reverse}
-use Rattle.std.specs.declared.cmp.Ordering.{Ordering}
-use Rattle.std.specs.declared.cmp.Ordering.TheVariants.{Less, Equal, Greater}
-use Rattle.std.proofs.lemmas.Bool.{cases_lt, le-ltb, lt-ltb}
-use Rattle.std.proofs.lemmas.Cmp.{nat_cmp_total, nat_list_cmp_total, on_total, then_total}
-use Rattle.std.specs.Cmp.{IsTotalOrder}
-use Rattle.std.specs.Int.{to_be_bytes, w32, w64}
-use Rattle.std.proofs.lemmas.Grind.{same_number_lists}
-use Rattle.std.proofs.lemmas.Nat.{be_bytes_4, be_bytes_8}
-use Rattle.std.proofs.lemmas.List.{get_or-take, get_or_past, length-take-le}
-use Rattle.std.proofs.lemmas.List.Elements.{All-get_or}
-use Rattle.star_flat.specs.declared.ordered.Numbered.{Numbered}
-use Rattle.star_flat.specs.declared.ordered.Whole.{Whole}
+use Rattle.std.proofs.{lemmas.Bool.cases_lt, lemmas.Bool.le-ltb, lemmas.Bool.lt-ltb, lemmas.Cmp.nat_cmp_total, lemmas.Cmp.nat_list_cmp_total, lemmas.Cmp.on_total, lemmas.Cmp.then_total, lemmas.Grind.same_number_lists, lemmas.Nat.be_bytes_4, lemmas.Nat.be_bytes_8, lemmas.List.get_or-take}
+use Rattle.std.proofs.{lemmas.List.get_or_past, lemmas.List.length-take-le, lemmas.List.Elements.All-get_or}
+use Rattle.std.specs.{Cmp.nat_cmp_is, Cmp.IsTotalOrder, List.All, Ordering.is_lt, Ordering.ordering_then, Ordering.ordering_reverse, declared.cmp.Ordering.Ordering, declared.cmp.Ordering.TheVariants.Less, declared.cmp.Ordering.TheVariants.Equal, declared.cmp.Ordering.TheVariants.Greater}
+use Rattle.std.specs.{Int.to_be_bytes, Int.w32, Int.w64}
 use Rattle.star_flat.specs.Private.Order.{IsKeyed, IsWhole, by_key, digits, ending, key_of, text_at, text_cmp}
+use Rattle.star_flat.specs.{declared.ordered.Numbered.Numbered, declared.ordered.Whole.Whole}
 
 -- ---- numbers that compare
 less : (m n : ℕ) → m < n → nat_cmp m n ≡ Less

@@ -1,15 +1,11 @@
 -- Texts that are told by their places among other texts.
 use Rattle.std.proofs.Common.{◌≡◌, ℕ, zero, suc, ◌+◌, ◌<◌, List, [], ◌∷◌, ◌++◌, Some, length, get_or, map, take, refl, sym, ap, ◌∙◌, arith, length-append, subst, ⊎_elim}
-use Rattle.std.specs.Prelude.{Result, Ok, Err, IfOk, OnErr, OnOk}
-use Rattle.std.specs.List.{All, Contains, slice_get}
-use Rattle.std.proofs.lemmas.Bool.{cases_eq}
 use Rattle.std.proofs.lemmas.List.{get_or_append_left, get_or_default, get_or_push, get_or-map, length-map, map-append, take_more}
 use Rattle.std.proofs.lemmas.List.Elements.{All-get_or, All-head, All-map, All-push, All-tail, All-weaker, Contains-append_left, Contains-push}
-use Rattle.std.proofs.lemmas.Option.{get_or_from_slice_get, slice_get_within}
-use Rattle.std.proofs.lemmas.Simd.{map-map}
-use Rattle.star_flat.specs.Repeated.{AreRepeated, texts_at_places}
-use Rattle.star_flat.specs.declared.met.Met.{Met}
-use Rattle.star_flat.specs.Private.Met.{IsMet}
+use Rattle.std.proofs.{lemmas.Bool.cases_eq, lemmas.Option.get_or_from_slice_get, lemmas.Option.slice_get_within, lemmas.Simd.map-map}
+use Rattle.std.specs.Prelude.{Result, Ok, Err, IfOk, OnErr, OnOk}
+use Rattle.std.specs.{List.All, List.Contains, List.slice_get}
+use Rattle.star_flat.specs.{Repeated.AreRepeated, Repeated.texts_at_places, declared.met.Met.Met, Private.Met.IsMet}
 
 -- what follows from what holds of each kind of answer
 pub either : {T E A B G : Type 0} (r : Result T E) → OnOk r A → OnErr r B → (A → G) → (B → G) → G

@@ -1,7 +1,6 @@
 -- Numbers in words of one width.
 use Rattle.std.specs.Prelude.{ℕ, ℤ, List, map, pos, ◌-ℤ◌}
-use Rattle.star_flat.specs.declared.words.SignedWords.{SignedWords}
-use Rattle.star_flat.specs.declared.words.SignedWords.TheVariants.{Bits8, Bits16, Bits32, Bits64}
+use Rattle.star_flat.specs.{declared.words.SignedWords.SignedWords, declared.words.SignedWords.TheVariants.Bits8, declared.words.SignedWords.TheVariants.Bits16, declared.words.SignedWords.TheVariants.Bits32, declared.words.SignedWords.TheVariants.Bits64}
 
 -- the number that a word is that was counted from this far below 0
 abbrev pub less : ℕ → ℕ → ℤ

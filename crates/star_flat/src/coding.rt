@@ -2,12 +2,8 @@
 // there is the code of all that equal it.
 
 ghost use Rattle.std.specs.Prelude.{◌≡◌, ◌↔◌, ◌-◌, ◌+◌, ◌<◌, ◌≤◌, ◌^◌, ℕ, List, All, IfOk, IsTrue, OnOk, Some, length, slice_get, take};
-ghost use Rattle.std.specs.Cmp.Lexicographic.{slice_cmp};
-ghost use Rattle.std.specs.List.Sorted.{IsStrictlySortedBy};
-ghost use Rattle.std.specs.Ordering.{nat_cmp};
-ghost use Rattle.star_flat.specs.Repeated.{AreRepeated, texts_at_places};
-ghost use Rattle.star_flat.specs.Private.Order.{AreInTextOrder, IsKeyed, numbered_texts};
-ghost use Rattle.star_flat.specs.Private.Codes.{LeadTo, different};
+ghost use Rattle.std.specs.{Cmp.Lexicographic.slice_cmp, List.Sorted.IsStrictlySortedBy, Ordering.nat_cmp};
+ghost use Rattle.star_flat.specs.{Repeated.AreRepeated, Repeated.texts_at_places, Private.Order.AreInTextOrder, Private.Order.IsKeyed, Private.Order.numbered_texts, Private.Codes.LeadTo, Private.Codes.different};
 
 use crate::ordered::{Numbered, in_order};
 use crate::pages::release;

@@ -1,8 +1,7 @@
 // A list of numbers, in words as wide as they need.
 
 ghost use Rattle.std.specs.Prelude.{◌≡◌, ◌<◌, ◌+◌, ◌++◌, ◌∷◌, [], OnErr, OnOk, Some, length, slice_get, take};
-ghost use Rattle.star_flat.specs.Repeated.{places_in};
-ghost use Rattle.star_flat.specs.Words.{numbers_in};
+ghost use Rattle.star_flat.specs.{Repeated.places_in, Words.numbers_in};
 
 use crate::words::SignedWords;
 use std::alloc::{AllocError, Global};

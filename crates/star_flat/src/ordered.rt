@@ -1,8 +1,7 @@
 // The texts of a list with their places, in the order of their bytes.
 
 ghost use Rattle.std.specs.Prelude.{◌≡◌, ◌↔◌, ◌<◌, ◌≤◌, ◌+◌, ◌*◌, ◌%◌, ◌^◌, ◌++◌, ◌∷◌, [], All, IfOk, IsTrue, OnErr, OnOk, length, map, nat_lt, slice_index, slice_index_or, take};
-ghost use Rattle.std.specs.Int.{to_be_bytes, w32, w64};
-ghost use Rattle.std.specs.List.{range_with_len};
+ghost use Rattle.std.specs.{Int.to_be_bytes, Int.w32, Int.w64, List.range_with_len};
 ghost use Rattle.star_flat.specs.Private.Order.{AreInTextOrder, IsKeyed, IsWhole, by_key, digits, ending, key_of, text_at, text_cmp};
 
 use crate::pages::release;

@@ -1,10 +1,8 @@
 // Numbers with a sign in words of 8, 16, 32 and 64 bits.
 
 ghost use Rattle.std.specs.Prelude.{◌≡◌, ◌<◌, ◌+◌, ◌++◌, ◌∷◌, [], ℤ, true, FitsSigned, IfOk, MatchBool, MatchOption, OnErr, OnOk, Some, length, map, slice_get, take, vec_capacity, vec_len};
-ghost use Rattle.std.specs.Int.{w8, w16, w32, w64};
-ghost use Rattle.std.specs.Ordering.{int_cmp};
-ghost use Rattle.star_flat.specs.Words.{less, numbers_in};
-ghost use Rattle.star_flat.specs.Private.Widths.{widenings};
+ghost use Rattle.std.specs.{Int.w8, Int.w16, Int.w32, Int.w64, Ordering.int_cmp};
+ghost use Rattle.star_flat.specs.{Words.less, Words.numbers_in, Private.Widths.widenings};
 
 use crate::pages::release;
 use std::alloc::{AllocError, Global};

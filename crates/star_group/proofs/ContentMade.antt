@@ -1,9 +1,8 @@
 -- Each list of puts has a content.
 use Rattle.star_group.proofs.Common.{◌≡◌, ℕ, zero, suc, ◌+◌, ◌<◌, Bool, true, false, ◌||◌, ℤ, pos, ◌+ℤ◌, List, [], ◌∷◌, Option, Some, None, length, map, get_or, cond, ap, sym, ◌∙◌, subst, refl, arith, true≢false, int_min, int_max, list_any, AllByRecursion, unwrap_or, false_from_ne_true}
 use Rattle.star_group.proofs.Common.{list_any-from_Any, list_any-from_Contains, from_contains_map, of_each, Aggregate, Sum, Count, Min, Max, aggregate, joined, numbers_for, KeyValue, same_keys, Update, aggregate_at, Group, IsContent, key_lists, put_number, puts_of}
+use Rattle.star_group.proofs.{JoinedParts.joined_more, JoinedParts.more, KeyLists.keys_decide, KeyLists.keys_equiv, KeyLists.some_put}
 use Rattle.std.specs.List.{IsDistinct}
-use Rattle.star_group.proofs.JoinedParts.{joined_more, more}
-use Rattle.star_group.proofs.KeyLists.{keys_decide, keys_equiv, some_put}
 
 -- ---- each key list once
 

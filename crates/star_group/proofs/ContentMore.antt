@@ -1,12 +1,9 @@
 -- A content with one put more is a content of the puts and it.
-use Rattle.star_group.proofs.Common.{◌≡◌, ℕ, ◌<◌, Bool, true, false, ◌||◌, ℤ, List, [], ◌∷◌, Some, None, length, cond, ap, sym, ◌∙◌, subst, refl, true≢false, list_any, AllByRecursion, Aggregate, aggregate, numbers_for, KeyValue, same_keys, step, IsWithPut, Update, aggregate_at, Group, IsContent}
-use Rattle.star_group.proofs.Common.{key_lists, put_number, puts_of, if◌then◌else◌}
+use Rattle.star_group.proofs.Common.{◌≡◌, ℕ, ◌<◌, Bool, true, false, ◌||◌, ℤ, List, [], ◌∷◌, Some, None, length, cond, ap, sym, ◌∙◌, subst, refl, true≢false, list_any, AllByRecursion, Aggregate, aggregate, numbers_for, KeyValue, same_keys, step, IsWithPut, Update, aggregate_at, Group}
+use Rattle.star_group.proofs.Common.{IsContent, key_lists, put_number, puts_of, if◌then◌else◌}
+use Rattle.star_group.proofs.{KeyLists.keys_decide, KeyLists.keys_equiv, KeyLists.some_put, ContentByKeys.all_more, Totals.some_aggregate}
 use Rattle.std.specs.List.{IsDistinct}
-use Rattle.star_group.specs.Cells.{held}
-use Rattle.star_group.specs.OneMore.{group_aggregate}
-use Rattle.star_group.proofs.KeyLists.{keys_decide, keys_equiv, some_put}
-use Rattle.star_group.proofs.ContentByKeys.{all_more}
-use Rattle.star_group.proofs.Totals.{some_aggregate}
+use Rattle.star_group.specs.{Cells.held, OneMore.group_aggregate}
 
 -- ---- look-ups
 

@@ -1,12 +1,11 @@
 -- From the rows of a map to the content of a store.
 use Rattle.star_group.proofs.Common.{◌≡◌, ◌⊎◌, ℕ, ◌<◌, ◌≤◌, Bool, true, false, ℤ, List, [], ◌∷◌, Option, Some, None, Result, Ok, Err, OnOk, IfErr, IfOk, length, get_or, replicate, ap, sym, ◌∙◌, subst, refl, cond, arith, inl, inr, true≢false, unwrap_or, false_from_ne_true, UnlessMemory}
-use Rattle.star_group.proofs.Common.{Aggregate, IsMasked, aggregate, is_grouping, members, numbers_for, KeyValue, key_value_cmp, IsOwn, leaves, Update, overflows, aggregate_at, overflow_somewhere, somewhere_overflows, held, AreGrouped, HasAggregates, IsRowOver, puts_in, row_found, EagerStore}
-use Rattle.star_group.proofs.Common.{KeyPart, entries_of, is_of_put, IsMerged, IsRowOfOnePut, MergeLeaves, MergeStays, cell_of_one_put, merged, merged_at, AllStay, MergesAll, PutsRows, SomeLeaves, Group, put_number}
-use Rattle.star_group.specs.Eager.{group_view, Has}
-use Rattle.star_group.proofs.Bases.{more_over}
+use Rattle.star_group.proofs.Common.{Aggregate, IsMasked, aggregate, is_grouping, members, numbers_for, KeyValue, key_value_cmp, IsOwn, leaves, Update, overflows, aggregate_at, overflow_somewhere, somewhere_overflows, held, AreGrouped, HasAggregates, IsRowOver, puts_in, row_found}
+use Rattle.star_group.proofs.Common.{EagerStore, KeyPart, entries_of, is_of_put, IsMerged, IsRowOfOnePut, MergeLeaves, MergeStays, cell_of_one_put, merged, merged_at, AllStay, MergesAll, PutsRows, SomeLeaves, Group, put_number}
 use Rattle.star_group.proofs.GroupKeys.{all_members, in_places, masked_length, members_at, of_put, own_belongs, put_belongs}
 use Rattle.star_group.proofs.Merging.{held_none, held_one, merged_comm, merged_more, no_puts}
-use Rattle.star_group.proofs.Totals.{declared, some_aggregate}
+use Rattle.star_group.proofs.{Bases.more_over, Totals.declared, Totals.some_aggregate}
+use Rattle.star_group.specs.Eager.{group_view, Has}
 
 pub on_ok : {T E : Type 0} (P Q : Type 0) (r : Result T E) → (P → Q) → OnOk r P → OnOk r Q
 on_ok P Q (Ok x) f h = f h

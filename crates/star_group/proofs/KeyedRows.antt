@@ -1,14 +1,13 @@
 -- Rows in flat storage with their keys: what stands at a number, one row more, and one changed.
-use Rattle.star_group.proofs.Common.{◌≡◌, ℕ, zero, suc, ◌-◌, ◌<◌, ◌≤◌, Bool, true, false, ◌||◌, ℤ, List, [], ◌∷◌, ◌++◌, Option, Some, None, Result, Ok, Err, OnOk, cond, length, get_or, get_or-set_same, set, slice_get, map, take, drop, ap, sym, ◌∙◌, subst, refl, arith, true≢false, AllByRecursion}
-use Rattle.star_group.proofs.Common.{filter, list_any, keys_of, lookup, get_or-take, length-map, length-set, take_at, lookup_from_place, place_from_lookup, slice_get-get_or, slice_get-map, slice_get_within, KeyValue, KeyPart, All, KeyedRows, key_view, row_found, key_value_view, entries_of}
-use Rattle.star_group.proofs.Common.{all_hidden, filled, key_eq, padded, vary, AreOnce, shown_entries, IsMerged, IsMergedAt, IsWithRow, Aggregate, Shape, option_map, unwrap_or, with_items, and_parts, false_from_ne_true, list_any-from_Contains, contains_mapped, of_each, AreNarrow, IsNarrow}
-use Rattle.star_group.proofs.Common.{is_row_key, IsHeld, IsMissing, keys_in, IsDistinct-push, IsDistinct-head, IsDistinct-tail, Contains, get_or_from_slice_get, at_each, append_assoc, cut, append-nil}
-use Rattle.std.specs.List.{IsDistinct}
-use Rattle.star_group.specs.declared.keyed.key.KeyPart.TheVariants.{Number, Code}
-use Rattle.star_group.specs.Keyed.{keyed}
+use Rattle.star_group.proofs.Common.{◌≡◌, ℕ, zero, suc, ◌-◌, ◌<◌, ◌≤◌, Bool, true, false, ◌||◌, ℤ, List, [], ◌∷◌, ◌++◌, Option, Some, None, Result, Ok, Err, OnOk, cond, length, get_or, get_or-set_same, set, slice_get, map, take, drop, ap, sym, ◌∙◌, subst, refl, arith, true≢false}
+use Rattle.star_group.proofs.Common.{AllByRecursion, filter, list_any, keys_of, lookup, get_or-take, length-map, length-set, take_at, lookup_from_place, place_from_lookup, slice_get-get_or, slice_get-map, slice_get_within, KeyValue, KeyPart, All, KeyedRows, key_view, row_found}
+use Rattle.star_group.proofs.Common.{key_value_view, entries_of, all_hidden, filled, key_eq, padded, vary, AreOnce, shown_entries, IsMerged, IsMergedAt, IsWithRow, Aggregate, Shape, option_map, unwrap_or, with_items, and_parts, false_from_ne_true, list_any-from_Contains, contains_mapped}
+use Rattle.star_group.proofs.Common.{of_each, AreNarrow, IsNarrow, is_row_key, IsHeld, IsMissing, keys_in, IsDistinct-push, IsDistinct-head, IsDistinct-tail, Contains, get_or_from_slice_get, at_each, append_assoc, cut, append-nil}
 use Rattle.star_group.proofs.GroupKeys.{among_vary, any_kept, in_padded, in_places, key_decides, key_equiv, masked_length}
-use Rattle.star_group.proofs.Passes.{IsOnceAt}
 use Rattle.star_group.proofs.ListedRows.{key_count, key_wide, keyed_at, length-keyed, narrow_filled, row_count, same}
+use Rattle.star_group.proofs.{Passes.IsOnceAt}
+use Rattle.std.specs.List.{IsDistinct}
+use Rattle.star_group.specs.{declared.keyed.key.KeyPart.TheVariants.Number, declared.keyed.key.KeyPart.TheVariants.Code, Keyed.keyed}
 
 -- ---- entries, each of whose keys is there once
 

@@ -1,11 +1,10 @@
 -- What stands at places, with the numbers of more puts.
-use Rattle.star_group.proofs.Common.{◌≡◌, ◌≢◌, ℕ, zero, suc, ◌-◌, ◌<◌, ◌≤◌, ◌^◌, Bool, true, false, nat_eq, nat_lt, cond, FitsSigned, w64, ℤ, pos, negsuc, ◌+ℤ◌, List, ◌∷◌, Option, Some, None, length, get_or, set, refl, ap, sym, ◌∙◌, arith, true≢false, filter, option_eq, unwrap_or, eqb-true}
-use Rattle.star_group.proofs.Common.{eq-eqb, lt-ltb, ltb-false, ltb-true, ints, int_min_is, int_max_is, get_or-set_same, get_or-set_other, get_or_past, length-set, Aggregate, Sum, Count, Min, Max, numbers_for, KeyValue, leaves, Update, aggregate_at, Span, puts_after, step, has_puts, AreAt}
-use Rattle.star_group.proofs.Common.{cell_over, neutral, is_at, cell_place, AreWithin, CanTake, column_after, taking, Group, HasRoom, put_number}
+use Rattle.star_group.proofs.Common.{◌≡◌, ◌≢◌, ℕ, zero, suc, ◌-◌, ◌<◌, ◌≤◌, ◌^◌, Bool, true, false, nat_eq, nat_lt, cond, FitsSigned, w64, ℤ, pos, negsuc, ◌+ℤ◌, List, ◌∷◌, Option, Some, None, length, get_or, set, refl, ap, sym, ◌∙◌, arith, true≢false, filter, option_eq, unwrap_or}
+use Rattle.star_group.proofs.Common.{eqb-true, eq-eqb, lt-ltb, ltb-false, ltb-true, ints, int_min_is, int_max_is, get_or-set_same, get_or-set_other, get_or_past, length-set, Aggregate, Sum, Count, Min, Max, numbers_for, KeyValue, leaves, Update, aggregate_at, Span, puts_after, step}
+use Rattle.star_group.proofs.Common.{has_puts, AreAt, cell_over, neutral, is_at, cell_place, AreWithin, CanTake, column_after, taking, Group, HasRoom, put_number}
+use Rattle.star_group.proofs.{Rooms.held_stays}
 use Rattle.star_interval.specs.Range.{is_i64}
-use Rattle.star_group.specs.Cells.{held}
-use Rattle.star_group.specs.Private.Taken.{after_rows}
-use Rattle.star_group.proofs.Rooms.{held_stays}
+use Rattle.star_group.specs.{Cells.held, Private.Taken.after_rows}
 
 -- ---- the puts at a place
 

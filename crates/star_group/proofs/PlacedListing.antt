@@ -1,14 +1,8 @@
 -- The rows of a plain group, one after another: those beside the places, and that of each place.
 use Rattle.star_group.proofs.Common.{◌≡◌, ℕ, suc, ◌*◌, ◌<◌, ◌≤◌, Bool, true, false, ◌&&◌, nat_lt, cond, ℤ, pos, List, [], ◌∷◌, ◌++◌, Option, Some, None, length, map, take, get_or, refl, ap, sym, ◌∙◌, arith, true≢false, filter, AllByRecursion, nat_tests, at_each, of_each, Aggregate, Shape}
 use Rattle.star_group.proofs.Common.{KeyValue, Update, cut, KeyPart, Span, IsRowOver, key_view, row_found, IsPlaced, has_puts, key_eq, padded, cell_place, is_at, places, group_with, AreOnce, IsListed, Group, Contains, aggregate_cells}
-use Rattle.star_group.proofs.GroupKeys.{key_decides, padded_keys}
-use Rattle.star_group.proofs.AllRows.{base_rolled}
-use Rattle.star_group.proofs.CutRows.{cut_wide}
-use Rattle.star_group.proofs.KeyedRows.{merged_new, once_more}
-use Rattle.star_group.proofs.Merging.{put_of}
-use Rattle.star_group.proofs.Passes.{AreOver}
-use Rattle.star_group.proofs.PlacedCells.{puts_there}
 use Rattle.star_group.proofs.PlacedRows.{below_place, in_row, is_below, none_there, own_place, row_there, rows_first, rows_last, rows_more, rows_same}
+use Rattle.star_group.proofs.{GroupKeys.key_decides, GroupKeys.padded_keys, AllRows.base_rolled, CutRows.cut_wide, KeyedRows.merged_new, KeyedRows.once_more, Merging.put_of, Passes.AreOver, PlacedCells.puts_there}
 
 -- ---- keys of a place
 

@@ -1,15 +1,11 @@
 -- The content of a placed store, with the puts of more rows.
-use Rattle.star_group.proofs.Common.{◌≡◌, ℕ, zero, suc, ◌+◌, ◌*◌, ◌<◌, ◌≤◌, Bool, true, false, nat_eq, cond, ℤ, pos, List, [], ◌∷◌, Option, Some, None, Result, Ok, Err, OnOk, OnErr, length, get_or, replicate, refl, ap, sym, ◌∙◌, subst, arith, ◌&&◌, filter, AllByRecursion, is_none, option_eq}
-use Rattle.star_group.proofs.Common.{get_or-replicate, length-replicate, ∥∥₁_map, Aggregate, Count, Shape, is_i64, KeyValue, cut, PutBatch, KeyPart, Span, IsBase, HasRoomForRows, puts_after, put_in, has_puts, AreAt, IsPlaced, IsPlacedWithRoom, aggregate_cells, cell_over, neutral, is_at}
-use Rattle.star_group.proofs.Common.{is_outside, cell_place, offset_of, group_with, IsRolledUp, AreAtPlaces, AreCellsTaken, AreWithin, CanTakeAll, after_rows, batch_lanes, column_after, lanes_of, Update, aggregate_at, Group, HasRoom, put_number, IsRolledUpWithRoom, IsListed, AreInBits}
-use Rattle.star_group.proofs.Common.{numbers_for, leaves}
-use Rattle.star_group.specs.Cells.{held}
-use Rattle.star_group.proofs.CutRows.{cut_wide}
+use Rattle.star_group.proofs.Common.{◌≡◌, ℕ, zero, suc, ◌+◌, ◌*◌, ◌<◌, ◌≤◌, Bool, true, false, nat_eq, cond, ℤ, pos, List, [], ◌∷◌, Option, Some, None, Result, Ok, Err, OnOk, OnErr, length, get_or, replicate, refl, ap, sym, ◌∙◌, subst, arith, ◌&&◌, filter, AllByRecursion, is_none}
+use Rattle.star_group.proofs.Common.{option_eq, get_or-replicate, length-replicate, ∥∥₁_map, Aggregate, Count, Shape, is_i64, KeyValue, cut, PutBatch, KeyPart, Span, IsBase, HasRoomForRows, puts_after, put_in, has_puts, AreAt, IsPlaced, IsPlacedWithRoom, aggregate_cells, cell_over}
+use Rattle.star_group.proofs.Common.{neutral, is_at, is_outside, cell_place, offset_of, group_with, IsRolledUp, AreAtPlaces, AreCellsTaken, AreWithin, CanTakeAll, after_rows, batch_lanes, column_after, lanes_of, Update, aggregate_at, Group, HasRoom, put_number, IsRolledUpWithRoom}
+use Rattle.star_group.proofs.Common.{IsListed, AreInBits, numbers_for, leaves}
 use Rattle.star_group.proofs.PlacedCells.{IsLane, can_take, column_at, length-after_rows, seen_at}
-use Rattle.star_group.proofs.PlacedLanes.{lane_number}
-use Rattle.star_group.proofs.PlacedRows.{filter_twice}
-use Rattle.star_group.proofs.Rooms.{held_stays}
-use Rattle.star_group.proofs.SpanPlaces.{above_parts}
+use Rattle.star_group.proofs.{CutRows.cut_wide, PlacedLanes.lane_number, PlacedRows.filter_twice, Rooms.held_stays, SpanPlaces.above_parts}
+use Rattle.star_group.specs.Cells.{held}
 
 -- rows with a place each, and a lane of numbers for each aggregate
 pub record AreRowsOf (d : Group) (spans : List Span) (u : ℕ → Update) (at : List ℕ)

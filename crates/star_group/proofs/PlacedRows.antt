@@ -1,15 +1,9 @@
 -- The rows and the total of puts, some of which stand by their places.
-use Rattle.star_group.proofs.Common.{◌≡◌, ℕ, suc, ◌*◌, ◌<◌, Bool, true, false, ◌&&◌, ◌||◌, nat_eq, nat_lt, cond, ℤ, pos, List, [], ◌∷◌, Option, Some, None, length, get_or, refl, ap, sym, ◌∙◌, subst, arith, true≢false, filter, AllByRecursion, option_eq, is_none, unwrap_or, Bool-set, and-false}
-use Rattle.star_group.proofs.Common.{∥∥₁_elim, eqb-true, lt-ltb, nat_tests, of_each, Aggregate, numbers_for, KeyValue, leaves, Update, aggregate_at, KeyPart, Span, HasAggregates, IsRowOver, key_view, puts_with, row_found, has_puts, key_eq, padded, IsPlaced, IsPlacedWithRoom, aggregate_cells}
-use Rattle.star_group.proofs.Common.{neutral, is_at, is_outside, cell_place, places, IsMerged, IsMergedAt, MergeStays, merged, Group, AreInBits}
+use Rattle.star_group.proofs.Common.{◌≡◌, ℕ, suc, ◌*◌, ◌<◌, Bool, true, false, ◌&&◌, ◌||◌, nat_eq, nat_lt, cond, ℤ, pos, List, [], ◌∷◌, Option, Some, None, length, get_or, refl, ap, sym, ◌∙◌, subst, arith, true≢false, filter, AllByRecursion, option_eq, is_none, unwrap_or, Bool-set}
+use Rattle.star_group.proofs.Common.{and-false, ∥∥₁_elim, eqb-true, lt-ltb, nat_tests, of_each, Aggregate, numbers_for, KeyValue, leaves, Update, aggregate_at, KeyPart, Span, HasAggregates, IsRowOver, key_view, puts_with, row_found, has_puts, key_eq, padded, IsPlaced, IsPlacedWithRoom}
+use Rattle.star_group.proofs.Common.{aggregate_cells, neutral, is_at, is_outside, cell_place, places, IsMerged, IsMergedAt, MergeStays, merged, Group, AreInBits}
+use Rattle.star_group.proofs.{Bases.other_row, Bases.own_row, CutRows.cut_wide, GroupKeys.key_decides, Merging.AreSplit, Merging.held_parts, Merging.no_puts, Merging.over_parts, Passes.AreOver, Passes.filter_same, PlacedCells.puts_there, SpanPlaces.within}
 use Rattle.star_group.specs.Cells.{held}
-use Rattle.star_group.proofs.Bases.{other_row, own_row}
-use Rattle.star_group.proofs.CutRows.{cut_wide}
-use Rattle.star_group.proofs.GroupKeys.{key_decides}
-use Rattle.star_group.proofs.Merging.{AreSplit, held_parts, no_puts, over_parts}
-use Rattle.star_group.proofs.Passes.{AreOver, filter_same}
-use Rattle.star_group.proofs.PlacedCells.{puts_there}
-use Rattle.star_group.proofs.SpanPlaces.{within}
 
 -- ---- the puts without a place, and those at the first places
 

@@ -1,13 +1,9 @@
 -- Where the sums by key list add up within 128 bits and the counts within 64, no put overflows.
-use Rattle.star_group.proofs.Common.{◌≡◌, ℕ, ◌<◌, ◌≤◌, ◌^◌, Bool, true, false, not, ℤ, pos, negsuc, ◌+ℤ◌, ◌≤ℤ◌, List, [], ◌∷◌, Option, Some, None, length, cond, ap, sym, ◌∙◌, refl, true≢false, arith, ints, false_from_ne_true, lt-ltb, count_by-le-length, length-filter, filter, Aggregate, Sum}
-use Rattle.star_group.proofs.Common.{Count, Min, Max, aggregate, belongs, joined, numbers_for, KeyValue, key_value_cmp, leaves, Update, overflows, aggregate_at, overflow_somewhere, Group, put_number, HasRoom}
+use Rattle.star_group.proofs.Common.{◌≡◌, ℕ, ◌<◌, ◌≤◌, ◌^◌, Bool, true, false, not, ℤ, pos, negsuc, ◌+ℤ◌, ◌≤ℤ◌, List, [], ◌∷◌, Option, Some, None, length, cond, ap, sym, ◌∙◌, refl, true≢false, arith, ints, false_from_ne_true, lt-ltb, count_by-le-length, length-filter, filter, Aggregate}
+use Rattle.star_group.proofs.Common.{Sum, Count, Min, Max, aggregate, belongs, joined, numbers_for, KeyValue, key_value_cmp, leaves, Update, overflows, aggregate_at, overflow_somewhere, Group, put_number, HasRoom}
+use Rattle.star_group.proofs.{ContentByKeys.length-numbers, ContentByKeys.sums, ContentMade.made, ContentMade.made_content, JoinedParts.joined_more, JoinedParts.more, Totals.declared, Totals.some_aggregate}
 use Rattle.star_interval.specs.Range.{is_i64, is_i128}
-use Rattle.star_group.specs.Cells.{held}
-use Rattle.star_group.specs.Stores.{above_zero, below_zero}
-use Rattle.star_group.proofs.ContentByKeys.{length-numbers, sums}
-use Rattle.star_group.proofs.ContentMade.{made, made_content}
-use Rattle.star_group.proofs.JoinedParts.{joined_more, more}
-use Rattle.star_group.proofs.Totals.{declared, some_aggregate}
+use Rattle.star_group.specs.{Cells.held, Stores.above_zero, Stores.below_zero}
 
 abbrev all_of : List ℤ → ℤ
 all_of [] = pos 0

@@ -1,10 +1,9 @@
 -- Rows found by the digits of their keys: looking one up, and one row more.
-use Rattle.star_group.proofs.Common.{◌≡◌, ◌≢◌, ℕ, zero, suc, ◌+◌, ◌-◌, ◌*◌, ◌/◌, ◌%◌, ◌^◌, ◌<◌, ◌≤◌, List, [], ◌∷◌, ◌++◌, Bool, true, false, MatchBool, true≢false, length, drop, cond, nat_lt, get_or, set, ap, sym, ◌∙◌, subst, refl, arith, rules, below_more, get_or-set_same, get_or-set_other}
-use Rattle.star_group.proofs.Common.{◌⊎◌, inl, inr, cases_eq, cases_lt, at_drop_more, get_or_append_left, get_or_past, get_or_default, get_or_push, length-append, length-set, ∥∥₁_elim, ∥∥₁_map, KeyPart, All, eq-value, Decides, signed_Decides, unsigned_Decides, pointwise, slice_eq-Decides}
-use Rattle.star_group.proofs.Common.{IsTrie, IsMissing, Leads, child, key_at, part_digit, turn_at, word_with}
-use Rattle.star_group.specs.declared.keyed.key.KeyPart.TheVariants.{Number, Code}
+use Rattle.star_group.proofs.Common.{◌≡◌, ◌≢◌, ℕ, zero, suc, ◌+◌, ◌-◌, ◌*◌, ◌/◌, ◌%◌, ◌^◌, ◌<◌, ◌≤◌, List, [], ◌∷◌, ◌++◌, Bool, true, false, MatchBool, true≢false, length, drop, cond, nat_lt, get_or, set, ap, sym, ◌∙◌, subst, refl, arith, rules, below_more, get_or-set_same}
+use Rattle.star_group.proofs.Common.{get_or-set_other, ◌⊎◌, inl, inr, cases_eq, cases_lt, at_drop_more, get_or_append_left, get_or_past, get_or_default, get_or_push, length-append, length-set, ∥∥₁_elim, ∥∥₁_map, KeyPart, All, eq-value, Decides, signed_Decides, unsigned_Decides, pointwise}
+use Rattle.star_group.proofs.Common.{slice_eq-Decides, IsTrie, IsMissing, Leads, child, key_at, part_digit, turn_at, word_with}
+use Rattle.star_group.specs.{declared.keyed.key.KeyPart.TheVariants.Number, declared.keyed.key.KeyPart.TheVariants.Code, Private.Tries.digit_at, Private.Tries.node_at, Private.Tries.word_from}
 use Rattle.star_program.specs.Rows.{cut}
-use Rattle.star_group.specs.Private.Tries.{digit_at, node_at, word_from}
 
 abbrev part_eq : KeyPart → KeyPart → Bool
 part_eq = eq-value.it

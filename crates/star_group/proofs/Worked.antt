@@ -1,14 +1,11 @@
 -- What cells hold, which rows a put changes, the keys and places of rows, batches, and which numbers
 -- add up, by computation; and what each relation says.
-use Rattle.star_group.proofs.Common.{◌≡◌, ◌↔◌, ◌<◌, ◌≤◌, ◌+◌, ◌*◌, ◌^◌, ◌-◌, ◌++◌, ◌||◌, ℕ, true, false, true≢false, ℤ, pos, negsuc, List, [], ◌∷◌, Option, Some, None, arith, length, map, replicate, sym, slice_index_or, refl, Bor, AllByRecursion, IsDistinct, list_any, Gives, Gives2, Gives3}
-use Rattle.star_group.proofs.Common.{PBrand1, Sum, Count, Min, Max, Plain, Cube, Rollup, aggregate, numbers_for, GroupDecl, KeyValue, Number, Code, value_count, same_keys, IsSmall, Update, aggregate_at, PutBatch, Span, IsRowOver, key_value_view, puts_in, puts_with, row_found, HasRoomForRows}
-use Rattle.star_group.proofs.Common.{IsKeyWord, IsPutBatch, batch_keys, key_word, put_in, puts_after, word_in, cell_over, neutral, step, has_puts, IsWithPut, is_of_put, IsOf, cell_place, offset_of, places, AddUp, Group, HasRoom, IsContent, combined, group_declared, key_lists, put_number}
-use Rattle.star_group.proofs.Common.{puts_of}
+use Rattle.star_group.proofs.Common.{◌≡◌, ◌↔◌, ◌<◌, ◌≤◌, ◌+◌, ◌*◌, ◌^◌, ◌-◌, ◌++◌, ◌||◌, ℕ, true, false, true≢false, ℤ, pos, negsuc, List, [], ◌∷◌, Option, Some, None, arith, length, map, replicate, sym, slice_index_or, refl, Bor, AllByRecursion, IsDistinct, list_any, Gives, Gives2}
+use Rattle.star_group.proofs.Common.{Gives3, PBrand1, Sum, Count, Min, Max, Plain, Cube, Rollup, aggregate, numbers_for, GroupDecl, KeyValue, Number, Code, value_count, same_keys, IsSmall, Update, aggregate_at, PutBatch, Span, IsRowOver, key_value_view, puts_in, puts_with, row_found}
+use Rattle.star_group.proofs.Common.{HasRoomForRows, IsKeyWord, IsPutBatch, batch_keys, key_word, put_in, puts_after, word_in, cell_over, neutral, step, has_puts, IsWithPut, is_of_put, IsOf, cell_place, offset_of, places, AddUp, Group, HasRoom, IsContent, combined, group_declared}
+use Rattle.star_group.proofs.Common.{key_lists, put_number, puts_of}
 use Rattle.std.specs.Prelude.{All}
-use Rattle.star_group.specs.Cells.{held}
-use Rattle.star_group.specs.OneMore.{group_aggregate}
-use Rattle.star_group.specs.OwnKeys.{padded, vary}
-use Rattle.star_group.specs.Stores.{above_zero, below_zero}
+use Rattle.star_group.specs.{Cells.held, OneMore.group_aggregate, OwnKeys.padded, OwnKeys.vary, Stores.above_zero, Stores.below_zero}
 use Rattle.star_program.specs.declared.group.GroupKey.TheVariants as declared
 use Rattle.star_group.specs.declared.keyed.key.KeyPart.TheVariants as part
 

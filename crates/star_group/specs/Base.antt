@@ -1,19 +1,10 @@
 -- The content of a deferred store: the rows of all keys alone, and the total.
 use Rattle.std.specs.Prelude.{◌≡◌, ℕ, ◌<◌, Bool, true, false, ℤ, List, Option, Some, None, filter, length, map, slice_index_or}
-use Rattle.std.specs.List.{AllByRecursion}
-use Rattle.std.specs.Map.{lookup}
-use Rattle.star_schema.specs.declared.group.Aggregate.{Aggregate}
-use Rattle.star_schema.specs.declared.group.Shape.{Shape}
-use Rattle.star_schema.specs.Groups.{numbers_for}
-use Rattle.star_program.specs.declared.key.KeyValue.{KeyValue}
-use Rattle.star_program.specs.declared.key.KeyValue.TheVariants.{Number as NumberKey, Code as CodeKey}
-use Rattle.star_group.specs.declared.keyed.key.KeyPart.{KeyPart}
-use Rattle.star_group.specs.declared.keyed.key.KeyPart.TheVariants.{All, Number, Code}
-use Rattle.star_group.specs.Cells.{held}
-use Rattle.star_group.specs.OwnKeys.{is_of_put, key_eq, padded}
-use Rattle.star_program.specs.Puts.{Update, aggregate_at, leaves}
-use Rattle.star_group.specs.Stores.{Group}
-use Rattle.star_group.specs.Held.{has_puts}
+use Rattle.std.specs.{List.AllByRecursion, Map.lookup}
+use Rattle.star_schema.specs.{declared.group.Aggregate.Aggregate, declared.group.Shape.Shape, Groups.numbers_for}
+use Rattle.star_program.specs.{declared.key.KeyValue.KeyValue, declared.key.KeyValue.TheVariants.Number as NumberKey, declared.key.KeyValue.TheVariants.Code as CodeKey, Puts.Update, Puts.aggregate_at, Puts.leaves}
+use Rattle.star_group.specs.{declared.keyed.key.KeyPart.KeyPart, declared.keyed.key.KeyPart.TheVariants.All, declared.keyed.key.KeyPart.TheVariants.Number, declared.keyed.key.KeyPart.TheVariants.Code, Cells.held, OwnKeys.is_of_put, OwnKeys.key_eq, OwnKeys.padded, Stores.Group}
+use Rattle.star_group.specs.{Held.has_puts}
 
 -- what stands in a place of a key, None for ALL
 abbrev pub key_value_view : KeyPart → Option KeyValue

@@ -1,8 +1,7 @@
 -- What a row holds of an aggregate, and how one more number changes it.
 use Rattle.std.specs.Prelude.{ℤ, pos, ◌+ℤ◌, List, [], ◌∷◌, Option, Some, None}
-use Rattle.std.specs.Int.{int_min, int_max}
-use Rattle.star_schema.specs.declared.group.Aggregate.{Aggregate}
-use Rattle.star_schema.specs.declared.group.Aggregate.TheVariants.{Sum, Count, Min, Max}
+use Rattle.std.specs.{Int.int_min, Int.int_max}
+use Rattle.star_schema.specs.{declared.group.Aggregate.Aggregate, declared.group.Aggregate.TheVariants.Sum, declared.group.Aggregate.TheVariants.Count, declared.group.Aggregate.TheVariants.Min, declared.group.Aggregate.TheVariants.Max}
 
 -- an aggregate with one more number
 abbrev pub step : Aggregate → ℤ → Option ℤ → ℤ

@@ -1,10 +1,7 @@
 -- What a contract sees of an eager store.
 use Rattle.std.specs.Prelude.{List}
-use Rattle.star_group.specs.declared.eager.EagerStore.{EagerStore}
-use Rattle.star_group.specs.Base.{AreGrouped, HasAggregates}
-use Rattle.star_group.specs.Entries.{entries_of}
+use Rattle.star_group.specs.{declared.eager.EagerStore.EagerStore, Base.AreGrouped, Base.HasAggregates, Entries.entries_of, Stores.Group}
 use Rattle.star_program.specs.Puts.{Update}
-use Rattle.star_group.specs.Stores.{Group}
 
 abbrev pub group_view : EagerStore → Group
 group_view s = record { shape = s.shape; count = s.key_count; aggregates = s.aggregates.items }

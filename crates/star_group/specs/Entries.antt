@@ -1,10 +1,7 @@
 -- What a contract sees of rows by their keys.
 use Rattle.std.specs.Prelude.{ℤ, List, Option}
-use Rattle.star_group.specs.declared.keyed.key.KeyPart.{KeyPart}
-use Rattle.star_group.specs.declared.keyed.KeyedRows.{KeyedRows}
-use Rattle.star_group.specs.declared.keyed.ListedRows.{ListedRows}
+use Rattle.star_group.specs.{declared.keyed.key.KeyPart.KeyPart, declared.keyed.KeyedRows.KeyedRows, declared.keyed.ListedRows.ListedRows, Keyed.keyed}
 use Rattle.star_program.specs.Rows.{cut}
-use Rattle.star_group.specs.Keyed.{keyed}
 
 -- the rows with their keys
 abbrev pub listed_entries : ListedRows → List (List KeyPart × List (Option ℤ))

@@ -1,7 +1,6 @@
 -- Rows with their keys, in flat storage.
 use Rattle.std.specs.Prelude.{ℤ, List, [], ◌∷◌, ◌++◌, Option, length, drop}
-use Rattle.star_group.specs.declared.keyed.key.KeyPart.{KeyPart}
-use Rattle.star_group.specs.declared.keyed.key.KeyPart.TheVariants.{All}
+use Rattle.star_group.specs.{declared.keyed.key.KeyPart.KeyPart, declared.keyed.key.KeyPart.TheVariants.All}
 
 abbrev pub all_hidden : List KeyPart
 all_hidden = All ∷ All ∷ All ∷ All ∷ All ∷ All ∷ []

@@ -1,11 +1,8 @@
 -- The content of puts with one put more.
 use Rattle.std.specs.Prelude.{◌≡◌, ℕ, ◌<◌, false, ◌||◌, ℤ, List, [], ◌∷◌, Option, Some, None, length, if◌then◌else◌}
-use Rattle.std.specs.List.{list_any, IsDistinct}
-use Rattle.star_program.specs.declared.key.KeyValue.{KeyValue}
-use Rattle.star_program.specs.Keys.{same_keys}
-use Rattle.star_group.specs.Cells.{step}
-use Rattle.star_program.specs.Puts.{Update, aggregate_at}
-use Rattle.star_group.specs.Stores.{Group, key_lists, put_number}
+use Rattle.std.specs.{List.list_any, List.IsDistinct}
+use Rattle.star_program.specs.{declared.key.KeyValue.KeyValue, Keys.same_keys, Puts.Update, Puts.aggregate_at}
+use Rattle.star_group.specs.{Cells.step, Stores.Group, Stores.key_lists, Stores.put_number}
 
 -- what a content has for a key list and an aggregate, where it has the key list
 unfoldable pub group_aggregate : List KeyValue → ℕ → List Update → Option ℤ

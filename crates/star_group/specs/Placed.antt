@@ -1,11 +1,8 @@
 -- What a contract sees of a placed store.
 use Rattle.std.specs.Prelude.{List}
-use Rattle.star_group.specs.declared.placed.PlacedStore.{PlacedStore}
-use Rattle.star_group.specs.ByPlace.{IsPlaced}
-use Rattle.star_group.specs.Deferred as deferred
-use Rattle.star_group.specs.Entries.{entries_of}
+use Rattle.star_group.specs.{declared.placed.PlacedStore.PlacedStore, ByPlace.IsPlaced, Entries.entries_of, Stores.Group}
 use Rattle.star_program.specs.Puts.{Update}
-use Rattle.star_group.specs.Stores.{Group}
+use Rattle.star_group.specs.Deferred as deferred
 
 abbrev pub group_view : PlacedStore → Group
 group_view s = deferred.group_view s.rest

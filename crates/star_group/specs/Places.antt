@@ -1,11 +1,9 @@
 -- The places of key lists whose keys lie in known ranges.
 use Rattle.std.specs.Prelude.{◌≡◌, ℕ, ◌+◌, ◌*◌, nat_eq, nat_lt, Bool, true, false, if◌then◌else◌, ℤ, pos, negsuc, ◌-ℤ◌, List, [], ◌∷◌, Option, Some, None}
-use Rattle.std.specs.Option.{is_none, option_eq}
-use Rattle.star_program.specs.declared.group.GroupKey.{GroupKey}
-use Rattle.star_program.specs.declared.group.GroupKey.TheVariants as declared
-use Rattle.star_program.specs.declared.key.KeyValue.{KeyValue}
-use Rattle.star_program.specs.declared.key.KeyValue.TheVariants.{Number, Code}
+use Rattle.std.specs.{Option.is_none, Option.option_eq}
+use Rattle.star_program.specs.{declared.group.GroupKey.GroupKey, declared.key.KeyValue.KeyValue, declared.key.KeyValue.TheVariants.Number, declared.key.KeyValue.TheVariants.Code}
 use Rattle.star_group.specs.declared.placed.span.Span.{Span}
+use Rattle.star_program.specs.declared.group.GroupKey.TheVariants as declared
 
 -- a number that is at most the last one
 abbrev pub place_up_to : ℕ → ℤ → Option ℕ

@@ -1,11 +1,8 @@
 -- The rows that a store gives in the end.
 use Rattle.std.specs.Prelude.{◌≡◌, ℕ, List, [], Some, map, slice_get, slice_index_or}
 use Rattle.star_schema.specs.Groups.{AreGroups, GroupRow as Row}
-use Rattle.star_program.specs.declared.key.KeyValue.{KeyValue}
-use Rattle.star_group.specs.declared.group_row.GroupRow.{GroupRow}
-use Rattle.star_program.specs.Keys.{key_value_cmp}
-use Rattle.star_program.specs.Puts.{Update}
-use Rattle.star_group.specs.Stores.{Group}
+use Rattle.star_program.specs.{declared.key.KeyValue.KeyValue, Keys.key_value_cmp, Puts.Update}
+use Rattle.star_group.specs.{declared.group_row.GroupRow.GroupRow, Stores.Group}
 
 abbrev pub row_view : GroupRow → Row KeyValue
 row_view row = record { keys = row.keys; totals = row.aggregates }

@@ -1,15 +1,8 @@
 -- What a store of groups promises, in puts: each puts an update, and the newest put comes first.
 use Rattle.std.specs.Prelude.{◌≡◌, ◌↔◌, ℕ, suc, ◌+◌, ◌<◌, ◌≤◌, ◌^◌, ℤ, pos, negsuc, List, [], ◌∷◌, Option, Some, filter, length, map, slice_index_or}
-use Rattle.std.specs.List.{list_any, AllByRecursion, IsDistinct}
-use Rattle.std.specs.Option.{unwrap_or}
-use Rattle.star_schema.specs.declared.group.Aggregate.{Aggregate}
-use Rattle.star_schema.specs.declared.group.Aggregate.TheVariants.{Sum, Count}
-use Rattle.star_schema.specs.declared.group.Shape.{Shape}
-use Rattle.star_schema.specs.Groups.{IsGroup, members, aggregate, numbers_for}
-use Rattle.star_program.specs.declared.group.GroupDecl.{GroupDecl}
-use Rattle.star_program.specs.declared.key.KeyValue.{KeyValue}
-use Rattle.star_program.specs.Keys.{key_value_cmp, same_keys}
-use Rattle.star_program.specs.Puts.{Update, aggregate_at}
+use Rattle.std.specs.{List.list_any, List.AllByRecursion, List.IsDistinct, Option.unwrap_or}
+use Rattle.star_schema.specs.{declared.group.Aggregate.Aggregate, declared.group.Aggregate.TheVariants.Sum, declared.group.Aggregate.TheVariants.Count, declared.group.Shape.Shape, Groups.IsGroup, Groups.members, Groups.aggregate, Groups.numbers_for}
+use Rattle.star_program.specs.{declared.group.GroupDecl.GroupDecl, declared.key.KeyValue.KeyValue, Keys.key_value_cmp, Keys.same_keys, Puts.Update, Puts.aggregate_at}
 
 -- what a store is made for: a shape, how many keys there are, and its aggregates
 pub record Group : Type 0 where

@@ -1,8 +1,7 @@
 // A store that keeps only the rows of all keys up to date, and makes the others at the end.
 
 ghost use Rattle.std.specs.Prelude.{◌≡◌, ◌≤◌, vec_len};
-ghost use Rattle.star_group.specs.Base.{HasBaseWithRoom};
-ghost use Rattle.star_group.specs.Entries.{entries_of};
+ghost use Rattle.star_group.specs.{Base.HasBaseWithRoom, Entries.entries_of};
 
 pub(crate) mod coarser;
 mod store;

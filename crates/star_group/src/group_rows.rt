@@ -1,14 +1,10 @@
 // The rows that a store gives in the end.
 
 ghost use Rattle.std.specs.Prelude.{◌≡◌, ◌≤◌, ◌&&◌, List, None, length, map, nat_eq, slice_index_or, take, IfOk};
-ghost use Rattle.star_schema.specs.Groups as groups;
-ghost use Rattle.star_group.specs.Base.{AreGrouped, group_with, key_view};
-ghost use Rattle.star_group.specs.Keyed.{all_hidden};
-ghost use Rattle.star_group.specs.Private.Coarser.{AreOnce};
-ghost use Rattle.star_group.specs.Private.Given as spec;
-ghost use Rattle.star_group.specs.Entries.{listed_entries};
-ghost use Rattle.star_group.specs.StoreRows.{AreRows, row_at};
+ghost use Rattle.star_group.specs.{Base.AreGrouped, Base.group_with, Base.key_view, Keyed.all_hidden, Private.Coarser.AreOnce, Entries.listed_entries, StoreRows.AreRows, StoreRows.row_at};
 ghost use Rattle.star_program.specs.Puts.{Update};
+ghost use Rattle.star_schema.specs.Groups as groups;
+ghost use Rattle.star_group.specs.Private.Given as spec;
 
 use crate::cell::{Held, shown};
 use crate::group_row::ALL;

@@ -1,12 +1,11 @@
 //! What holds of the content of puts and of the condition of a put by the definitions alone.
 
 ghost use Rattle.std.specs.Prelude.{◌≡◌, ◌<◌, ◌^◌, ℕ, All, List, ◌∷◌, false, true, length};
-ghost use Rattle.star_schema.specs.Groups.{numbers_for};
-ghost use Rattle.star_schema.specs.declared.group.Aggregate.TheVariants.{Sum};
+ghost use Rattle.star_schema.specs.{Groups.numbers_for, declared.group.Aggregate.TheVariants.Sum};
 ghost use Rattle.star_interval.specs.Range.{is_i64};
-ghost use Rattle.star_group.specs.OneMore.{IsWithPut};
-ghost use Rattle.star_program.specs.Puts.{Update, aggregate_at, overflows};
 ghost use Rattle.star_group.specs.Stores.{AddUp, AreOfContent, Group, HasRoom, IsContent};
+ghost use Rattle.star_group.specs.{OneMore.IsWithPut};
+ghost use Rattle.star_program.specs.Puts.{Update, aggregate_at, overflows};
 
 /// Every list of puts has a content.
 pub fn puts_have_content()

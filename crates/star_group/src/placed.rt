@@ -1,9 +1,7 @@
 // Array aggregation: groups whose keys lie in known ranges have dense group ids.
 
 ghost use Rattle.std.specs.Prelude.{◌≡◌, ◌≤◌, ◌*◌, ◌^◌, length};
-ghost use Rattle.star_group.specs.ByPlace.{IsPlacedWithRoom};
-ghost use Rattle.star_group.specs.Entries.{entries_of};
-ghost use Rattle.star_group.specs.Places.{places};
+ghost use Rattle.star_group.specs.{ByPlace.IsPlacedWithRoom, Entries.entries_of, Places.places};
 
 mod cells;
 mod filling;

@@ -2,10 +2,8 @@
 
 ghost use Rattle.std.specs.Prelude.{◌≡◌, ◌≤◌, ◌<◌, ℕ, List, ◌∷◌, [], length, true, false, OnOk, OnErr, IfErr, IfOk};
 ghost use Rattle.star_common.specs.Memory.{UnlessMemory};
-ghost use Rattle.star_group.specs.Batches.{HasRoomForRows, IsPutBatch, puts_after, put_in};
+ghost use Rattle.star_group.specs.{Batches.HasRoomForRows, Batches.IsPutBatch, Batches.puts_after, Batches.put_in, Stores.Group, Stores.HasRoom, Stores.group_declared, StoreRows.AreRows};
 ghost use Rattle.star_program.specs.Puts.{Update, overflows, total_over};
-ghost use Rattle.star_group.specs.Stores.{Group, HasRoom, group_declared};
-ghost use Rattle.star_group.specs.StoreRows.{AreRows};
 
 use crate::batch::PutBatch;
 use crate::rows::PutFault;

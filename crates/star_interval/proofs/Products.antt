@@ -1,8 +1,6 @@
 -- Products of held numbers, and held numbers taken n times.
 use Rattle.std.proofs.Common.{ℕ, suc, ◌+◌, ◌*◌, ◌≤◌, refl, subst, arith, ℤ, pos, negsuc, ◌*ℤ◌, ◌≤ℤ◌}
-use Rattle.std.proofs.lemmas.Int.{ints, clamps}
-use Rattle.std.proofs.Math.Nat.{mul-le-mul_left}
-use Rattle.std.proofs.Math.IntN.{*ℤ_comm}
+use Rattle.std.proofs.{lemmas.Int.ints, lemmas.Int.clamps, Math.Nat.mul-le-mul_left, Math.IntN.*ℤ_comm}
 use borrow.Author.Differences.{up, down, le_out}
 use Rattle.star_interval.specs.Range.{Range, Holds, IsOrdered, IsWithin, IsLeast, IsResult, IsMultiple, only, hull, corner_range, multiple_range}
 use Rattle.star_interval.specs.Laws.{KeepsValues, KeepsOrder}

@@ -1,8 +1,7 @@
 -- Sums and differences of held numbers.
-use Rattle.std.proofs.Common.{◌≡◌, arith, ◌+ℤ◌, ◌-ℤ◌}
-use Rattle.std.proofs.lemmas.Int.{ints, clamps}
+use Rattle.std.proofs.{Common.◌≡◌, Common.arith, Common.◌+ℤ◌, Common.◌-ℤ◌, lemmas.Int.ints, lemmas.Int.clamps}
 use Rattle.star_interval.specs.Range.{Range, IsOrdered, IsLeast, IsResult, corner_range}
-use Rattle.star_interval.specs.Laws.{KeepsValues, KeepsOrder}
+use Rattle.star_interval.specs.{Laws.KeepsValues, Laws.KeepsOrder}
 use Rattle.star_interval.proofs.Ranges.{least_corners, corners_within}
 
 pub sums_held : KeepsValues ◌+ℤ◌ (corner_range ◌+ℤ◌)

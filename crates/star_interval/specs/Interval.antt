@@ -1,8 +1,6 @@
 -- Intervals, wide bounds and results of calls as ranges.
 use Rattle.std.specs.Prelude.{Result, Ok, Err}
-use Rattle.star_interval.specs.declared.Interval.{Interval}
-use Rattle.star_interval.specs.declared.Wide.{Wide}
-use Rattle.star_interval.specs.Range.{Range}
+use Rattle.star_interval.specs.{declared.Interval.Interval, declared.Wide.Wide, Range.Range}
 
 -- the numbers of an interval
 abbrev pub range_of : Interval → Range

@@ -1,16 +1,9 @@
 -- The lines of a report from one on.
 use Rattle.std.proofs.Common.{◌≡◌, ◌<◌, ◌≤◌, ◌+◌, ℕ, zero, suc, Bool, true, false, List, [], ◌∷◌, ◌++◌, length, map, drop, get_or, Option, Some, None, arith, ap, sym, ◌∙◌, refl, add-one}
-use Rattle.std.proofs.Math.Seq.{drop-cons}
-use Rattle.std.proofs.lemmas.Bool.{lt-ltb}
-use Rattle.std.proofs.lemmas.List.{length-map}
-use Rattle.std.specs.Option.{option_or}
-use Rattle.std.specs.Prelude.{◌&&◌, nat_eq, nat_lt, if◌then◌else◌}
+use Rattle.std.proofs.{Math.Seq.drop-cons, lemmas.Bool.lt-ltb, lemmas.List.length-map, lemmas.List.drop_all}
+use Rattle.std.specs.{Option.option_or, Prelude.◌&&◌, Prelude.nat_eq, Prelude.nat_lt, Prelude.if◌then◌else◌}
 use Rattle.star_schema.specs.declared.group.GroupColumn.{GroupColumn}
-use Rattle.star_program.specs.declared.group.GroupDecl.{GroupDecl}
-use Rattle.star_program.specs.declared.program.Parts.{Parts}
-use Rattle.star_program.specs.Faults.{group_at}
-use Rattle.star_program.specs.ShowLines.{has_column, first_unshown, named_columns, shown_fault}
-use Rattle.std.proofs.lemmas.List.{drop_all}
+use Rattle.star_program.specs.{declared.group.GroupDecl.GroupDecl, declared.program.Parts.Parts, Faults.group_at, ShowLines.has_column, ShowLines.first_unshown, ShowLines.named_columns, ShowLines.shown_fault}
 
 module _ {X : Type 0} (col : X → GroupColumn) (d : GroupDecl) (line : ℕ) (xs : List X) (i : ℕ)
   where

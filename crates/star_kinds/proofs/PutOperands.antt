@@ -1,12 +1,9 @@
 -- The keys and numbers of a put, one after another.
 use Rattle.std.proofs.Common.{◌≡◌, ◌<◌, ◌+◌, ℕ, suc, List, Some, None, length, drop, get_or, ap, sym, ◌∙◌, add-one}
-use Rattle.std.specs.Prelude.{slice_get}
-use Rattle.std.proofs.Math.Seq.{drop-cons}
-use Rattle.std.proofs.lemmas.Option.{slice_get_within, get_or_from_slice_get}
-use Rattle.std.specs.Option.{option_or}
-use Rattle.star_program.specs.declared.fault.Fault.{Fault}
+use Rattle.std.proofs.{Math.Seq.drop-cons, lemmas.Option.slice_get_within, lemmas.Option.get_or_from_slice_get}
+use Rattle.std.specs.{Prelude.slice_get, Option.option_or}
 use Rattle.star_program.specs.Faults.{Kinds, operand_fault, numbers_fault, keys_fault, is_number_kind, fits_key}
-use Rattle.star_program.specs.declared.group.GroupKey.{GroupKey}
+use Rattle.star_program.specs.{declared.fault.Fault.Fault, declared.group.GroupKey.GroupKey}
 
 pub next_number : (n : ℕ) (kinds : Kinds) (rs : List ℕ) (i : ℕ) (r : ℕ) → i < length rs
     → r ≡ get_or rs i r → operand_fault n kinds is_number_kind r ≡ None

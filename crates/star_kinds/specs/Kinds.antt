@@ -1,8 +1,6 @@
 -- The kinds of registers, and the result of a check.
 use Rattle.std.specs.Prelude.{◌≡◌, List, map, slice_index_or, Option, Some, None, Result, MatchResult}
-use Rattle.star_program.specs.declared.fault.Fault.{Fault}
-use Rattle.star_program.specs.declared.value.Kind.{Kind}
-use Rattle.star_program.specs.Faults.{Kinds}
+use Rattle.star_program.specs.{declared.fault.Fault.Fault, declared.value.Kind.Kind, Faults.Kinds}
 
 -- the kinds of registers, by number; None for an undeclared one
 abbrev pub register_kinds : {R : Type 0} → (R → Option Kind) → List R → Kinds

@@ -1,13 +1,12 @@
 // Checks that each operand is a declared register with a value of an allowed kind.
 
 ghost use Rattle.std.specs.Prelude.{◌≡◌, ◌<◌, length, slice_get, Some};
-ghost use Rattle.std.specs.Option.{option_or};
-ghost use Rattle.star_schema.specs.Schema as schema;
+ghost use Rattle.std.specs.{Option.option_or};
 ghost use Rattle.star_program.specs.declared.fault.Fault.TheVariants.{BadColumn};
+ghost use Rattle.star_kinds.specs.{Kinds.Answers, Kinds.register_kinds, Private.Taken.taken};
+ghost use Rattle.star_schema.specs.Schema as schema;
 ghost use Rattle.star_program.specs.World as world;
 ghost use Rattle.star_program.specs.Faults as faults;
-ghost use Rattle.star_kinds.specs.Kinds.{Answers, register_kinds};
-ghost use Rattle.star_kinds.specs.Private.Taken.{taken};
 
 use crate::register::{Kinded, kind_at};
 use star_program::{Fault, GroupKey, Kind, Operation, Operator, is_column};

@@ -1,9 +1,7 @@
 // The kinds of register values.
 
-ghost use Rattle.std.specs.Prelude.{◌≡◌, Option};
-ghost use Rattle.std.specs.Option.{option_map};
-ghost use Rattle.star_program.specs.declared.value.Kind.{Kind};
-ghost use Rattle.star_program.specs.Values.{register_kind};
+ghost use Rattle.std.specs.{Prelude.◌≡◌, Prelude.Option, Option.option_map};
+ghost use Rattle.star_program.specs.{declared.value.Kind.Kind, Values.register_kind};
 ghost use Rattle.star_kinds.specs.Kinds.{register_kinds};
 
 use star_program::{Kind, Value};

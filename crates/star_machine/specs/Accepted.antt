@@ -1,12 +1,9 @@
 -- Which programs may be run over the rows of five tables.
 use Rattle.std.specs.Prelude.{◌^◌, ◌≤◌}
-use Rattle.star_schema.specs.Database.{Database}
-use Rattle.star_schema.specs.Loadable.{IsSound}
-use Rattle.star_program.specs.declared.program.Parts.{Parts}
-use Rattle.star_program.specs.Limits.{IsWithinLimits}
+use Rattle.star_schema.specs.{Database.Database, Loadable.IsSound}
+use Rattle.star_program.specs.{declared.program.Parts.Parts, Limits.IsWithinLimits}
 use Rattle.star_world.specs.WorldOf.{world_of}
-use Rattle.star_safety.specs.Admissible.{IsAdmissible}
-use Rattle.star_safety.specs.Quote.{quote}
+use Rattle.star_safety.specs.{Admissible.IsAdmissible, Quote.quote}
 
 -- the rows are sound, and the program is admissible over them, with no more visits quoted than any run
 -- may make

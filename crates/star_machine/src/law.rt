@@ -1,20 +1,11 @@
 //! Laws of runs over tables: functions that do nothing, whose clauses are the laws.
 
 ghost use Rattle.std.specs.Prelude.{◌≡◌, ◌≤◌, ◌^◌, ℕ, MatchResult, Result};
-ghost use Rattle.star_schema.specs.Database.{Database};
-ghost use Rattle.star_schema.specs.Loadable.{IsSound};
-ghost use Rattle.star_program.specs.declared.outcome.Outcome.{Outcome};
-ghost use Rattle.star_program.specs.declared.program.Parts.{Parts};
-ghost use Rattle.star_safety.specs.Admissible.{IsAdmissible};
-ghost use Rattle.star_program.specs.Limits.{IsWithinLimits};
-ghost use Rattle.star_program.specs.Run.{EndsWith, run_of};
-ghost use Rattle.star_safety.specs.Laws.{EndsWithin, TotalsLie};
-ghost use Rattle.star_safety.specs.Moments.{AtEveryMoment};
-ghost use Rattle.star_safety.specs.Quote.{quote};
-ghost use Rattle.star_trial.specs.declared.fault.TrialFault.{TrialFault};
-ghost use Rattle.star_trial.specs.declared.fault.TrialFault.TheVariants.{OutOfMemory};
+ghost use Rattle.star_schema.specs.{Database.Database, Loadable.IsSound};
+ghost use Rattle.star_program.specs.{declared.outcome.Outcome.Outcome, declared.program.Parts.Parts, Limits.IsWithinLimits, Run.EndsWith, Run.run_of};
+ghost use Rattle.star_safety.specs.{Admissible.IsAdmissible, Laws.EndsWithin, Laws.TotalsLie, Moments.AtEveryMoment, Quote.quote};
+ghost use Rattle.star_trial.specs.{declared.fault.TrialFault.TrialFault, declared.fault.TrialFault.TheVariants.OutOfMemory, Trials.IsTrial};
 ghost use Rattle.star_machine.specs.Accepted.{IsAcceptedOver};
-ghost use Rattle.star_trial.specs.Trials.{IsTrial};
 ghost use Rattle.star_world.specs.WorldOf.{world_of};
 
 use star_safety::law::admissible_programs_never_trap;

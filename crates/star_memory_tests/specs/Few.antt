@@ -1,10 +1,8 @@
 -- Stores of few puts into a group of two keys, with an aggregate of each kind.
 use Rattle.std.specs.Prelude.{◌≡◌, ℕ, true, List, [], ◌∷◌, All, length}
 use Rattle.star_schema.specs.declared.group.Aggregate.TheVariants.{Sum, Count, Min, Max}
-use Rattle.star_program.specs.declared.group.GroupDecl.{GroupDecl}
-use Rattle.star_program.specs.declared.group.GroupKey.TheVariants.{Number}
+use Rattle.star_program.specs.{declared.group.GroupDecl.GroupDecl, declared.group.GroupKey.TheVariants.Number, Puts.Update}
 use Rattle.star_interval.specs.Range.{is_i64}
-use Rattle.star_program.specs.Puts.{Update}
 use Rattle.star_group.specs.Stores.{Group}
 
 pub record IsOfTests (d : Group) : Type 0 where

@@ -1,24 +1,13 @@
 -- Sums of all that plain groups add are merged groups.
 use Rattle.std.proofs.Common.{◌≡◌, ◌∙◌, ◌⊎◌, ℕ, Bool, true, false, ◌||◌, List, [], ◌∷◌, ◌++◌, Option, Some, None, cond, map, refl, sym, subst, ap, inl, inr, ⊎_elim, true≢false, IsTrue}
-use Rattle.std.specs.Prelude.{ℤ, filter, replicate}
-use Rattle.std.specs.Bool.{Decides}
-use Rattle.std.specs.List.{Contains}
-use Rattle.std.specs.Ordering.{is_eq}
-use Rattle.std.specs.declared.cmp.Ordering.{Ordering}
-use Rattle.std.proofs.lemmas.Bool.{or_cases, or_left}
-use Rattle.std.proofs.lemmas.List.{append_assoc, map-append}
-use Rattle.std.proofs.lemmas.List.Elements.{Contains-append_right, filter-append}
-use Rattle.std.proofs.lemmas.List.Folds.{list_any-append}
-use Rattle.star_schema.specs.declared.group.Aggregate.{Aggregate}
-use Rattle.star_schema.specs.declared.group.Shape.{Shape}
-use Rattle.star_schema.specs.Groups.{GroupRow, is_grouping, totals_of}
-use Rattle.star_merge_laws.specs.Merging.{total_over}
+use Rattle.std.proofs.{lemmas.Bool.or_cases, lemmas.Bool.or_left, lemmas.List.append_assoc, lemmas.List.map-append, lemmas.List.Elements.Contains-append_right, lemmas.List.Elements.filter-append, lemmas.List.Folds.list_any-append}
+use Rattle.std.specs.{Prelude.ℤ, Prelude.filter, Prelude.replicate, Bool.Decides, List.Contains, Ordering.is_eq, declared.cmp.Ordering.Ordering}
+use Rattle.star_schema.specs.{declared.group.Aggregate.Aggregate, declared.group.Shape.Shape, Groups.GroupRow, Groups.is_grouping, Groups.totals_of}
+use Rattle.star_merge_laws.specs.{Merging.total_over, Regrouping.AreAddedUp, Regrouping.all_added, Regrouping.are_same}
 use Rattle.star_program.specs.Puts.{masks}
-use Rattle.star_merge_laws.specs.Regrouping.{AreAddedUp, all_added, are_same}
 use Rattle.star_merge_laws.proofs.Regrouping.{filter_mapped, keys_are}
 use Rattle.star_merge.specs.Private.Adding.{AreSums, addends, empty_total, is_there, masked, total_at}
-use Rattle.star_merge.proofs.Adding.{nothing_added}
-use Rattle.star_merge.proofs.Alike.{from_there, same_itself, to_there, totals_of_sum}
+use Rattle.star_merge.proofs.{Adding.nothing_added, Alike.from_there, Alike.same_itself, Alike.to_there, Alike.totals_of_sum}
 
 -- ---- groupings of keys
 

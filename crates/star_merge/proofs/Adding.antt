@@ -1,18 +1,11 @@
 -- Rows that are added up have the keys and the totals of the rows that they are made of.
 use Rattle.std.proofs.Common.{◌≡◌, ◌∙◌, ℕ, ◌+◌, Bool, true, false, ◌||◌, List, [], ◌∷◌, ◌++◌, Option, cond, refl, sym, ap}
-use Rattle.std.specs.Prelude.{ℤ, filter}
-use Rattle.std.specs.Bool.{Decides}
-use Rattle.std.specs.List.{All}
-use Rattle.std.specs.Ordering.{is_eq}
-use Rattle.std.specs.declared.cmp.Ordering.{Ordering}
-use Rattle.std.proofs.lemmas.List.Elements.{All-cons, All-head, All-nil, All-tail}
-use Rattle.star_schema.specs.declared.group.Aggregate.{Aggregate}
-use Rattle.star_schema.specs.declared.group.Aggregate.TheVariants.{Sum, Count, Min, Max}
-use Rattle.star_schema.specs.Groups.{GroupRow, aggregate, totals_from, totals_of}
-use Rattle.star_merge_laws.specs.Merging.{merged, merged_totals, total_over}
-use Rattle.star_merge_laws.specs.Regrouping.{are_same}
-use Rattle.star_merge_laws.proofs.Totals.{merged_assoc, merged_comm}
-use Rattle.star_merge_laws.proofs.Regrouping.{keys_are}
+use Rattle.std.proofs.{lemmas.List.Elements.All-cons, lemmas.List.Elements.All-head, lemmas.List.Elements.All-nil, lemmas.List.Elements.All-tail}
+use Rattle.std.specs.{Prelude.ℤ, Prelude.filter, Bool.Decides, List.All, Ordering.is_eq, declared.cmp.Ordering.Ordering}
+use Rattle.star_schema.specs.{declared.group.Aggregate.Aggregate, declared.group.Aggregate.TheVariants.Sum, declared.group.Aggregate.TheVariants.Count, declared.group.Aggregate.TheVariants.Min, declared.group.Aggregate.TheVariants.Max, Groups.GroupRow, Groups.aggregate, Groups.totals_from}
+use Rattle.star_schema.specs.{Groups.totals_of}
+use Rattle.star_merge_laws.specs.{Merging.merged, Merging.merged_totals, Merging.total_over, Regrouping.are_same}
+use Rattle.star_merge_laws.proofs.{Totals.merged_assoc, Totals.merged_comm, Regrouping.keys_are}
 use Rattle.star_merge.specs.Private.Adding.{AddUpAlike, alone, is_there, onto, together, total_at}
 
 -- ---- totals

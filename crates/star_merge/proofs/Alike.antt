@@ -1,23 +1,12 @@
 -- Rows that add up alike: in any order, one after another, and as sums.
 use Rattle.std.proofs.Common.{◌≡◌, ◌∙◌, Bool, true, false, ◌||◌, List, [], ◌∷◌, ◌++◌, Option, Some, None, cond, refl, sym, subst, ap, true≢false, ⊎_elim}
-use Rattle.std.specs.Prelude.{ℤ, filter}
-use Rattle.std.specs.Bool.{Decides}
-use Rattle.std.specs.Cmp.Lexicographic.{slice_cmp}
-use Rattle.std.specs.List.{All, Contains}
-use Rattle.std.specs.List.Sorted.{IsPermutation}
-use Rattle.std.specs.Ordering.{is_eq, ordering_then}
-use Rattle.std.specs.declared.cmp.Ordering.{Ordering}
-use Rattle.std.specs.declared.cmp.Ordering.TheVariants.{Less, Equal, Greater}
 use Rattle.std.proofs.lemmas.Bool.{or_cases, or_left, or_parts, or_from, or_right}
-use Rattle.std.proofs.lemmas.List.Elements.{All-head, All-tail, filter-append}
-use Rattle.std.proofs.lemmas.List.Folds.{list_any-append}
-use Rattle.std.proofs.lemmas.List.Sorted.{All-permutation}
+use Rattle.std.proofs.{lemmas.List.Elements.All-head, lemmas.List.Elements.All-tail, lemmas.List.Elements.filter-append, lemmas.List.Folds.list_any-append, lemmas.List.Sorted.All-permutation}
+use Rattle.std.specs.{Prelude.ℤ, Prelude.filter, Bool.Decides, Cmp.Lexicographic.slice_cmp, List.All, List.Contains, List.Sorted.IsPermutation, Ordering.is_eq, Ordering.ordering_then, declared.cmp.Ordering.Ordering, declared.cmp.Ordering.TheVariants.Less}
+use Rattle.std.specs.{declared.cmp.Ordering.TheVariants.Equal, declared.cmp.Ordering.TheVariants.Greater}
 use Rattle.star_common.proofs.Members.{contains_cases, contains_here, contains_later, contains_none}
-use Rattle.star_schema.specs.declared.group.Aggregate.{Aggregate}
-use Rattle.star_schema.specs.Groups.{GroupRow}
-use Rattle.star_schema.specs.Order.{key_cmp}
-use Rattle.star_merge_laws.specs.Merging.{merged_totals, total_over}
-use Rattle.star_merge_laws.specs.Regrouping.{are_same}
+use Rattle.star_schema.specs.{declared.group.Aggregate.Aggregate, Groups.GroupRow, Order.key_cmp}
+use Rattle.star_merge_laws.specs.{Merging.merged_totals, Merging.total_over, Regrouping.are_same}
 use Rattle.star_merge_laws.proofs.Regrouping.{keys_are}
 use Rattle.star_query_meaning.proofs.Reorderings.{reordered}
 use Rattle.star_merge.specs.Private.Adding.{AddUpAlike, AreApart, AreSums, alone, is_there, total_at}

@@ -1,10 +1,7 @@
 -- Bounds that are joined one after another.
 use Rattle.std.proofs.Common.{◌≡◌, ◌∙◌, ℕ, ◌+◌, ◌<◌, List, ap, arith, get_or, length, refl, set, sym, subst, ⊎_elim}
-use Rattle.std.proofs.lemmas.Bool.{cases_eq}
-use Rattle.std.proofs.lemmas.List.{get_or-set_other, get_or-set_same}
-use Rattle.std.proofs.lemmas.List.Elements.{at_read}
-use Rattle.star_interval.specs.Interval.{range_of}
-use Rattle.star_interval.specs.declared.Interval.{Interval}
+use Rattle.std.proofs.{lemmas.Bool.cases_eq, lemmas.List.get_or-set_other, lemmas.List.get_or-set_same, lemmas.List.Elements.at_read}
+use Rattle.star_interval.specs.{Interval.range_of, declared.Interval.Interval}
 use Rattle.star_merge_laws.specs.Facts.{hull_of_rows}
 
 abbrev AreJoined : ℕ → ℕ → List Interval → List Interval → List Interval → ℕ → Type 0

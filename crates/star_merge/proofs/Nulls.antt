@@ -1,28 +1,17 @@
 -- Merged groups have the same NULLs.
 use Rattle.std.proofs.Common.{◌≡◌, ◌∙◌, ◌||◌, ℕ, zero, suc, ◌+◌, Bool, true, false, List, [], ◌∷◌, Option, Some, None, cond, length, map, refl, sym, subst, ap, inl, inr, ⊎_elim, true≢false, arith, IsTrue}
-use Rattle.std.specs.Prelude.{ℤ, filter, replicate}
-use Rattle.std.specs.List.{All, Contains, flat_map}
-use Rattle.std.specs.Option.{is_some, option_to_list}
-use Rattle.std.proofs.lemmas.Bool.{or_cases}
-use Rattle.std.proofs.lemmas.List.{length-map}
 use Rattle.std.proofs.lemmas.List.Elements.{All-append, All-contains, All-filter, All-head, All-map, All-nil, All-tail}
-use Rattle.std.proofs.lemmas.List.Folds.{list_any-append}
+use Rattle.std.proofs.{lemmas.Bool.or_cases, lemmas.List.length-map, lemmas.List.Folds.list_any-append}
+use Rattle.std.specs.{Prelude.ℤ, Prelude.filter, Prelude.replicate, List.All, List.Contains, List.flat_map, Option.is_some, Option.option_to_list}
 use Rattle.star_common.proofs.Members.{contains_here, contains_none, from_contains_map}
-use Rattle.star_schema.specs.declared.group.Aggregate.{Aggregate}
-use Rattle.star_schema.specs.declared.group.Shape.{Shape}
 use Rattle.star_schema.specs.Groups.{Entry, GroupRow, IsMasked, is_grouping, totals_from}
-use Rattle.star_schema.specs.Order.{value_cmp}
-use Rattle.star_schema.specs.Tables.{Value}
-use Rattle.star_merge_laws.specs.Merging.{as_row, merged, merged_totals, total_over}
+use Rattle.star_schema.specs.{declared.group.Aggregate.Aggregate, declared.group.Shape.Shape, Order.value_cmp, Tables.Value}
+use Rattle.star_merge_laws.specs.{Merging.as_row, Merging.merged, Merging.merged_totals, Merging.total_over, Regrouping.added, Regrouping.all_added, Regrouping.are_same}
 use Rattle.star_program.specs.Puts.{masks}
-use Rattle.star_merge_laws.specs.Regrouping.{added, all_added, are_same}
-use Rattle.star_merge_laws.proofs.Regrouping.{added_group, group_added}
-use Rattle.star_merge_laws.proofs.Values.{value_decides}
-use Rattle.star_merge.specs.Merged.{AreOfShape, IsFull}
+use Rattle.star_merge_laws.proofs.{Regrouping.added_group, Regrouping.group_added, Values.value_decides}
 use Rattle.star_merge.specs.Private.Adding.{AreSums, addends, empty_total, is_there, total_at}
-use Rattle.star_merge.specs.Private.RowOrder.{numbers_in}
-use Rattle.star_merge.proofs.Addends.{at_empty, there_empty}
-use Rattle.star_merge.proofs.Alike.{from_there, to_there, totals_of_sum}
+use Rattle.star_merge.specs.{Merged.AreOfShape, Merged.IsFull, Private.RowOrder.numbers_in}
+use Rattle.star_merge.proofs.{Addends.at_empty, Addends.there_empty, Alike.from_there, Alike.to_there, Alike.totals_of_sum}
 
 abbrev full : List Aggregate → List Bool
 full gs = map (λ g. true) gs

@@ -1,35 +1,23 @@
 -- Merged rows of plain reports are the answer over all parts.
 use Rattle.std.proofs.Common.{◌≡◌, ◌≢◌, ◌∙◌, AllPairs, append_assoc, ℕ, zero, suc, ◌+◌, Bool, true, false, List, [], ◌∷◌, ◌++◌, Option, Some, None, cond, drop, get_or, length, map, refl, sym, subst, ap, inl, inr, ⊎_elim, take, true≢false, arith}
-use Rattle.std.specs.Prelude.{ℤ, pos, ◌+ℤ◌, filter, replicate}
-use Rattle.std.specs.Int.{int_min, int_max}
-use Rattle.std.specs.List.{All, Contains, flat_map, list_all}
-use Rattle.std.specs.Option.{is_some}
 use Rattle.std.proofs.lemmas.List.{length-append, length-map, length-replicate, map-append, map-id}
 use Rattle.std.proofs.lemmas.List.Elements.{All-append, All-contains, All-cons, All-from_recursion, All-head, All-map, All-nil, All-tail}
+use Rattle.std.specs.Prelude.{ℤ, pos, ◌+ℤ◌, filter, replicate}
+use Rattle.std.specs.{Int.int_min, Int.int_max, List.All, List.Contains, List.flat_map, List.list_all, Option.is_some}
 use Rattle.star_common.proofs.Members.{contains_cases, contains_none, map_agree, of_each}
-use Rattle.star_schema.specs.declared.group.Aggregate.{Aggregate}
-use Rattle.star_schema.specs.declared.group.Aggregate.TheVariants.{Sum, Count, Min, Max}
-use Rattle.star_schema.specs.declared.group.GroupColumn.{GroupColumn}
-use Rattle.star_schema.specs.declared.group.GroupColumn.TheVariants as column
-use Rattle.star_schema.specs.declared.group.Shape.TheVariants.{Plain}
-use Rattle.star_schema.specs.Database.{Database}
 use Rattle.star_schema.specs.Groups.{AreGroups, Entry, GroupRow, IsMasked, aggregate, belongs, joined, joined_with, members, numbers_for, totals_from, totals_of}
-use Rattle.star_schema.specs.Order.{value_cmp}
-use Rattle.star_schema.specs.Tables.{Value, Number, Text}
-use Rattle.star_plan.specs.Meaning.{Plan, aggregate_of, entry_of, plan_rows}
-use Rattle.star_plan.specs.Sound.{IsSoundPlan}
-use Rattle.star_program.specs.declared.outcome.Cell.{Cell}
-use Rattle.star_program.specs.RowCells.{cell_of, key_cell, total_cell}
+use Rattle.star_schema.specs.{declared.group.Aggregate.Aggregate, declared.group.Aggregate.TheVariants.Sum, declared.group.Aggregate.TheVariants.Count, declared.group.Aggregate.TheVariants.Min, declared.group.Aggregate.TheVariants.Max, declared.group.GroupColumn.GroupColumn}
+use Rattle.star_schema.specs.{declared.group.Shape.TheVariants.Plain, Database.Database, Order.value_cmp, Tables.Value, Tables.Number, Tables.Text}
+use Rattle.star_plan.specs.{Meaning.Plan, Meaning.aggregate_of, Meaning.entry_of, Meaning.plan_rows, Sound.IsSoundPlan}
+use Rattle.star_program.specs.{declared.outcome.Cell.Cell, RowCells.cell_of, RowCells.key_cell, RowCells.total_cell}
 use Rattle.star_query_meaning.specs.Answers.{IsPlanAnswer, shown_name}
 use Rattle.star_merge_laws.specs.Merging.{AreMerged, IsPart, Part, all_groups, all_rows}
-use Rattle.star_merge_laws.specs.Plain.{columns_at, plain_plan}
-use Rattle.star_merge_laws.specs.Tables.{all_of, tables_with}
-use Rattle.star_merge_laws.proofs.Merging.{belongs_of, merged_groups}
-use Rattle.star_merge_laws.proofs.Rows.{selected_of_parts}
-use Rattle.star_merge_laws.proofs.Values.{once_in_order, value_decides}
+use Rattle.star_merge_laws.specs.{Plain.columns_at, Plain.plain_plan, Tables.all_of, Tables.tables_with}
+use Rattle.star_merge_laws.proofs.{Merging.belongs_of, Merging.merged_groups, Rows.selected_of_parts, Values.once_in_order, Values.value_decides}
 use Rattle.star_merge.proofs.Addends.{map_twice}
-use Rattle.star_merge.specs.Cells.{group_of, key_of, total_of}
 use Rattle.star_merge.specs.Merged.{AreOfShape, ArePlainReports, IsFull, IsMergedRows, PlainReport, groups_shown}
+use Rattle.star_merge.specs.{Cells.group_of, Cells.key_of, Cells.total_of}
+use Rattle.star_schema.specs.declared.group.GroupColumn.TheVariants as column
 
 -- ---- cells of a group, and the group of its cells
 

@@ -1,18 +1,10 @@
 -- Neighbours of sorted rows that become one: no keys are there twice.
 use Rattle.std.proofs.Common.{◌≡◌, ◌∙◌, suc, ◌+◌, Bool, true, false, ◌||◌, List, [], ◌∷◌, Option, cond, get_or, refl, sym, subst, ap, arith, true≢false}
-use Rattle.std.specs.Bool.{Decides}
-use Rattle.std.specs.Cmp.{IsTotalOrder}
-use Rattle.std.specs.Cmp.Lexicographic.{slice_cmp}
-use Rattle.std.specs.List.Sorted.{IsSortedBy}
-use Rattle.std.specs.Ordering.{is_eq, is_lt, ordering_reverse}
-use Rattle.std.specs.declared.cmp.Ordering.{Ordering}
-use Rattle.std.specs.declared.cmp.Ordering.TheVariants.{Less, Equal, Greater}
-use Rattle.std.proofs.lemmas.Bool.{or_from}
-use Rattle.star_schema.specs.declared.group.Aggregate.{Aggregate}
-use Rattle.star_schema.specs.Groups.{GroupRow}
-use Rattle.star_schema.specs.Order.{key_cmp}
-use Rattle.star_merge_laws.specs.Merging.{merged_totals}
-use Rattle.star_merge_laws.specs.Regrouping.{are_same}
+use Rattle.std.proofs.{lemmas.Bool.or_from}
+use Rattle.std.specs.{Bool.Decides, Cmp.IsTotalOrder, Cmp.Lexicographic.slice_cmp, List.Sorted.IsSortedBy, Ordering.is_eq, Ordering.is_lt, Ordering.ordering_reverse, declared.cmp.Ordering.Ordering, declared.cmp.Ordering.TheVariants.Less, declared.cmp.Ordering.TheVariants.Equal}
+use Rattle.std.specs.{declared.cmp.Ordering.TheVariants.Greater}
+use Rattle.star_schema.specs.{declared.group.Aggregate.Aggregate, Groups.GroupRow, Order.key_cmp}
+use Rattle.star_merge_laws.specs.{Merging.merged_totals, Regrouping.are_same}
 use Rattle.star_merge_laws.proofs.Regrouping.{keys_are}
 use Rattle.star_merge.specs.Private.Adding.{AreApart, AreSums, alone, is_there, onto, together}
 use Rattle.star_merge.proofs.Adding.{together_alike, together_whole}

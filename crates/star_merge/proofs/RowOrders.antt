@@ -1,31 +1,17 @@
 -- Sorted groups are in the order of a report.
 use Rattle.std.proofs.Common.{◌≡◌, ◌∙◌, ℕ, zero, suc, ◌+◌, ◌<◌, false, true≢false, List, [], ◌∷◌, Option, Some, None, ap, get_or, length, map, sym, subst, refl, arith}
-use Rattle.std.specs.Prelude.{ℤ}
-use Rattle.std.specs.Cmp.{IsTotalOrder}
-use Rattle.std.specs.Cmp.Lexicographic.{slice_cmp, options_total}
-use Rattle.std.specs.List.{AllByRecursion, Contains}
-use Rattle.std.specs.List.Sorted.{IsSortedBy, IsStrictlySortedBy}
-use Rattle.std.specs.Option.{is_some, option_cmp}
-use Rattle.std.specs.Ordering.{flip_args, int_cmp, is_eq, is_lt, ordering_reverse, ordering_then}
-use Rattle.std.specs.declared.cmp.Ordering.{Ordering}
-use Rattle.std.specs.declared.cmp.Ordering.TheVariants.{Less, Equal, Greater}
-use Rattle.std.proofs.lemmas.Bool.{or_parts}
 use Rattle.std.proofs.lemmas.Cmp.{back_total, int_cmp_total, lists_total, nat_list_cmp_total, on_total, then_total, tied_itself}
-use Rattle.std.proofs.lemmas.Map.Keys.{sorted_from_all_adjacent}
+use Rattle.std.proofs.{lemmas.Bool.or_parts, lemmas.Map.Keys.sorted_from_all_adjacent}
+use Rattle.std.specs.Ordering.{flip_args, int_cmp, is_eq, is_lt, ordering_reverse, ordering_then}
+use Rattle.std.specs.{Prelude.ℤ, Cmp.IsTotalOrder, Cmp.Lexicographic.slice_cmp, Cmp.Lexicographic.options_total, List.AllByRecursion, List.Contains, List.Sorted.IsSortedBy, List.Sorted.IsStrictlySortedBy, Option.is_some, Option.option_cmp, declared.cmp.Ordering.Ordering}
+use Rattle.std.specs.{declared.cmp.Ordering.TheVariants.Less, declared.cmp.Ordering.TheVariants.Equal, declared.cmp.Ordering.TheVariants.Greater}
 use Rattle.star_common.proofs.Members.{contains_here, contains_later}
-use Rattle.star_schema.specs.declared.group.GroupColumn.{GroupColumn}
+use Rattle.star_schema.specs.{declared.group.GroupColumn.GroupColumn, declared.group.Direction.Direction, declared.group.Direction.TheVariants.Ascending, declared.group.Direction.TheVariants.Descending, declared.group.SortKey.SortKey, Groups.GroupRow, Order.AreInOrder, Order.key_cmp}
+use Rattle.star_schema.specs.{Order.value_cmp, Tables.Value, Tables.Number, Tables.Text}
+use Rattle.star_merge_laws.proofs.{Regrouping.keys_are, Values.value_decides}
+use Rattle.star_merge.specs.{Private.Adding.AreApart, Private.Adding.is_there, Private.RowOrder.column_order, Private.RowOrder.directed_order, Private.RowOrder.numbers_in, Private.RowOrder.row_order}
 use Rattle.star_schema.specs.declared.group.GroupColumn.TheVariants as column
-use Rattle.star_schema.specs.declared.group.Direction.{Direction}
-use Rattle.star_schema.specs.declared.group.Direction.TheVariants.{Ascending, Descending}
-use Rattle.star_schema.specs.declared.group.SortKey.{SortKey}
-use Rattle.star_schema.specs.Groups.{GroupRow}
 use Rattle.star_schema.specs.Order as report
-use Rattle.star_schema.specs.Order.{AreInOrder, key_cmp, value_cmp}
-use Rattle.star_schema.specs.Tables.{Value, Number, Text}
-use Rattle.star_merge_laws.proofs.Regrouping.{keys_are}
-use Rattle.star_merge_laws.proofs.Values.{value_decides}
-use Rattle.star_merge.specs.Private.Adding.{AreApart, is_there}
-use Rattle.star_merge.specs.Private.RowOrder.{column_order, directed_order, numbers_in, row_order}
 
 -- ---- an order
 

@@ -1,35 +1,16 @@
 -- Steps of the code that merges groups.
 use Rattle.std.proofs.Common.{◌≡◌, ◌∙◌, ℕ, ◌+◌, ◌-◌, ◌<◌, ◌≤◌, Bool, true, false, List, [], ◌∷◌, ◌++◌, Option, Some, None, append_assoc, arith, cond, drop, get_or, length, map, min, refl, sym, subst, ap, take, true≢false}
-use Rattle.std.specs.Prelude.{ℤ, reverse}
-use Rattle.std.specs.List.{flat_map}
-use Rattle.std.specs.List.Sorted.{IsPermutation, IsSortedBy}
-use Rattle.std.specs.Option.{is_some, option_to_list}
-use Rattle.std.specs.Ordering.{is_lt}
-use Rattle.std.proofs.lemmas.Grind.{flat_map-append}
 use Rattle.std.proofs.lemmas.List.{append-nil, map-append, reverse-append, reverse-reverse, drop_min, take_min, take_more, take_rest}
-use Rattle.std.proofs.lemmas.List.Sorted.{IsPermutation-reverse}
-use Rattle.star_schema.specs.declared.group.Aggregate.{Aggregate}
-use Rattle.star_schema.specs.declared.group.GroupColumn.{GroupColumn}
-use Rattle.star_schema.specs.declared.group.Shape.{Shape}
-use Rattle.star_schema.specs.declared.group.SortKey.{SortKey}
-use Rattle.star_schema.specs.Groups.{GroupRow, aggregate, is_grouping, totals_from}
-use Rattle.star_schema.specs.Order.{value_cmp}
-use Rattle.star_schema.specs.Tables.{Value}
-use Rattle.star_program.specs.declared.outcome.Cell.{Cell}
-use Rattle.star_program.specs.RowCells.{cell_of}
-use Rattle.star_merge_laws.specs.Merging.{merged_totals}
-use Rattle.star_merge_laws.specs.Regrouping.{added, all_added, are_same}
-use Rattle.star_merge_laws.proofs.Regrouping.{added_up}
-use Rattle.star_merge_laws.proofs.Values.{value_decides}
-use Rattle.star_merge.specs.Cells.{group_of, key_of, total_of}
-use Rattle.star_merge.specs.Merged.{AreOfShape, IsMergedRows}
+use Rattle.std.proofs.{lemmas.Grind.flat_map-append, lemmas.List.Sorted.IsPermutation-reverse}
+use Rattle.std.specs.{Prelude.ℤ, Prelude.reverse, List.flat_map, List.Sorted.IsPermutation, List.Sorted.IsSortedBy, Option.is_some, Option.option_to_list, Ordering.is_lt}
+use Rattle.star_schema.specs.{declared.group.Aggregate.Aggregate, declared.group.GroupColumn.GroupColumn, declared.group.Shape.Shape, declared.group.SortKey.SortKey, Groups.GroupRow, Groups.aggregate, Groups.is_grouping, Groups.totals_from, Order.value_cmp, Tables.Value}
+use Rattle.star_program.specs.{declared.outcome.Cell.Cell, RowCells.cell_of}
+use Rattle.star_merge_laws.specs.{Merging.merged_totals, Regrouping.added, Regrouping.all_added, Regrouping.are_same}
+use Rattle.star_merge_laws.proofs.{Regrouping.added_up, Values.value_decides}
 use Rattle.star_merge.specs.Private.Adding.{AddUpAlike, AreSums, HasJoined, addends, alone, empty_total, masked, onto, over_nothing, together}
-use Rattle.star_merge.specs.Private.RowOrder.{row_order}
-use Rattle.star_merge.proofs.Addends.{added_up_by_sums, masked_more}
+use Rattle.star_merge.specs.{Cells.group_of, Cells.key_of, Cells.total_of, Merged.AreOfShape, Merged.IsMergedRows, Private.RowOrder.row_order}
 use Rattle.star_merge.proofs.Alike.{alike_append, alike_itself, alike_reordered, alike_sym, alike_trans, sums_alike, sums_reordered}
-use Rattle.star_merge.proofs.Nulls.{same_nulls}
-use Rattle.star_merge.proofs.Rising.{sums_of_sorted}
-use Rattle.star_merge.proofs.RowOrders.{in_order, keys_total}
+use Rattle.star_merge.proofs.{Addends.added_up_by_sums, Addends.masked_more, Nulls.same_nulls, Rising.sums_of_sorted, RowOrders.in_order, RowOrders.keys_total}
 
 -- ---- aggregates over no rows
 

@@ -1,7 +1,6 @@
 -- Rows of cells as groups.
 use Rattle.std.specs.Prelude.{ℕ, ℤ, List, Option, Some, None, drop, map, take}
-use Rattle.star_schema.specs.Groups.{GroupRow}
-use Rattle.star_schema.specs.Tables.{Value, Number, Text}
+use Rattle.star_schema.specs.{Groups.GroupRow, Tables.Value, Tables.Number, Tables.Text}
 use Rattle.star_program.specs.declared.outcome.Cell.{Cell}
 use Rattle.star_program.specs.declared.outcome.Cell.TheVariants as cell
 

@@ -1,23 +1,12 @@
 -- The rows of merged groups.
 use Rattle.std.specs.Prelude.{◌≡◌, ◌⊎◌, ℕ, All, List, [], length, map, replicate, true}
-use Rattle.std.specs.Option.{is_some}
-use Rattle.star_schema.specs.declared.group.Aggregate.{Aggregate}
-use Rattle.star_schema.specs.declared.group.GroupColumn.{GroupColumn}
-use Rattle.star_schema.specs.declared.group.Shape.{Shape}
-use Rattle.star_schema.specs.declared.group.SortKey.{SortKey}
-use Rattle.star_schema.specs.Groups.{GroupRow}
-use Rattle.star_schema.specs.Order.{AreInOrder, value_cmp}
-use Rattle.star_schema.specs.Tables.{Value}
-use Rattle.star_program.specs.declared.outcome.Cell.{Cell}
-use Rattle.star_program.specs.RowCells.{cell_of}
+use Rattle.std.specs.{Option.is_some, List.flat_map}
+use Rattle.star_schema.specs.{declared.group.Aggregate.Aggregate, declared.group.GroupColumn.GroupColumn, declared.group.Shape.Shape, declared.group.SortKey.SortKey, Groups.GroupRow, Order.AreInOrder, Order.value_cmp, Tables.Value, Database.Database}
+use Rattle.star_program.specs.{declared.outcome.Cell.Cell, RowCells.cell_of}
 use Rattle.star_query_meaning.specs.Answers.{IsPlanAnswer}
 use Rattle.star_plan.specs.Meaning.{Plan, Row}
-use Rattle.star_schema.specs.Database.{Database}
-use Rattle.star_merge_laws.specs.Merging.{AreMerged}
-use Rattle.star_merge_laws.specs.Plain.{plain_plan}
-use Rattle.star_merge_laws.specs.Tables.{tables_with}
+use Rattle.star_merge_laws.specs.{Merging.AreMerged, Plain.plain_plan, Tables.tables_with}
 use Rattle.star_merge.specs.Cells.{group_of}
-use Rattle.std.specs.List.{flat_map}
 
 -- the group of a row or more: no key is ALL, and no aggregate is NULL
 pub record IsFull (count : ℕ) (aggregates : List Aggregate) (group : GroupRow Value) : Type 0 where

@@ -1,8 +1,7 @@
 // The bounds of columns over several parts of lineorder.
 
 ghost use Rattle.std.specs.Prelude.{◌≡◌, ◌<◌, ℕ, slice_index_or};
-ghost use Rattle.star_interval.specs.Interval.{range_of};
-ghost use Rattle.star_interval.specs.declared.Interval.{Interval as Bounds};
+ghost use Rattle.star_interval.specs.{Interval.range_of, declared.Interval.Interval as Bounds};
 ghost use Rattle.star_merge_laws.specs.Facts.{hull_of_rows};
 
 use star_interval::Interval;

@@ -1,14 +1,12 @@
 // Groups that are merged, and how they compare.
 
 ghost use Rattle.std.specs.Prelude.{◌≡◌, None, IfOk, map, slice_index_or};
-ghost use Rattle.std.specs.Cmp.Lexicographic.{slice_cmp};
+ghost use Rattle.std.specs.{Cmp.Lexicographic.slice_cmp};
 ghost use Rattle.star_schema.specs.Order.{key_cmp, value_cmp};
-ghost use Rattle.star_program.specs.CellViews.{cell_viewed};
-ghost use Rattle.star_program.specs.RowCells as row_cells;
-ghost use Rattle.star_program.specs.RowCells.{cell_of};
-ghost use Rattle.star_merge.specs.Cells.{key_of};
-ghost use Rattle.star_merge.specs.Private.RowOrder.{column_order, row_order, sort_order};
+ghost use Rattle.star_program.specs.{CellViews.cell_viewed, RowCells.cell_of};
+ghost use Rattle.star_merge.specs.{Cells.key_of, Private.RowOrder.column_order, Private.RowOrder.row_order, Private.RowOrder.sort_order};
 ghost use Rattle.star_merge_laws.specs.Regrouping.{are_same};
+ghost use Rattle.star_program.specs.RowCells as row_cells;
 
 use star_program::{Cell, CellText, CellView, Items, KeptCell};
 use star_schema::{Direction, GroupColumn, SortKey};

@@ -1,13 +1,10 @@
 // A group under each grouping of its keys.
 
 ghost use Rattle.std.specs.Prelude.{◌≡◌, ◌++◌, ◌∷◌, [], IfOk, OnOk, map};
-ghost use Rattle.std.specs.List.{flat_map};
-ghost use Rattle.std.specs.Option.{is_none, is_some, option_to_list};
-ghost use Rattle.std.specs.List.{list_all};
-ghost use Rattle.star_schema.specs.Groups as spec;
+ghost use Rattle.std.specs.{List.flat_map, List.list_all, Option.is_none, Option.is_some, Option.option_to_list};
 ghost use Rattle.star_program.specs.CellViews.{cell_viewed};
-ghost use Rattle.star_merge.specs.Cells.{key_of};
-ghost use Rattle.star_merge.specs.Private.Adding.{masked};
+ghost use Rattle.star_merge.specs.{Cells.key_of, Private.Adding.masked};
+ghost use Rattle.star_schema.specs.Groups as spec;
 
 use crate::group::{Group, key_cell};
 use star_program::{Cell, CellView, KeptCell};

@@ -2,8 +2,7 @@
 
 ghost use Rattle.std.specs.Prelude.{List, length, map};
 ghost use Rattle.star_schema.specs.Database.{Database};
-ghost use Rattle.star_plan.specs.Meaning.{Plan, aggregate_of};
-ghost use Rattle.star_plan.specs.Sound.{IsSoundPlan};
+ghost use Rattle.star_plan.specs.{Meaning.Plan, Meaning.aggregate_of, Sound.IsSoundPlan};
 ghost use Rattle.star_program.specs.declared.outcome.Cell.{Cell};
 ghost use Rattle.star_query_meaning.specs.Answers.{IsPlanAnswer, shown_name};
 ghost use Rattle.star_merge_laws.specs.Tables.{all_of, tables_with};

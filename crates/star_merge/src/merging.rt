@@ -1,14 +1,10 @@
 // Groups of partial reports, merged as they are read.
 
 ghost use Rattle.std.specs.Prelude.{◌≡◌, ◌++◌, ℕ, List, [], None, IfOk, OnOk, map, replicate};
-ghost use Rattle.std.specs.List.{flat_map};
-ghost use Rattle.star_schema.specs.Groups.{GroupRow};
-ghost use Rattle.star_schema.specs.Order.{value_cmp};
-ghost use Rattle.star_schema.specs.Tables.{Value};
+ghost use Rattle.std.specs.{List.flat_map};
+ghost use Rattle.star_schema.specs.{Groups.GroupRow, Order.value_cmp, Tables.Value};
 ghost use Rattle.star_program.specs.RowCells.{cell_of};
-ghost use Rattle.star_merge.specs.Cells.{group_of, key_of, total_of};
-ghost use Rattle.star_merge.specs.Merged.{AreOfShape, IsMergedRows};
-ghost use Rattle.star_merge.specs.Private.Adding.{HasMerged, empty_total};
+ghost use Rattle.star_merge.specs.{Cells.group_of, Cells.key_of, Cells.total_of, Merged.AreOfShape, Merged.IsMergedRows, Private.Adding.HasMerged, Private.Adding.empty_total};
 ghost use Rattle.star_merge_laws.specs.Regrouping.{all_added, added};
 
 use crate::fault::MergeFault;

@@ -1,12 +1,11 @@
 // Groups with equal keys as one.
 
 ghost use Rattle.std.specs.Prelude.{◌≡◌, IfOk, IsPermutation, OnOk, reverse};
-ghost use Rattle.std.specs.List.Sorted.{IsSortedBy};
-ghost use Rattle.std.specs.Ordering.{is_lt};
+ghost use Rattle.std.specs.{List.Sorted.IsSortedBy, Ordering.is_lt};
 ghost use Rattle.star_schema.specs.Order.{value_cmp};
 ghost use Rattle.star_merge_laws.specs.Merging.{merged_totals};
 ghost use Rattle.star_merge.specs.Private.Adding.{AreSums, alone, onto, over_nothing, together};
-ghost use Rattle.star_merge.specs.Private.RowOrder.{row_order};
+ghost use Rattle.star_merge.specs.{Private.RowOrder.row_order};
 
 use crate::fault::{MergeFault, push};
 use crate::group::{Group, compare_groups};

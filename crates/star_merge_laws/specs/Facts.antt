@@ -1,11 +1,7 @@
 -- The facts that decide the refusals of a query: the row count of lineorder and the bounds of columns.
 use Rattle.std.specs.Prelude.{◌≡◌, ◌+◌, ℕ, zero, suc, All, List, [], ◌∷◌, length}
 use Rattle.star_interval.specs.Range.{Range, hull}
-use Rattle.star_schema.specs.declared.column.ColumnId.{ColumnId}
-use Rattle.star_schema.specs.declared.table.TableId.TheVariants.{Lineorder}
-use Rattle.star_schema.specs.Columns.{bounds_in}
-use Rattle.star_schema.specs.Database.{Database, rows_in}
-use Rattle.star_schema.specs.Tables.{Value}
+use Rattle.star_schema.specs.{declared.column.ColumnId.ColumnId, declared.table.TableId.TheVariants.Lineorder, Columns.bounds_in, Database.Database, Database.rows_in, Tables.Value}
 use Rattle.star_merge_laws.specs.Parts.{with_lineorder}
 
 -- the row count of lineorder, and the bounds of each column

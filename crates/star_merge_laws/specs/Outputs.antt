@@ -1,15 +1,12 @@
 -- The output of a query over some rows of lineorder: its report and the numbers of its notes.
-use Rattle.std.specs.Prelude.{◌≡◌, ℕ, List, map}
-use Rattle.std.specs.List.{sum_by}
+use Rattle.std.specs.{Prelude.◌≡◌, Prelude.ℕ, Prelude.List, Prelude.map, List.sum_by}
 use Rattle.star_schema.specs.Database.{Database}
-use Rattle.star_query.specs.Derives.{Means}
-use Rattle.star_query.specs.Tree.{Tree}
+use Rattle.star_query.specs.{Derives.Means, Tree.Tree}
 use Rattle.star_plan.specs.Meaning.{Plan, Row}
 use Rattle.star_program.specs.declared.outcome.Cell.{Cell}
 use Rattle.star_report.specs.Report.{report_text}
 use Rattle.star_compile_laws.specs.Counts.{lookups_of}
-use Rattle.star_merge_laws.specs.Partials.{IsMergedAnswer, IsPartial, Partial, rows_of_partials}
-use Rattle.star_merge_laws.specs.Tables.{tables_with}
+use Rattle.star_merge_laws.specs.{Partials.IsMergedAnswer, Partials.IsPartial, Partials.Partial, Partials.rows_of_partials, Tables.tables_with}
 
 -- rows of lineorder with their partial and the look-ups of its run
 pub record Task : Type 0 where

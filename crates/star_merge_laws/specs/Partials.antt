@@ -1,27 +1,14 @@
 -- Partials: the state of a query over one part of lineorder, and the answer merged from all parts.
 use Rattle.std.specs.Prelude.{◌≡◌, ◌≤◌, All, ℕ, List, [], length, map, pos, true}
-use Rattle.std.specs.List.{flat_map, list_all, sum_by}
-use Rattle.std.specs.Option.{option_map_or}
-use Rattle.star_schema.specs.declared.group.Shape.TheVariants.{Plain}
-use Rattle.star_schema.specs.declared.table.TableId.TheVariants.{Lineorder}
-use Rattle.star_schema.specs.Database.{Database, TableTexts}
-use Rattle.star_schema.specs.Groups.{AreGroups, GroupRow}
-use Rattle.star_schema.specs.Loadable.{database_of}
-use Rattle.star_schema.specs.Order.{AreInOrder, value_cmp}
-use Rattle.star_schema.specs.Tables.{Value, rows_of}
+use Rattle.std.specs.{List.flat_map, List.list_all, List.sum_by, Option.option_map_or}
+use Rattle.star_schema.specs.{declared.group.Shape.TheVariants.Plain, declared.table.TableId.TheVariants.Lineorder, Database.Database, Database.TableTexts, Groups.AreGroups, Groups.GroupRow, Loadable.database_of, Order.AreInOrder, Order.value_cmp, Tables.Value, Tables.rows_of}
 use Rattle.star_query.specs.Tree.{Tree}
 use Rattle.star_interval.specs.Range.{only}
-use Rattle.star_plan.specs.Fits.{measure_fits}
 use Rattle.star_plan.specs.Meaning.{Plan, Row, aggregate_of, entry_of, plan_rows}
-use Rattle.star_plan.specs.Names.{column_at}
-use Rattle.star_merge_laws.specs.Facts.{AreFactsOf, Facts}
-use Rattle.star_merge_laws.specs.Merging.{AreMerged}
-use Rattle.star_merge_laws.specs.Parts.{LineorderPart, IsLoadablePart, with_lineorder}
-use Rattle.star_program.specs.declared.outcome.Cell.{Cell}
-use Rattle.star_program.specs.RowCells.{cell_of}
-use Rattle.star_query_meaning.specs.Rows.{measures_of, query_entry, selected}
-use Rattle.star_query_meaning.specs.Shows.{item_columns, item_names, sorts_of}
-use Rattle.star_merge_laws.specs.Tables.{tables_with}
+use Rattle.star_plan.specs.{Fits.measure_fits, Names.column_at}
+use Rattle.star_merge_laws.specs.{Facts.AreFactsOf, Facts.Facts, Merging.AreMerged, Parts.LineorderPart, Parts.IsLoadablePart, Parts.with_lineorder, Tables.tables_with}
+use Rattle.star_program.specs.{declared.outcome.Cell.Cell, RowCells.cell_of}
+use Rattle.star_query_meaning.specs.{Rows.measures_of, Rows.query_entry, Rows.selected, Shows.item_columns, Shows.item_names, Shows.sorts_of}
 
 -- a partial: the facts of the tables, the number of selected rows, and their plain groups in the
 -- order of their keys

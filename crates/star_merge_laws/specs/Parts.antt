@@ -1,13 +1,7 @@
 -- Tables whose lineorder is in parts, each with the same dimensions.
 use Rattle.std.specs.Prelude.{◌≡◌, ◌||◌, ℕ, ℤ, All, AllPairs, Bool, true, List, [], Option, Some, None}
-use Rattle.std.specs.Cmp.Lexicographic.{slice_cmp}
-use Rattle.std.specs.List.{flat_map}
-use Rattle.std.specs.Ordering.{int_cmp, is_le, is_lt}
-use Rattle.std.specs.declared.cmp.Ordering.{Ordering}
-use Rattle.star_schema.specs.declared.table.TableId.TheVariants.{Lineorder}
-use Rattle.star_schema.specs.Database.{Database, TableTexts}
-use Rattle.star_schema.specs.Loadable.{IsLoadable, keys_of}
-use Rattle.star_schema.specs.Tables.{Value, rows_of}
+use Rattle.std.specs.{Cmp.Lexicographic.slice_cmp, List.flat_map, Ordering.int_cmp, Ordering.is_le, Ordering.is_lt, declared.cmp.Ordering.Ordering}
+use Rattle.star_schema.specs.{declared.table.TableId.TheVariants.Lineorder, Database.Database, Database.TableTexts, Loadable.IsLoadable, Loadable.keys_of, Tables.Value, Tables.rows_of}
 
 -- the rows of five tables, with these of lineorder
 abbrev pub with_lineorder : Database → List (List Value) → Database

@@ -1,8 +1,6 @@
 -- The plan of a partial: the plain groups, with all keys and all aggregates.
 use Rattle.std.specs.Prelude.{ℕ, ◌+◌, List, [], ◌∷◌, ◌++◌}
-use Rattle.star_schema.specs.declared.group.GroupColumn.{GroupColumn}
-use Rattle.star_schema.specs.declared.group.GroupColumn.TheVariants.{Aggregate, Key}
-use Rattle.star_schema.specs.declared.group.Shape.TheVariants.{Plain}
+use Rattle.star_schema.specs.{declared.group.GroupColumn.GroupColumn, declared.group.GroupColumn.TheVariants.Aggregate, declared.group.GroupColumn.TheVariants.Key, declared.group.Shape.TheVariants.Plain}
 use Rattle.star_plan.specs.Meaning.{Plan}
 
 -- a column for each element of a list, with numbers from `place` on

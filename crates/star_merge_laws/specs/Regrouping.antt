@@ -1,13 +1,7 @@
 -- How groups are merged: each adds its totals to every group that it is a part of.
 use Rattle.std.specs.Prelude.{◌≡◌, ◌⊎◌, ℕ, IsTrue, Bool, List, Contains, Option, None, filter, map, replicate}
-use Rattle.std.specs.Cmp.Lexicographic.{slice_cmp}
-use Rattle.std.specs.List.{flat_map}
-use Rattle.std.specs.Ordering.{is_eq}
-use Rattle.std.specs.declared.cmp.Ordering.{Ordering}
-use Rattle.star_schema.specs.declared.group.Aggregate.{Aggregate}
-use Rattle.star_schema.specs.declared.group.Shape.{Shape}
-use Rattle.star_schema.specs.Groups.{GroupRow, is_grouping}
-use Rattle.star_schema.specs.Order.{key_cmp}
+use Rattle.std.specs.{Cmp.Lexicographic.slice_cmp, List.flat_map, Ordering.is_eq, declared.cmp.Ordering.Ordering}
+use Rattle.star_schema.specs.{declared.group.Aggregate.Aggregate, declared.group.Shape.Shape, Groups.GroupRow, Groups.is_grouping, Order.key_cmp}
 use Rattle.star_merge_laws.specs.Merging.{as_row, total_over}
 use Rattle.star_program.specs.Puts.{masks}
 

@@ -1,6 +1,5 @@
 -- Tables with other rows of lineorder.
-use Rattle.std.specs.Prelude.{List}
-use Rattle.std.specs.List.{flat_map}
+use Rattle.std.specs.{Prelude.List, List.flat_map}
 use Rattle.star_schema.specs.Database.{Database, rows_in}
 use Rattle.star_plan.specs.Meaning.{Row, Tables}
 use Rattle.star_merge_laws.specs.Parts.{with_lineorder}

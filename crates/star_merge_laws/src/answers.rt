@@ -1,36 +1,17 @@
 //! Laws of merged answers.
 
 ghost use Rattle.std.specs.Prelude.{◌≡◌, ◌≤◌, ◌↔◌, ◌++◌, All, ℕ, List, ◌∷◌, length, map};
-ghost use Rattle.std.specs.List.{flat_map, sum_by};
-ghost use Rattle.std.specs.List.Sorted.{IsPermutation};
-ghost use Rattle.star_schema.specs.declared.group.Aggregate.{Aggregate};
-ghost use Rattle.star_schema.specs.declared.group.Shape.{Shape};
-ghost use Rattle.star_schema.specs.Columns.{bounds_in};
-ghost use Rattle.star_schema.specs.Database.{Database, TableTexts};
-ghost use Rattle.star_schema.specs.Groups.{GroupRow};
-ghost use Rattle.star_schema.specs.Loadable.{IsLoadable, database_of};
-ghost use Rattle.star_schema.specs.Order.{value_cmp};
-ghost use Rattle.star_schema.specs.Tables.{Value};
-ghost use Rattle.star_query.specs.Derives.{Means};
-ghost use Rattle.star_query.specs.Tree.{Tree};
+ghost use Rattle.std.specs.{List.flat_map, List.sum_by, List.Sorted.IsPermutation};
+ghost use Rattle.star_schema.specs.{declared.group.Aggregate.Aggregate, declared.group.Shape.Shape, Columns.bounds_in, Database.Database, Database.TableTexts, Groups.GroupRow, Loadable.IsLoadable, Loadable.database_of, Order.value_cmp, Tables.Value};
+ghost use Rattle.star_query.specs.{Derives.Means, Tree.Tree};
 ghost use Rattle.star_plan.specs.Meaning.{Joined, Plan, Row, joined_rows, plan_rows};
-ghost use Rattle.star_plan.specs.Resolved.{IsResolved};
-ghost use Rattle.star_plan.specs.Sound.{IsSoundPlan};
-ghost use Rattle.star_plan.specs.WellNamed.{IsWellNamed};
-ghost use Rattle.star_merge_laws.specs.Facts.{AreFactsOf, Facts};
-ghost use Rattle.star_merge_laws.specs.Merging.{AreMerged, total_over};
+ghost use Rattle.star_plan.specs.{Resolved.IsResolved, Sound.IsSoundPlan, WellNamed.IsWellNamed};
 ghost use Rattle.star_merge_laws.specs.Parts.{LineorderPart, AreDisjoint, whole_text, with_lineorder, with_lineorder_text};
+ghost use Rattle.star_merge_laws.specs.Partials.{AreShards, FitsFacts, IsMergedAnswer, IsPartial, IsPlainAnswer, IsTextShard, Partial, Shard, TextShard, shard_partials, shard_rows, text_partials, text_parts, rows_of_partials};
+ghost use Rattle.star_merge_laws.specs.{Facts.AreFactsOf, Facts.Facts, Merging.AreMerged, Merging.total_over, Plain.plain_plan, Regrouping.AreAddedUp, Spans.AreInSequence, Spans.spans_of, Tables.all_of, Tables.tables_with};
 ghost use Rattle.star_program.specs.declared.outcome.Cell.{Cell};
 ghost use Rattle.star_report.specs.Report.{report_text};
-ghost use Rattle.star_query_meaning.specs.Answers.{IsAnswer};
-ghost use Rattle.star_query_meaning.specs.Fitting.{FitsTables, PlanFitsTables};
-ghost use Rattle.star_query_meaning.specs.Reports.{IsReport};
-ghost use Rattle.star_query_meaning.specs.Rows.{selected};
-ghost use Rattle.star_merge_laws.specs.Partials.{AreShards, FitsFacts, IsMergedAnswer, IsPartial, IsPlainAnswer, IsTextShard, Partial, Shard, TextShard, shard_partials, shard_rows, text_partials, text_parts, rows_of_partials};
-ghost use Rattle.star_merge_laws.specs.Plain.{plain_plan};
-ghost use Rattle.star_merge_laws.specs.Regrouping.{AreAddedUp};
-ghost use Rattle.star_merge_laws.specs.Spans.{AreInSequence, spans_of};
-ghost use Rattle.star_merge_laws.specs.Tables.{all_of, tables_with};
+ghost use Rattle.star_query_meaning.specs.{Answers.IsAnswer, Fitting.FitsTables, Fitting.PlanFitsTables, Reports.IsReport, Rows.selected};
 
 /// The rows that a query selects from all parts are those that it selects from each: by its plan one
 /// part after another, by its own definition in some order.

@@ -1,22 +1,13 @@
 //! Laws of tables whose lineorder is in parts.
 
 ghost use Rattle.std.specs.Prelude.{◌≡◌, ◌≤◌, ◌↔◌, ◌++◌, ℕ, All, List, ◌∷◌, length, map, ◌<◌, Some};
-ghost use Rattle.std.specs.List.{flat_map};
-ghost use Rattle.std.specs.List.Sorted.{IsPermutation};
-ghost use Rattle.star_schema.specs.declared.group.Aggregate.{Aggregate};
-ghost use Rattle.star_schema.specs.declared.group.Shape.{Shape};
-ghost use Rattle.star_schema.specs.Database.{Database, TableTexts};
-ghost use Rattle.star_schema.specs.Groups.{AreGroups, GroupRow};
-ghost use Rattle.star_schema.specs.Loadable.{IsLoadable};
-ghost use Rattle.star_schema.specs.Order.{value_cmp};
-ghost use Rattle.star_schema.specs.Records.{records_in};
-ghost use Rattle.star_schema.specs.Tables.{Value};
+ghost use Rattle.std.specs.{List.flat_map, List.Sorted.IsPermutation};
+ghost use Rattle.star_schema.specs.{declared.group.Aggregate.Aggregate, declared.group.Shape.Shape, Database.Database, Database.TableTexts, Groups.AreGroups, Groups.GroupRow, Loadable.IsLoadable, Order.value_cmp, Records.records_in, Tables.Value};
+ghost use Rattle.star_schema.specs.{declared.table.TableId.TheVariants.Lineorder};
 ghost use Rattle.star_merge_laws.specs.Facts.{AreFactsOf, HaveFacts, Facts, RowsWithFacts, all_facts, joined_facts};
 ghost use Rattle.star_merge_laws.specs.Merging.{AreMerged, IsPart, Part, all_groups, all_rows};
 ghost use Rattle.star_merge_laws.specs.Parts.{LineorderPart, IsLoadablePart, AreDisjoint, whole_text, with_lineorder, with_lineorder_text};
-ghost use Rattle.star_schema.specs.declared.table.TableId.TheVariants.{Lineorder};
-ghost use Rattle.star_catalogue.specs.Load.{load_fault};
-ghost use Rattle.star_catalogue.specs.declared.fault.LoadFault.TheVariants.{TooManyRows};
+ghost use Rattle.star_catalogue.specs.{Load.load_fault, declared.fault.LoadFault.TheVariants.TooManyRows};
 
 /// The groups over the rows of all parts, plain or of a cube or a rollup, are those that are merged
 /// from the plain groups of each part.

@@ -1,35 +1,19 @@
 -- Rows with texts for codes: they are in the order of the codes.
 use Rattle.std.proofs.Common.{◌≡◌, inl, inr, ℕ, zero, suc, List, [], ◌∷◌, Option, Some, None, length, get_or, map, replicate, sym, subst, refl, ◌∙◌}
-use Rattle.std.specs.List.{AllByRecursion, Contains}
-use Rattle.std.specs.Cmp.Lexicographic.{slice_cmp}
-use Rattle.std.specs.Option.{option_map}
-use Rattle.std.specs.Ordering.{ordering_then}
-use Rattle.std.proofs.lemmas.Option.{slice_get-get_or}
-use Rattle.star_schema.specs.Database.{Database}
-use Rattle.star_schema.specs.declared.group.GroupColumn.{GroupColumn}
-use Rattle.star_schema.specs.declared.group.GroupColumn.TheVariants as column
-use Rattle.star_schema.specs.declared.group.Direction.{Direction}
-use Rattle.star_schema.specs.declared.group.Direction.TheVariants.{Ascending, Descending}
-use Rattle.star_schema.specs.declared.group.Shape.{Shape}
-use Rattle.star_schema.specs.declared.group.SortKey.{SortKey}
-use Rattle.star_schema.specs.Groups.{GroupRow as Row, IsGroup, IsMasked}
+use Rattle.std.proofs.{lemmas.Option.slice_get-get_or}
+use Rattle.std.specs.{List.AllByRecursion, List.Contains, Cmp.Lexicographic.slice_cmp, Option.option_map, Ordering.ordering_then}
 use Rattle.star_schema.specs.Order.{AreInOrder, column_cmp, key_cmp, row_cmp, sort_cmp, value_cmp}
-use Rattle.star_schema.proofs.Dictionaries.{IsDictionary-dictionary_of}
-use Rattle.star_schema.proofs.TextPlaces.{nat_cmp-places}
+use Rattle.star_schema.specs.{Database.Database, declared.group.GroupColumn.GroupColumn, declared.group.Direction.Direction, declared.group.Direction.TheVariants.Ascending, declared.group.Direction.TheVariants.Descending, declared.group.Shape.Shape, declared.group.SortKey.SortKey}
+use Rattle.star_schema.specs.{Groups.GroupRow as Row, Groups.IsGroup, Groups.IsMasked, Columns.column_dictionary, Columns.column_texts}
+use Rattle.star_schema.proofs.{Dictionaries.IsDictionary-dictionary_of, TextPlaces.nat_cmp-places}
 use Rattle.star_common.proofs.Members.{at_each}
-use Rattle.star_program.specs.declared.group.GroupDecl.{GroupDecl}
-use Rattle.star_program.specs.declared.group.GroupKey.{GroupKey}
-use Rattle.star_program.specs.declared.group.GroupKey.TheVariants as declared
-use Rattle.star_program.specs.declared.key.KeyValue.{KeyValue}
-use Rattle.star_program.specs.declared.key.KeyValue.TheVariants.{Number, Code}
-use Rattle.star_program.specs.Keys as by_code
-use Rattle.star_program.specs.Outcome.{decoded, decoded_keys, decoded_row}
-use Rattle.star_program.specs.Puts.{Update}
-use Rattle.star_outcome.specs.Private.Decoded.{AreDecodable, IsDecodable}
-use Rattle.star_outcome.specs.SoundKeys.{AreSoundKeys, IsSoundKey}
+use Rattle.star_program.specs.{declared.group.GroupDecl.GroupDecl, declared.group.GroupKey.GroupKey, declared.key.KeyValue.KeyValue, declared.key.KeyValue.TheVariants.Number, declared.key.KeyValue.TheVariants.Code, Outcome.decoded, Outcome.decoded_keys, Outcome.decoded_row, Puts.Update}
+use Rattle.star_outcome.specs.{Private.Decoded.AreDecodable, Private.Decoded.IsDecodable, SoundKeys.AreSoundKeys, SoundKeys.IsSoundKey}
 use Rattle.star_world.specs.WorldOf.{world_of}
-use Rattle.star_schema.specs.Columns.{column_dictionary, column_texts}
 use Rattle.star_outcome.proofs.SortedRows.{sorted_mapped}
+use Rattle.star_schema.specs.declared.group.GroupColumn.TheVariants as column
+use Rattle.star_program.specs.declared.group.GroupKey.TheVariants as declared
+use Rattle.star_program.specs.Keys as by_code
 
 -- ---- keys as declared
 

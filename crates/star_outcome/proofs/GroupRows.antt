@@ -1,28 +1,14 @@
 -- The rows of a group: each has its keys, no two have the same, and they agree on what is NULL.
 use Rattle.std.proofs.Common.{◌≡◌, ◌<◌, ⊎_elim, inl, inr, ℕ, zero, suc, ◌+◌, Bool, true, false, true≢false, cond, ℤ, List, [], ◌∷◌, Option, Some, None, length, get_or, map, arith, ap, subst, sym, refl, ◌∙◌}
-use Rattle.std.specs.Prelude.{IsPermutation, replicate}
-use Rattle.std.specs.List.{AllByRecursion, Contains, filter}
-use Rattle.std.specs.Option.{is_some}
-use Rattle.std.specs.declared.cmp.Ordering.{Ordering}
-use Rattle.std.proofs.lemmas.List.{get_or-map, length-map, length-replicate}
-use Rattle.std.proofs.lemmas.List.Sorted.{Contains-permutation, IsPermutation-sym}
-use Rattle.std.proofs.lemmas.Map.Made.{IsDistinct-from_AllPairs}
-use Rattle.std.proofs.lemmas.Option.{slice_get-get_or}
-use Rattle.star_schema.specs.declared.group.Aggregate.{Aggregate}
-use Rattle.star_schema.specs.declared.group.Aggregate.TheVariants.{Sum, Count, Min, Max}
-use Rattle.star_schema.specs.declared.group.Shape.{Shape}
+use Rattle.std.proofs.{lemmas.List.get_or-map, lemmas.List.length-map, lemmas.List.length-replicate, lemmas.List.Sorted.Contains-permutation, lemmas.List.Sorted.IsPermutation-sym, lemmas.Map.Made.IsDistinct-from_AllPairs, lemmas.Option.slice_get-get_or}
+use Rattle.std.specs.{Prelude.IsPermutation, Prelude.replicate, List.AllByRecursion, List.Contains, List.filter, Option.is_some, declared.cmp.Ordering.Ordering}
 use Rattle.star_schema.specs.Groups.{AreGroups, Entry, GroupRow as Row, IsGroup, aggregate, belongs, joined, joined_with, members, totals_from}
+use Rattle.star_schema.specs.{declared.group.Aggregate.Aggregate, declared.group.Aggregate.TheVariants.Sum, declared.group.Aggregate.TheVariants.Count, declared.group.Aggregate.TheVariants.Min, declared.group.Aggregate.TheVariants.Max, declared.group.Shape.Shape}
 use Rattle.star_common.proofs.Members.{at_each, contains_cases, contains_here, contains_mapped, contains_none}
-use Rattle.star_program.specs.declared.key.KeyValue.{KeyValue}
-use Rattle.star_program.specs.Keys.{key_value_cmp}
-use Rattle.star_group.specs.declared.group_row.GroupRow.{GroupRow}
-use Rattle.star_group.specs.Held.{has_puts}
-use Rattle.star_group.specs.StoreRows.{AreRows, row_view}
-use Rattle.star_program.specs.Puts.{Update}
-use Rattle.star_group.specs.Stores.{Group}
+use Rattle.star_program.specs.{declared.key.KeyValue.KeyValue, Keys.key_value_cmp, Puts.Update}
+use Rattle.star_group.specs.{declared.group_row.GroupRow.GroupRow, Held.has_puts, StoreRows.AreRows, StoreRows.row_view, Stores.Group}
 use Rattle.star_group.proofs.GroupKeys.{key_decides, masked_length, own_belongs}
-use Rattle.star_outcome.proofs.RowOrders.{AreAlike}
-use Rattle.star_outcome.proofs.SortedRows.{AreApart, keys_of_row}
+use Rattle.star_outcome.proofs.{RowOrders.AreAlike, SortedRows.AreApart, SortedRows.keys_of_row}
 
 -- ---- apart
 

@@ -1,30 +1,13 @@
 -- The report of a run, from the sorted groups of a store.
 use Rattle.std.proofs.Common.{◌≡◌, arith, ℕ, suc, length, List, [], ◌∷◌, Some, get_or, slice_get, map, ap, sym, subst, refl, ◌∙◌}
+use Rattle.std.proofs.{Math.ListN.get_or-map, lemmas.List.length-map, lemmas.List.Elements.Contains-get_or, lemmas.Simd.map-map}
 use Rattle.std.specs.List.{All, AllByRecursion, Contains}
-use Rattle.std.proofs.Math.ListN.{get_or-map}
-use Rattle.std.proofs.lemmas.List.{length-map}
-use Rattle.std.proofs.lemmas.List.Elements.{Contains-get_or}
-use Rattle.std.proofs.lemmas.Simd.{map-map}
-use Rattle.star_schema.specs.Database.{Database}
-use Rattle.star_schema.specs.declared.group.SortKey.{SortKey}
-use Rattle.star_schema.specs.Groups.{GroupRow as Row}
-use Rattle.star_program.specs.declared.group.GroupDecl.{GroupDecl}
-use Rattle.star_program.specs.declared.group.GroupKey.{GroupKey}
-use Rattle.star_program.specs.declared.outcome.Cell.{Cell}
-use Rattle.star_program.specs.declared.program.Parts.{Parts}
-use Rattle.star_program.specs.declared.key.KeyValue.{KeyValue}
-use Rattle.star_program.specs.Effects.{State}
-use Rattle.star_program.specs.Faults.{group_at}
-use Rattle.star_program.specs.Outcome.{decoded_row, shown_cells}
-use Rattle.star_program.specs.Puts.{Update}
-use Rattle.star_group.specs.declared.group_row.GroupRow.{GroupRow}
-use Rattle.star_group.specs.StoreRows.{AreRows as AreGroupRows, row_at, row_view}
-use Rattle.star_group.specs.Stores.{Group, group_declared}
+use Rattle.star_schema.specs.{Database.Database, declared.group.SortKey.SortKey, Groups.GroupRow as Row}
+use Rattle.star_program.specs.{declared.group.GroupDecl.GroupDecl, declared.group.GroupKey.GroupKey, declared.outcome.Cell.Cell, declared.program.Parts.Parts, declared.key.KeyValue.KeyValue, Effects.State, Faults.group_at, Outcome.decoded_row, Outcome.shown_cells, Puts.Update}
+use Rattle.star_group.specs.{declared.group_row.GroupRow.GroupRow, StoreRows.AreRows as AreGroupRows, StoreRows.row_at, StoreRows.row_view, Stores.Group, Stores.group_declared}
 use Rattle.star_outcome.specs.Private.Decoded.{AreDecodable, AreReported, AreSortedGroups, AreToReport, row_cells}
-use Rattle.star_outcome.specs.Done.{HasDone}
-use Rattle.star_outcome.specs.SoundKeys.{AreSoundKeys}
+use Rattle.star_outcome.specs.{Done.HasDone, SoundKeys.AreSoundKeys, declared.work.Work.Work}
 use Rattle.star_world.specs.WorldOf.{world_of}
-use Rattle.star_outcome.specs.declared.work.Work.{Work}
 use Rattle.star_outcome.proofs.DecodedRows.{decoded_in_order, group_decodable}
 use Rattle.star_common.proofs.Members.{contains_mapped}
 

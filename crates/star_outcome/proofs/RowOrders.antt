@@ -1,32 +1,15 @@
 -- The order of rows is an order, it tells rows with different keys apart, and for the rows of one
 -- group it is that of the report.
 use Rattle.std.proofs.Common.{◌≡◌, ◌<◌, ◌<ℤ◌, ◌+◌, ℕ, ℤ, pos, zero, suc, add-one, true≢false, List, [], ◌∷◌, Option, Some, None, length, drop, arith, ap, get_or, map, sym, subst, refl, ◌∙◌}
-use Rattle.std.specs.Cmp.{IsTotalOrder, int_cmp_is, int_ranks, ranks}
-use Rattle.std.specs.Cmp.Lexicographic.{slice_cmp, options_total}
-use Rattle.std.specs.List.{range_with_len}
-use Rattle.std.specs.Option.{is_some, option_cmp}
-use Rattle.std.specs.Ordering.{MatchOrdering, int_cmp, nat_cmp, ordering_then}
-use Rattle.std.specs.declared.cmp.Ordering.{Ordering}
-use Rattle.std.specs.declared.cmp.Ordering.TheVariants.{Less, Equal, Greater}
-use Rattle.std.specs.Int.Signed.{lt_z_yes}
-use Rattle.std.proofs.Math.Dec.{ltb}
-use Rattle.std.proofs.Math.Seq.{drop-cons}
-use Rattle.std.proofs.lemmas.Bool.{lt-ltb}
 use Rattle.std.proofs.lemmas.Cmp.{back_total, int_cmp_total, nat_cmp_total, on_total, then_total}
-use Rattle.std.proofs.lemmas.Float.{T_from_true}
-use Rattle.std.proofs.lemmas.List.{drop_all}
-use Rattle.star_schema.specs.declared.group.GroupColumn.{GroupColumn}
-use Rattle.star_schema.specs.declared.group.GroupColumn.TheVariants as column
-use Rattle.star_schema.specs.declared.group.Direction.{Direction}
-use Rattle.star_schema.specs.declared.group.Direction.TheVariants.{Ascending, Descending}
-use Rattle.star_schema.specs.declared.group.SortKey.{SortKey}
-use Rattle.star_schema.specs.Groups.{GroupRow as Row}
-use Rattle.star_schema.specs.Order as report
-use Rattle.star_schema.specs.Order.{key_cmp}
-use Rattle.star_program.specs.declared.key.KeyValue.{KeyValue}
-use Rattle.star_program.specs.declared.key.KeyValue.TheVariants.{Number, Code}
-use Rattle.star_program.specs.Keys.{key_value_cmp}
+use Rattle.std.proofs.{Math.Dec.ltb, Math.Seq.drop-cons, lemmas.Bool.lt-ltb, lemmas.Float.T_from_true, lemmas.List.drop_all}
+use Rattle.std.specs.{Cmp.IsTotalOrder, Cmp.int_cmp_is, Cmp.int_ranks, Cmp.ranks, Cmp.Lexicographic.slice_cmp, Cmp.Lexicographic.options_total, List.range_with_len, Option.is_some, Option.option_cmp, Ordering.MatchOrdering, Ordering.int_cmp, Ordering.nat_cmp, Ordering.ordering_then}
+use Rattle.std.specs.{declared.cmp.Ordering.Ordering, declared.cmp.Ordering.TheVariants.Less, declared.cmp.Ordering.TheVariants.Equal, declared.cmp.Ordering.TheVariants.Greater, Int.Signed.lt_z_yes}
+use Rattle.star_schema.specs.{declared.group.GroupColumn.GroupColumn, declared.group.Direction.Direction, declared.group.Direction.TheVariants.Ascending, declared.group.Direction.TheVariants.Descending, declared.group.SortKey.SortKey, Groups.GroupRow as Row, Order.key_cmp}
+use Rattle.star_program.specs.{declared.key.KeyValue.KeyValue, declared.key.KeyValue.TheVariants.Number, declared.key.KeyValue.TheVariants.Code, Keys.key_value_cmp}
 use Rattle.star_outcome.specs.Private.RowOrder.{all_sorts, column_order, directed_order, key_sort, row_order, sort_order}
+use Rattle.star_schema.specs.declared.group.GroupColumn.TheVariants as column
+use Rattle.star_schema.specs.Order as report
 
 -- ---- an order
 

@@ -1,18 +1,10 @@
 -- What the report names is there.
 use Rattle.std.proofs.Common.{◌≡◌, ◌≤◌, ◌+◌, ℕ, length, Bool, true, false, List, [], ◌∷◌, ◌++◌, Option, Some, None, map, refl}
-use Rattle.std.specs.Prelude.{nat_lt, if◌then◌else◌}
-use Rattle.std.specs.List.{All, AllByRecursion}
-use Rattle.std.proofs.lemmas.Bool.{and_parts}
-use Rattle.std.proofs.lemmas.Bool.Decides.{Decides-ltb}
-use Rattle.std.proofs.lemmas.List.Elements.{All-from_recursion}
-use Rattle.star_schema.specs.declared.group.GroupColumn.{GroupColumn}
-use Rattle.star_schema.specs.declared.group.Shape.TheVariants.{Plain}
-use Rattle.star_program.specs.Limits.{IsWithinLimits}
-use Rattle.star_program.specs.declared.group.GroupDecl.{GroupDecl}
-use Rattle.star_program.specs.declared.program.Parts.{Parts}
-use Rattle.star_program.specs.declared.program.Show.{Show}
-use Rattle.star_program.specs.Faults.{group_at}
+use Rattle.std.proofs.{lemmas.Bool.and_parts, lemmas.Bool.Decides.Decides-ltb, lemmas.List.Elements.All-from_recursion}
+use Rattle.std.specs.{Prelude.nat_lt, Prelude.if◌then◌else◌, List.All, List.AllByRecursion}
+use Rattle.star_schema.specs.{declared.group.GroupColumn.GroupColumn, declared.group.Shape.TheVariants.Plain}
 use Rattle.star_program.specs.ShowLines.{first_unshown, has_column, named_columns, reports, shown_fault}
+use Rattle.star_program.specs.{Limits.IsWithinLimits, declared.group.GroupDecl.GroupDecl, declared.program.Parts.Parts, declared.program.Show.Show, Faults.group_at}
 
 if_none : (b : Bool) (o : Option ℕ) (line : ℕ) → (if b then o else Some line) ≡ None
     → (b ≡ true) × (o ≡ None)

@@ -2,28 +2,14 @@
 use Rattle.std.proofs.Common.{◌≡◌, ◌+◌, ◌<◌, ℕ, Bool, false, true≢false, List, [], ◌∷◌, Option, length, get_or, map, arith, ap, sym, subst, refl, ◌∙◌}
 use denote.Param.Members.{Mut}
 use denote.Ref.{Bor}
-use Rattle.std.specs.Prelude.{IsPermutation}
-use Rattle.std.specs.Cmp.{IsStrictWeakOrder, IsTotalOrder}
-use Rattle.std.specs.Fn.{Called, ComparesAs}
-use Rattle.std.specs.List.{Contains, IsDistinct}
-use Rattle.std.specs.List.Sorted.{IsSortedBy, IsStrictlySortedBy}
-use Rattle.std.specs.Ordering.{is_lt, ordering_reverse}
-use Rattle.std.specs.declared.cmp.Ordering.{Ordering}
-use Rattle.std.specs.declared.cmp.Ordering.TheVariants.{Less, Equal, Greater}
-use Rattle.std.proofs.lemmas.Cmp.{on_total}
-use Rattle.std.proofs.lemmas.Fn.{always_returns_same}
-use Rattle.std.proofs.lemmas.List.{get_or-map, length-map}
-use Rattle.std.proofs.lemmas.List.Elements.{Contains-get_or}
-use Rattle.std.proofs.lemmas.List.Sorted.{Contains-permutation, IsPermutation-map, IsPermutation-sym, ranks_by}
-use Rattle.std.proofs.lemmas.Map.Keys.{IsDistinct-IsPermutation, apart_from_distinct, sorted_from_all_adjacent}
-use Rattle.star_schema.specs.declared.group.SortKey.{SortKey}
-use Rattle.star_schema.specs.Order.{AreInOrder, row_cmp}
+use Rattle.std.specs.{Prelude.IsPermutation, Cmp.IsStrictWeakOrder, Cmp.IsTotalOrder, Fn.Called, Fn.ComparesAs, List.Contains, List.IsDistinct, List.Sorted.IsSortedBy, List.Sorted.IsStrictlySortedBy, Ordering.is_lt, Ordering.ordering_reverse, declared.cmp.Ordering.Ordering}
+use Rattle.std.specs.{declared.cmp.Ordering.TheVariants.Less, declared.cmp.Ordering.TheVariants.Equal, declared.cmp.Ordering.TheVariants.Greater}
+use Rattle.std.proofs.{lemmas.Cmp.on_total, lemmas.Fn.always_returns_same, lemmas.List.get_or-map, lemmas.List.length-map, lemmas.List.Elements.Contains-get_or, lemmas.List.Sorted.Contains-permutation, lemmas.List.Sorted.IsPermutation-map, lemmas.List.Sorted.IsPermutation-sym}
+use Rattle.std.proofs.{lemmas.List.Sorted.ranks_by, lemmas.Map.Keys.IsDistinct-IsPermutation, lemmas.Map.Keys.apart_from_distinct, lemmas.Map.Keys.sorted_from_all_adjacent}
+use Rattle.star_schema.specs.{declared.group.SortKey.SortKey, Order.AreInOrder, Order.row_cmp}
 use Rattle.star_common.proofs.Members.{at_each, contains_here, contains_later, from_contains_map, of_each}
-use Rattle.star_program.specs.declared.key.KeyValue.{KeyValue}
-use Rattle.star_program.specs.Keys.{key_value_cmp}
-use Rattle.star_group.specs.declared.group_row.GroupRow.{GroupRow}
-use Rattle.star_group.specs.OwnKeys.{key_eq}
-use Rattle.star_group.specs.StoreRows.{row_view}
+use Rattle.star_program.specs.{declared.key.KeyValue.KeyValue, Keys.key_value_cmp}
+use Rattle.star_group.specs.{declared.group_row.GroupRow.GroupRow, OwnKeys.key_eq, StoreRows.row_view}
 use Rattle.star_group.proofs.GroupKeys.{key_decides, key_equiv}
 use Rattle.star_outcome.specs.Private.RowOrder.{all_sorts, row_order}
 use Rattle.star_outcome.proofs.RowOrders.{AreAlike, row_total, rows_level, same_order}

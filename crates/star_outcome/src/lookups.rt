@@ -1,15 +1,13 @@
 //! What a run looks up in the catalogue, in the words of the world that programs see.
 
 ghost use Rattle.std.specs.Prelude.{◌≡◌, ◌<◌, true, length, IfSome};
-ghost use Rattle.star_schema.specs.Database.{rows_in};
-ghost use Rattle.star_schema.specs.Schema as schema;
-ghost use Rattle.star_schema.specs.declared.column.Kind.TheVariants as kind;
-ghost use Rattle.star_program.specs.Effects.{loaded};
-ghost use Rattle.star_program.specs.declared.value.Value.TheVariants.{Place};
-ghost use Rattle.star_program.specs.World as world;
+ghost use Rattle.star_schema.specs.{Database.rows_in, Columns.column_dictionary};
+ghost use Rattle.star_program.specs.{Effects.loaded, declared.value.Value.TheVariants.Place};
 ghost use Rattle.star_outcome.specs.Sound.{IsSoundValue};
 ghost use Rattle.star_world.specs.WorldOf.{world_of};
-ghost use Rattle.star_schema.specs.Columns.{column_dictionary};
+ghost use Rattle.star_schema.specs.Schema as schema;
+ghost use Rattle.star_schema.specs.declared.column.Kind.TheVariants as kind;
+ghost use Rattle.star_program.specs.World as world;
 
 use star_catalogue::Catalogue;
 use star_program::{Edge, Text, Value};

@@ -1,9 +1,7 @@
 // The reported rows of a run: put in order and cut to the show lines.
 
 ghost use Rattle.std.specs.Prelude.{◌≡◌, List, IfOk, None};
-ghost use Rattle.star_program.specs.Limits.{IsWithinLimits};
-ghost use Rattle.star_program.specs.Puts.{Update};
-ghost use Rattle.star_program.specs.ShowLines.{shown_fault};
+ghost use Rattle.star_program.specs.{Limits.IsWithinLimits, Puts.Update, ShowLines.shown_fault};
 ghost use Rattle.star_outcome.specs.Private.Decoded.{AreReported, AreToReport};
 ghost use Rattle.star_world.specs.WorldOf.{world_of};
 

@@ -2,16 +2,10 @@
 
 ghost use Rattle.std.specs.Prelude.{◌≡◌, ◌<◌, ℕ, All, IfOk, List, None, Some, length, slice_get};
 ghost use Rattle.star_schema.specs.Database.{Database};
-ghost use Rattle.star_program.specs.declared.program.Parts.{Parts as Declared};
-ghost use Rattle.star_program.specs.Effects.{State, empty_state};
-ghost use Rattle.star_program.specs.Faults.{group_at};
-ghost use Rattle.star_program.specs.Limits.{IsSmall, IsWithinLimits};
-ghost use Rattle.star_program.specs.Outcome.{IsOutcome};
-ghost use Rattle.star_program.specs.Puts as puts;
-ghost use Rattle.star_program.specs.Puts.{Update};
-ghost use Rattle.star_program.specs.ShowLines.{shown_fault};
+ghost use Rattle.star_program.specs.{declared.program.Parts.Parts as Declared, Effects.State, Effects.empty_state, Faults.group_at, Limits.IsSmall, Limits.IsWithinLimits, Outcome.IsOutcome, Puts.Update, ShowLines.shown_fault};
 ghost use Rattle.star_outcome.specs.Done.{AreStores, HasDone};
 ghost use Rattle.star_world.specs.WorldOf.{world_of};
+ghost use Rattle.star_program.specs.Puts as puts;
 
 use crate::outcome::{names, reported_rows};
 use star_catalogue::Catalogue;

@@ -1,13 +1,10 @@
 -- The text of a partial.
 use Rattle.std.specs.Prelude.{◌++◌, ℕ, List, Option, Some, None, codes, decimal, length}
-use Rattle.std.specs.Fmt.{signed_decimal}
+use Rattle.std.specs.{Fmt.signed_decimal}
 use Rattle.hex.specs.Hex.{encode_lower}
 use Rattle.star_program.specs.declared.outcome.Outcome.{Outcome}
 use Rattle.star_report.specs.Report.{report_text}
-use Rattle.star_partial.specs.declared.partial.Span.{Span}
-use Rattle.star_partial.specs.Contents.{Contents}
-use Rattle.star_partial.specs.Counts.{counts_line}
-use Rattle.star_partial.specs.Listing.{listing_text}
+use Rattle.star_partial.specs.{declared.partial.Span.Span, Contents.Contents, Counts.counts_line, Listing.listing_text}
 
 -- the version of the format, and the length of the query
 unfoldable pub head_text : ℕ → List ℕ

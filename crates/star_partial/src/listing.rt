@@ -1,12 +1,10 @@
 // The listing of five tables.
 
 ghost use Rattle.std.specs.Prelude.{◌≡◌, ◌++◌, IfOk, OnOk, string_bytes};
-ghost use Rattle.std.specs.List.{flat_map};
+ghost use Rattle.std.specs.{List.flat_map};
 ghost use Rattle.star_interval.specs.Interval.{range_of};
-ghost use Rattle.star_schema.specs.Schema.{columns_of, kind_of};
-ghost use Rattle.star_schema.specs.Sizes.{size_of};
-ghost use Rattle.star_partial.specs.Contents.{bounds_at};
-ghost use Rattle.star_partial.specs.Listing.{column_text, listing_text, table_text};
+ghost use Rattle.star_schema.specs.{Schema.columns_of, Schema.kind_of, Sizes.size_of};
+ghost use Rattle.star_partial.specs.{Contents.bounds_at, Listing.column_text, Listing.listing_text, Listing.table_text};
 
 use star_interval::Interval;
 use star_schema::{ColumnId, Kind, Sizes, TABLES, TableId, column_at, kind_of, width};

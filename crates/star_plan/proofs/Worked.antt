@@ -1,16 +1,14 @@
 -- Parts of queries with their names resolved; joins among comparisons; names of aggregates; and the
 -- columns that a query names.
 use Rattle.std.proofs.Common.{◌≡◌, ℕ, List, [], ◌∷◌, true, false, Option, Some, None, map, pos, refl}
-use Rattle.std.specs.Prelude.{◌+◌, codes}
-use Rattle.std.specs.{Fmt.digits}
+use Rattle.std.specs.{Prelude.◌+◌, Prelude.codes, Fmt.digits}
 use Rattle.star_common.proofs.Tables.{Gives, Gives2}
 use Rattle.star_schema.specs.declared.column.ColumnId.TheVariants.{CCustkey, DDatekey, LoCustkey, LoDiscount, LoOrderdate, LoTax}
-use Rattle.star_schema.specs.declared.{column.ColumnId.ColumnId, group.GroupColumn.TheVariants.Key, group.GroupColumn.TheVariants.Aggregate, group.Shape.TheVariants.Plain}
-use Rattle.star_schema.specs.{Schema.column_of, Tables.Number, Tables.Text, Tables.Value}
-use Rattle.star_query.specs.declared.token.{Fold.TheVariants.Max, Fold.TheVariants.Min, Fold.TheVariants.Sum, Relation.TheVariants.Equal}
+use Rattle.star_schema.specs.{declared.column.ColumnId.ColumnId, declared.group.GroupColumn.TheVariants.Key, declared.group.GroupColumn.TheVariants.Aggregate, declared.group.Shape.TheVariants.Plain, Schema.column_of, Tables.Number, Tables.Text, Tables.Value}
 use Rattle.star_query.specs.Tree.{Comparison, Condition, Expression, Item, Name, Test, add, aggregate, and, between, column, compare, comparison, constant, count, fold, mul, not, or, pair, plain, sub, test}
-use Rattle.star_plan.specs.{Joins.Pair, Joins.pairs_of, Joins.where_pairs, Names.column_called, Naming.aggregate_names, Naming.default_name, Naming.function_word, Uses.test_uses, Uses.uses_of, Private.Stages.any_use, Private.Stages.item_column}
-use Rattle.star_plan.specs.Resolved.{conjuncts_of, option_both, resolved_condition, resolved_expression}
+use Rattle.star_query.specs.{declared.token.Fold.TheVariants.Max, declared.token.Fold.TheVariants.Min, declared.token.Fold.TheVariants.Sum, declared.token.Relation.TheVariants.Equal}
+use Rattle.star_plan.specs.{Joins.Pair, Joins.pairs_of, Joins.where_pairs, Names.column_called, Naming.aggregate_names, Naming.default_name, Naming.function_word, Uses.test_uses, Uses.uses_of, Private.Stages.any_use, Private.Stages.item_column, Resolved.conjuncts_of, Resolved.option_both}
+use Rattle.star_plan.specs.{Resolved.resolved_condition, Resolved.resolved_expression}
 
 -- a name, and where it stands
 abbrev called : List ℕ → ℕ → Name

@@ -1,13 +1,12 @@
 -- What is wrong with a query's names, and which fault comes first (this project's profile of SQL).
 use Rattle.std.specs.Prelude.{ℕ, ◌+◌, false, ◌||◌, List, [], ◌∷◌, length, Option, Some, None, if◌then◌else◌}
-use Rattle.std.specs.Option.{is_none, option_map_or, option_or}
-use Rattle.star_schema.specs.declared.table.TableId.TheVariants.{Lineorder}
+use Rattle.std.specs.{Option.is_none, Option.option_map_or, Option.option_or}
+use Rattle.star_schema.specs.{declared.table.TableId.TheVariants.Lineorder, Schema.table_name, Schema.table_of}
 use Rattle.star_common.specs.First.{first_answer}
-use Rattle.star_schema.specs.Schema.{table_name, table_of}
 use Rattle.star_query.specs.Tree.{Item, Name, SortKey, Tree, aggregate, plain}
-use Rattle.star_plan.specs.declared.fault.PlanFault.{PlanFault}
 use Rattle.star_plan.specs.declared.fault.PlanFault.TheVariants.{UnknownName, NoFactTable, TableTwice, TableNotNamed, JoinMissing, JoinTwice, NotAKeyPair, WrongKind, NotGrouped, DuplicateGroup, UnknownOrderKey, DuplicateAlias, NoAggregate}
-use Rattle.star_plan.specs.{First.first_beside, Names.has_name, Names.table_at, Uses.Use, Uses.uses_of, Joins.Pair, Joins.is_joined, Joins.where_pairs, Naming.name_of_aggregate, Naming.aggregate_names, Naming.has_text, Naming.name_place, WellNamed.is_in_from, WellNamed.is_reached}
+use Rattle.star_plan.specs.{declared.fault.PlanFault.PlanFault, First.first_beside, Names.has_name, Names.table_at, Uses.Use, Uses.uses_of, Joins.Pair, Joins.is_joined, Joins.where_pairs, Naming.name_of_aggregate, Naming.aggregate_names, Naming.has_text, Naming.name_place}
+use Rattle.star_plan.specs.{WellNamed.is_in_from, WellNamed.is_reached}
 
 -- ---- the names of FROM
 

@@ -1,11 +1,10 @@
 -- The joins of a query: comparisons of a foreign key with the key that it references.
 use Rattle.std.specs.Prelude.{ℕ, Bool, true, false, ◌&&◌, ◌==◌, List, [], ◌∷◌, ◌++◌, Option, Some, None, if◌then◌else◌}
 use Rattle.std.specs.{List.flat_map, List.list_any, Option.option_or, Option.option_to_list}
-use Rattle.star_schema.specs.declared.{table.TableId.TableId, table.Key.Key, table.Key.TheVariants.One, table.Key.TheVariants.Two, column.ColumnId.ColumnId}
 use Rattle.star_schema.specs.Schema.{index_of, is_table, key_of, references, table_of}
+use Rattle.star_schema.specs.{declared.table.TableId.TableId, declared.table.Key.Key, declared.table.Key.TheVariants.One, declared.table.Key.TheVariants.Two, declared.column.ColumnId.ColumnId}
 use Rattle.star_query.specs.Tree.{Condition, Test, pair, comparison, and, or, not, test}
-use Rattle.star_plan.specs.declared.tree.Join.{Join}
-use Rattle.star_plan.specs.Names.{column_at}
+use Rattle.star_plan.specs.{declared.tree.Join.Join, Names.column_at}
 
 abbrev pub is_lone_key : ColumnId → Key → Bool
 is_lone_key c (One k) = index_of c == index_of k

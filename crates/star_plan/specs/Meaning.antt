@@ -1,16 +1,14 @@
 -- What a resolved query means over the rows of the tables (Star Schema Benchmark, revision 3, section 3; Gray et al. 1997).
 use Rattle.std.specs.Prelude.{ℕ, ℤ, pos, Bool, ◌&&◌, List, [], ◌∷◌, filter, map, slice_index_or, if◌then◌else◌}
-use Rattle.std.specs.List.{flat_map, list_all}
-use Rattle.std.specs.declared.cmp.Ordering.{Ordering}
 use Rattle.std.specs.Ordering.{is_eq, is_ne, is_lt, is_le, is_gt, is_ge}
-use Rattle.star_schema.specs.declared.{table.TableId.TableId, table.TableId.TheVariants.Lineorder, column.ColumnId.ColumnId, group.Shape.Shape, group.Aggregate.Aggregate, group.GroupColumn.GroupColumn, group.SortKey.SortKey}
-use Rattle.star_schema.specs.declared.group.Aggregate.TheVariants as aggregate
+use Rattle.std.specs.{List.flat_map, List.list_all, declared.cmp.Ordering.Ordering}
+use Rattle.star_schema.specs.{declared.table.TableId.TableId, declared.table.TableId.TheVariants.Lineorder, declared.column.ColumnId.ColumnId, declared.group.Shape.Shape, declared.group.Aggregate.Aggregate, declared.group.GroupColumn.GroupColumn, declared.group.SortKey.SortKey}
 use Rattle.star_schema.specs.{Groups.Entry, Order.value_cmp, Schema.is_table, Schema.place_of, Schema.table_of, Tables.Value, Tables.Number, Tables.Text}
-use Rattle.star_query.specs.declared.token.{Relation.Relation, Fold.TheVariants.Sum, Fold.TheVariants.Min, Fold.TheVariants.Max}
-use Rattle.star_query.specs.declared.token.Relation.TheVariants as sign
-use Rattle.star_query.specs.Leaves.{fold_expression, is_so}
 use Rattle.star_query.specs.Tree.{Expression, Comparison, compare, between, Condition, Measure, fold, count}
+use Rattle.star_query.specs.{declared.token.Relation.Relation, declared.token.Fold.TheVariants.Sum, declared.token.Fold.TheVariants.Min, declared.token.Fold.TheVariants.Max, Leaves.fold_expression, Leaves.is_so}
 use Rattle.star_plan.specs.declared.tree.Join.{Join}
+use Rattle.star_schema.specs.declared.group.Aggregate.TheVariants as aggregate
+use Rattle.star_query.specs.declared.token.Relation.TheVariants as sign
 
 -- ---- a query whose names are resolved
 

@@ -1,11 +1,10 @@
 -- A query with its names resolved.
 use Rattle.std.specs.Prelude.{◌≡◌, ℕ, ◌+◌, List, [], ◌∷◌, ◌++◌, Option, Some, None, option_map}
-use Rattle.star_schema.specs.declared.{column.ColumnId.ColumnId, group.GroupColumn.GroupColumn}
-use Rattle.star_schema.specs.declared.group.GroupColumn.TheVariants as group
-use Rattle.star_schema.specs.Tables.{Value}
-use Rattle.star_query.specs.Tree as tree
+use Rattle.star_schema.specs.{declared.column.ColumnId.ColumnId, declared.group.GroupColumn.GroupColumn, Tables.Value}
 use Rattle.star_query.specs.Tree.{Item, Name, Tree, Expression, column, constant, add, sub, mul, Comparison, compare, between, Test, pair, comparison, Condition, or, and, not, test, Measure, fold, count}
 use Rattle.star_plan.specs.{Meaning.RowCondition, Meaning.Plan, Names.column_at, Joins.joins_of, Joins.where_pairs, Naming.aggregate_names, Naming.key_column, Naming.resolved_key}
+use Rattle.star_schema.specs.declared.group.GroupColumn.TheVariants as group
+use Rattle.star_query.specs.Tree as tree
 
 -- both values by an operation, or none where one is missing
 abbrev pub option_both : {A B C : Type 0} → (A → B → C) → Option A → Option B → Option C

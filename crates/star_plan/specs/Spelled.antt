@@ -1,10 +1,9 @@
 -- How the names, numbers and texts of a plan are spelled.
-use Rattle.std.specs.Prelude.{◌≡◌, Bool, true, ◌&&◌}
-use Rattle.std.specs.List.{list_all}
+use Rattle.std.specs.{Prelude.◌≡◌, Prelude.Bool, Prelude.true, Prelude.◌&&◌, List.list_all}
 use Rattle.star_schema.specs.declared.column.ColumnId.{ColumnId}
 use Rattle.star_query.specs.{Leaves.of_operands, Leaves.of_tests, Spelled.comparison_is_spelled, Spelled.is_name, Spelled.has_few_digits, Tree.Expression, Tree.Measure, Tree.fold, Tree.count}
-pub use Rattle.star_query.specs.Spelled.{value_is_spelled}
 use Rattle.star_plan.specs.Meaning.{RowCondition, Plan}
+pub use Rattle.star_query.specs.Spelled.{value_is_spelled}
 
 abbrev pub condition_is_spelled : RowCondition → Bool
 condition_is_spelled c = of_tests (comparison_is_spelled (λ c. true) value_is_spelled) (λ b. b) ◌&&◌ c

@@ -1,12 +1,11 @@
 -- The columns that a query names, from the left.
 use Rattle.std.specs.Prelude.{ℕ, Bool, true, ◌&&◌, List, [], ◌∷◌, ◌++◌, Option, Some, None, map}
-use Rattle.std.specs.List.{flat_map}
-use Rattle.star_schema.specs.declared.column.{ColumnId.ColumnId}
-use Rattle.star_schema.specs.declared.column.Kind.TheVariants as kind
-use Rattle.star_schema.specs.Tables.{kind_of_value}
-use Rattle.star_query.specs.Leaves.{of_operands, of_tests}
+use Rattle.std.specs.{List.flat_map}
+use Rattle.star_schema.specs.{declared.column.ColumnId.ColumnId, Tables.kind_of_value}
 use Rattle.star_query.specs.Tree.{Condition, Expression, Item, Measure, Name, Test, Tree, aggregate, between, compare, comparison, count, fold, pair, plain}
+use Rattle.star_query.specs.{Leaves.of_operands, Leaves.of_tests}
 use Rattle.star_plan.specs.Names.{column_at, is_of}
+use Rattle.star_schema.specs.declared.column.Kind.TheVariants as kind
 
 -- a column where a query names it: the column, if there is one of this name, and whether it is of the kind that is
 -- asked of it there

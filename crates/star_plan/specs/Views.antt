@@ -1,16 +1,14 @@
 -- The trees of plans as the resolved queries that they hold.
 use Rattle.std.specs.Prelude.{ℕ, List, map}
-use Rattle.star_schema.specs.declared.column.ColumnId.{ColumnId}
-use Rattle.star_schema.specs.Tables.{Value}
+use Rattle.star_schema.specs.{declared.column.ColumnId.ColumnId, Tables.Value}
+use Rattle.star_query.specs.Views.{comparison_by, condition_by, expression_by, literal_view, measure_by}
+use Rattle.star_query.specs.{Tree.Comparison, Tree.Expression, Tree.Measure}
+use Rattle.star_plan.specs.{declared.tree.Aggregate.Aggregate, declared.tree.PlanTree.PlanTree, Meaning.RowCondition, Meaning.Plan}
+pub use Rattle.star_query.specs.Views.{literal_view as literal_value_view}
 use Rattle.star_query.specs.declared.tree.Comparison as of_comparison
 use Rattle.star_query.specs.declared.tree.Condition as of_condition
 use Rattle.star_query.specs.declared.tree.Expression as of_expression
 use Rattle.star_query.specs.declared.tree.Measure as of_measure
-pub use Rattle.star_query.specs.Views.{literal_view as literal_value_view}
-use Rattle.star_query.specs.Views.{comparison_by, condition_by, expression_by, literal_view, measure_by}
-use Rattle.star_query.specs.Tree.{Comparison, Expression, Measure}
-use Rattle.star_plan.specs.declared.tree.{Aggregate.Aggregate, PlanTree.PlanTree}
-use Rattle.star_plan.specs.Meaning.{RowCondition, Plan}
 
 abbrev pub comparison_view : of_comparison.Comparison ColumnId → Comparison ColumnId Value
 comparison_view c = comparison_by (λ c. c) literal_view c

@@ -1,8 +1,7 @@
 -- Which queries are well named, condition by condition (this project's profile of SQL).
 use Rattle.std.specs.Prelude.{◌≡◌, ℕ, ◌≤◌, Bool, true, false, ◌||◌, List, length, Option, Some, None, nat_eq}
 use Rattle.std.specs.{List.AllByRecursion, List.IsDistinct, Cmp.Lexicographic.pointwise}
-use Rattle.star_schema.specs.declared.{table.TableId.TableId, table.TableId.TheVariants.Lineorder, column.ColumnId.ColumnId}
-use Rattle.star_schema.specs.Schema.{is_table, table_name, table_of}
+use Rattle.star_schema.specs.{declared.table.TableId.TableId, declared.table.TableId.TheVariants.Lineorder, declared.column.ColumnId.ColumnId, Schema.is_table, Schema.table_name, Schema.table_of}
 use Rattle.star_query.specs.Tree.{Item, Name, Tree, aggregate, plain}
 use Rattle.star_plan.specs.{Names.has_name, Names.table_at, Uses.uses_of, Joins.Pair, Joins.is_joined, Joins.joins_of, Joins.where_pairs, Naming.aggregate_names, Naming.has_text, Sound.are_distinct}
 

@@ -1,16 +1,12 @@
 // The comparisons of two columns in a query's condition.
 
 ghost use Rattle.std.specs.Prelude.{◌≡◌, ◌++◌, OnOk, IfOk, map, option_map};
-ghost use Rattle.std.specs.List.{list_any};
-ghost use Rattle.std.specs.Result.{result_err};
-ghost use Rattle.star_schema.specs.Schema as schema;
+ghost use Rattle.std.specs.{List.list_any, Result.result_err};
 ghost use Rattle.star_common.specs.First.{first_answer};
 ghost use Rattle.star_query.specs.Views.{condition_view, name_view};
-ghost use Rattle.star_plan.specs.First.{first_beside};
+ghost use Rattle.star_plan.specs.{First.first_beside, Faults.missing_fault, Faults.pair_fault, Private.Stages.join_fault, Private.Found.pair_view, Private.Found.pairs_view};
+ghost use Rattle.star_schema.specs.Schema as schema;
 ghost use Rattle.star_plan.specs.Joins as spec;
-ghost use Rattle.star_plan.specs.Faults.{missing_fault, pair_fault};
-ghost use Rattle.star_plan.specs.Private.Stages.{join_fault};
-ghost use Rattle.star_plan.specs.Private.Found.{pair_view, pairs_view};
 
 use crate::fault::PlanFault;
 use crate::names::{column_at, table_at};

@@ -2,13 +2,7 @@
 
 ghost use Rattle.std.specs.Prelude.{◌≡◌, ◌↔◌, None};
 ghost use Rattle.star_query.specs.Tree.{Tree};
-ghost use Rattle.star_plan.specs.Faults.{plan_fault};
-ghost use Rattle.star_plan.specs.Meaning.{Plan};
-ghost use Rattle.star_plan.specs.Limits.{IsPlanWithinLimits};
-ghost use Rattle.star_plan.specs.Planned.{IsPlanned};
-ghost use Rattle.star_plan.specs.Sound.{IsSoundPlan};
-ghost use Rattle.star_plan.specs.Spelled.{IsSpelledPlan};
-ghost use Rattle.star_plan.specs.WellNamed.{IsWellNamed};
+ghost use Rattle.star_plan.specs.{Faults.plan_fault, Meaning.Plan, Limits.IsPlanWithinLimits, Planned.IsPlanned, Sound.IsSoundPlan, Spelled.IsSpelledPlan, WellNamed.IsWellNamed};
 
 /// A query is well named exactly where none of its names is at fault.
 pub fn well_named_queries_have_no_fault()

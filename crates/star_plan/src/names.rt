@@ -1,8 +1,6 @@
 // What the names of a query stand for.
 
-ghost use Rattle.std.specs.Prelude.{◌≡◌, map, nat_eq};
-ghost use Rattle.std.specs.List.{list_any};
-ghost use Rattle.std.specs.Cmp.Lexicographic.{pointwise};
+ghost use Rattle.std.specs.{Prelude.◌≡◌, Prelude.map, Prelude.nat_eq, List.list_any, Cmp.Lexicographic.pointwise};
 ghost use Rattle.star_query.specs.Views.{name_view};
 ghost use Rattle.star_plan.specs.Names as spec;
 

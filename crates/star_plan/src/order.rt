@@ -1,18 +1,11 @@
 // What names of SELECT and ORDER BY stand for among the groups and the aggregates.
 
 ghost use Rattle.std.specs.Prelude.{◌≡◌, ◌<◌, ◌≤◌, IfSome, length, map, nat_eq};
-ghost use Rattle.std.specs.Cmp.Lexicographic.{pointwise};
-ghost use Rattle.std.specs.List.{position};
-ghost use Rattle.std.specs.Option.{option_or};
-ghost use Rattle.std.specs.Result.{result_err};
+ghost use Rattle.std.specs.{Cmp.Lexicographic.pointwise, List.position, Option.option_or, Result.result_err};
 ghost use Rattle.star_common.specs.First.{first_answer};
-ghost use Rattle.star_query.specs.Maxima.{most_columns, most_items};
-ghost use Rattle.star_query.specs.Views.{name_view, sort_key_view};
-ghost use Rattle.star_plan.specs.Faults.{key_fault};
+ghost use Rattle.star_query.specs.{Maxima.most_columns, Maxima.most_items, Views.name_view, Views.sort_key_view};
+ghost use Rattle.star_plan.specs.{Faults.key_fault, Resolved.option_all, Views.names_view, Private.Answers.Resolves, Private.Answers.Tells};
 ghost use Rattle.star_plan.specs.Naming as naming;
-ghost use Rattle.star_plan.specs.Resolved.{option_all};
-ghost use Rattle.star_plan.specs.Views.{names_view};
-ghost use Rattle.star_plan.specs.Private.Answers.{Resolves, Tells};
 
 use crate::fault::PlanFault;
 use crate::tree::Aggregate;

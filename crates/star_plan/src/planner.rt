@@ -2,20 +2,10 @@
 
 ghost use Rattle.std.specs.Prelude.{◌≡◌, ◌≤◌, Some, IfErr, IfOk, length, map};
 ghost use Rattle.star_common.specs.Memory.{UnlessMemory};
-ghost use Rattle.star_query.specs.Maxima.{most_columns, most_items};
-ghost use Rattle.star_query.specs.Views.{name_view, tree_view};
-ghost use Rattle.star_plan.specs.declared.fault.PlanFault.TheVariants.{OutOfMemory};
-ghost use Rattle.star_plan.specs.Private.Answers.{Resolves, Tells};
-ghost use Rattle.star_plan.specs.Private.Found.{pairs_view, uses_view};
-ghost use Rattle.star_plan.specs.Faults.{plan_fault};
-ghost use Rattle.star_plan.specs.Private.Stages.{grouping_fault, naming_fault};
+ghost use Rattle.star_query.specs.{Maxima.most_columns, Maxima.most_items, Views.name_view, Views.tree_view};
+ghost use Rattle.star_plan.specs.{declared.fault.PlanFault.TheVariants.OutOfMemory, Private.Answers.Resolves, Private.Answers.Tells, Private.Found.pairs_view, Private.Found.uses_view, Faults.plan_fault, Private.Stages.grouping_fault, Private.Stages.naming_fault, Joins.where_pairs};
+ghost use Rattle.star_plan.specs.{Naming.aggregate_names, Naming.resolved_key, Uses.uses_of, WellNamed.IsWellNamed, Resolved.IsResolved, Resolved.items_from, Resolved.option_all, Views.names_view, Views.plan_view};
 ghost use Rattle.star_plan.specs.Joins as spec;
-ghost use Rattle.star_plan.specs.Joins.{where_pairs};
-ghost use Rattle.star_plan.specs.Naming.{aggregate_names, resolved_key};
-ghost use Rattle.star_plan.specs.Uses.{uses_of};
-ghost use Rattle.star_plan.specs.WellNamed.{IsWellNamed};
-ghost use Rattle.star_plan.specs.Resolved.{IsResolved, items_from, option_all};
-ghost use Rattle.star_plan.specs.Views.{names_view, plan_view};
 
 use crate::fault::PlanFault;
 use crate::joins::{Pair, check_joins, joins_of, pairs_of};

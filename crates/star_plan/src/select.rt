@@ -1,20 +1,12 @@
 // The tables of FROM, the groups and the items of a query.
 
 ghost use Rattle.std.specs.Prelude.{◌≡◌, ◌+◌, ◌<◌, ◌≤◌, ◌||◌, [], get_or, length, map, nat_eq, take};
-ghost use Rattle.std.specs.List.{list_any};
-ghost use Rattle.std.specs.Cmp.Lexicographic.{pointwise};
-ghost use Rattle.std.specs.Result.{result_err};
-ghost use Rattle.star_query.specs.Limits.{aggregates_in};
-ghost use Rattle.star_query.specs.Maxima.{most_columns, most_items};
-ghost use Rattle.star_query.specs.Views.{aggregate_view, item_view, name_view};
-ghost use Rattle.star_plan.specs.First.{first_beside};
-ghost use Rattle.star_plan.specs.Names.{has_name};
+ghost use Rattle.std.specs.{List.list_any, Cmp.Lexicographic.pointwise, Result.result_err};
+ghost use Rattle.star_query.specs.{Limits.aggregates_in, Maxima.most_columns, Maxima.most_items, Views.aggregate_view, Views.item_view, Views.name_view};
+ghost use Rattle.star_plan.specs.{First.first_beside, Names.has_name, Resolved.items_from, Views.names_view, Private.Answers.IsNamedAt, Private.Answers.Resolves, Private.Answers.Tells};
 ghost use Rattle.star_plan.specs.Naming as spec;
 ghost use Rattle.star_plan.specs.Faults as faults;
 ghost use Rattle.star_plan.specs.Private.Stages as stages;
-ghost use Rattle.star_plan.specs.Resolved.{items_from};
-ghost use Rattle.star_plan.specs.Views.{names_view};
-ghost use Rattle.star_plan.specs.Private.Answers.{IsNamedAt, Resolves, Tells};
 
 use crate::fault::PlanFault;
 use crate::names::{has_name, table_at};

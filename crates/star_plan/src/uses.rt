@@ -1,14 +1,13 @@
 // The columns that a query names, from the left.
 
 ghost use Rattle.std.specs.Prelude.{◌≡◌, ◌++◌, OnOk, IfOk, map};
-ghost use Rattle.std.specs.Result.{result_err};
+ghost use Rattle.std.specs.{Result.result_err};
 ghost use Rattle.star_common.specs.First.{first_answer};
 ghost use Rattle.star_query.specs.Views.{condition_view, expression_view, item_view, literal_view, measure_view, name_view, test_view, tree_view};
-ghost use Rattle.star_plan.specs.Private.Stages as stages;
 ghost use Rattle.star_schema.specs.Tables.{kind_of_value};
+ghost use Rattle.star_plan.specs.{Faults.use_kind_fault, Faults.scope_fault, Private.Found.use_view, Private.Found.uses_view};
+ghost use Rattle.star_plan.specs.Private.Stages as stages;
 ghost use Rattle.star_plan.specs.Uses as spec;
-ghost use Rattle.star_plan.specs.Faults.{use_kind_fault, scope_fault};
-ghost use Rattle.star_plan.specs.Private.Found.{use_view, uses_view};
 
 use crate::fault::PlanFault;
 use crate::names::{column_at, has_name, is_of};

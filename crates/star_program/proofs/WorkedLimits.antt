@@ -1,20 +1,19 @@
 -- The limits of programs; how keys compare; what cells and codes say; and worlds that are loaded.
 use Rattle.std.proofs.Common.{◌≡◌, ◌↔◌, ◌<◌, ◌≤◌, ℕ, List, [], ◌∷◌, Option, Some, None, true, false, length, pos, negsuc, refl}
-use Rattle.std.specs.{Prelude.All, Prelude.codes, Borrow.Bor}
-use Rattle.std.specs.declared.cmp.Ordering.TheVariants.{Less, Equal, Greater}
+use Rattle.std.specs.{Prelude.All, Prelude.codes, Borrow.Bor, declared.cmp.Ordering.TheVariants.Less, declared.cmp.Ordering.TheVariants.Equal, declared.cmp.Ordering.TheVariants.Greater}
 use Rattle.star_common.proofs.Tables.{Gives, Gives2}
-use Rattle.star_schema.specs.declared.{column.ColumnId.ColumnId, column.ColumnId.TheVariants.CRegion, group.Aggregate.TheVariants.Count, group.Aggregate.TheVariants.Max, group.Aggregate.TheVariants.Sum, table.TableId.TableId, table.TableId.TheVariants.Customer, table.TableId.TheVariants.Date}
-use Rattle.star_schema.specs.{Schema.references, Schema.table_of, Tables.Number, Tables.Text}
+use Rattle.star_schema.specs.{declared.column.ColumnId.ColumnId, declared.column.ColumnId.TheVariants.CRegion, declared.group.Aggregate.TheVariants.Count, declared.group.Aggregate.TheVariants.Max, declared.group.Aggregate.TheVariants.Sum, declared.table.TableId.TableId}
+use Rattle.star_schema.specs.{declared.table.TableId.TheVariants.Customer, declared.table.TableId.TheVariants.Date, Schema.references, Schema.table_of, Tables.Number, Tables.Text}
 use Rattle.star_interval.specs.Range.{Holds, is_i64, is_i128}
-use Rattle.star_program.specs.declared.{group.GroupDecl.GroupDecl, op.Edge.Edge, program.Parts.Parts}
+use Rattle.star_program.specs.World.{IsLoaded, IsRowNumberOf, World, edge_of, is_text}
+use Rattle.star_program.specs.{declared.group.GroupDecl.GroupDecl, declared.op.Edge.Edge, declared.program.Parts.Parts, CellViews.cell_viewed, Code.code_size, Code.scan_depth, Faults.is_row_of, Keys.key_value_cmp, Limits.IsSmall, Limits.IsWithinLimits, Outcome.decoded}
+use Rattle.star_program.specs.{Outcome.decoded_keys, Puts.leaves}
+use Rattle.star_program.proofs.Sample.{sample}
 use Rattle.star_program.specs.declared.group.GroupKey.TheVariants as declared
 use Rattle.star_program.specs.declared.key.KeyValue.TheVariants as key
 use Rattle.star_program.specs.declared.outcome.Cell.TheVariants as cell
 use Rattle.star_program.specs.declared.outcome.CellView.TheVariants as lent
 use Rattle.star_program.specs.declared.value.Kind.TheVariants as kind
-use Rattle.star_program.specs.{CellViews.cell_viewed, Code.code_size, Code.scan_depth, Faults.is_row_of, Keys.key_value_cmp, Limits.IsSmall, Limits.IsWithinLimits, Outcome.decoded, Outcome.decoded_keys, Puts.leaves}
-use Rattle.star_program.specs.World.{IsLoaded, IsRowNumberOf, World, edge_of, is_text}
-use Rattle.star_program.proofs.Sample.{sample}
 
 -- ---- limits, and worlds that are loaded: a column's bounds hold its numbers, and each code is less
 -- than how many texts there are

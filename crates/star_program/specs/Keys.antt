@@ -1,8 +1,6 @@
 -- The values of keys and their order.
-use Rattle.std.specs.Prelude.{Bool, false, nat_eq, List}
-use Rattle.std.specs.{Ordering.int_cmp, Ordering.int_eq, Ordering.nat_cmp, Cmp.Lexicographic.pointwise}
-use Rattle.std.specs.declared.cmp.Ordering.{Ordering, TheVariants.Less, TheVariants.Greater}
-use Rattle.star_program.specs.declared.key.KeyValue.{KeyValue, TheVariants.Number, TheVariants.Code}
+use Rattle.std.specs.{Prelude.Bool, Prelude.false, Prelude.nat_eq, Prelude.List, Ordering.int_cmp, Ordering.int_eq, Ordering.nat_cmp, Cmp.Lexicographic.pointwise, declared.cmp.Ordering.Ordering, declared.cmp.Ordering.TheVariants.Less, declared.cmp.Ordering.TheVariants.Greater}
+use Rattle.star_program.specs.{declared.key.KeyValue.KeyValue, declared.key.KeyValue.TheVariants.Number, declared.key.KeyValue.TheVariants.Code}
 
 -- by value or by code; the keys of one column all have one kind
 abbrev pub key_value_cmp : KeyValue → KeyValue → Ordering

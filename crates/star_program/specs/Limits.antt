@@ -1,7 +1,6 @@
 -- The limits of a program.
 use Rattle.std.specs.Prelude.{◌≤◌, All, length}
-use Rattle.star_program.specs.Code.{code_size, scan_depth}
-use Rattle.star_program.specs.declared.{group.GroupDecl.GroupDecl, program.Parts.Parts}
+use Rattle.star_program.specs.{Code.code_size, Code.scan_depth, declared.group.GroupDecl.GroupDecl, declared.program.Parts.Parts}
 
 -- a group has at most 6 keys and 8 aggregates
 pub record IsSmall (group : GroupDecl) : Type 0 where

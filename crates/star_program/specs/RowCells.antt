@@ -1,9 +1,8 @@
 -- The cells of a group's row, of a program or of a query.
 use Rattle.std.specs.Prelude.{ℤ, slice_index_or, Option, Some, None}
-use Rattle.star_schema.specs.declared.group.GroupColumn.{GroupColumn}
-use Rattle.star_schema.specs.declared.group.GroupColumn.TheVariants as column
-use Rattle.star_schema.specs.{Groups.GroupRow, Tables.Value, Tables.Number, Tables.Text}
+use Rattle.star_schema.specs.{declared.group.GroupColumn.GroupColumn, Groups.GroupRow, Tables.Value, Tables.Number, Tables.Text}
 use Rattle.star_program.specs.declared.outcome.Cell.{Cell}
+use Rattle.star_schema.specs.declared.group.GroupColumn.TheVariants as column
 use Rattle.star_program.specs.declared.outcome.Cell.TheVariants as cell
 
 -- a hidden key is ALL

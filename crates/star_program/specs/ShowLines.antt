@@ -1,8 +1,7 @@
 -- The columns that a report names.
 use Rattle.std.specs.Prelude.{ℕ, ◌+◌, Bool, ◌&&◌, nat_lt, List, [], ◌∷◌, ◌++◌, length, map, Option, Some, None, if◌then◌else◌}
-use Rattle.star_schema.specs.declared.group.GroupColumn.{GroupColumn, TheVariants.Key, TheVariants.Aggregate}
-use Rattle.star_program.specs.declared.{group.GroupDecl.GroupDecl, program.Parts.Parts}
-use Rattle.star_program.specs.Faults.{group_at}
+use Rattle.star_schema.specs.{declared.group.GroupColumn.GroupColumn, declared.group.GroupColumn.TheVariants.Key, declared.group.GroupColumn.TheVariants.Aggregate}
+use Rattle.star_program.specs.{declared.group.GroupDecl.GroupDecl, declared.program.Parts.Parts, Faults.group_at}
 
 -- the group has the column
 abbrev pub has_column : GroupDecl → GroupColumn → Bool

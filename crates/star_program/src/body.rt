@@ -1,9 +1,7 @@
 // The body of a program: steps in order, some of them scans with a body of their own.
 
 ghost use Rattle.std.specs.Prelude.{◌≡◌, ◌≤◌, ◌<◌, ◌+◌, ◌↔◌, IsTrue, IfSome, IfNone, OnOk};
-ghost use Rattle.star_program.specs.Code.{code_size, scan_depth};
-ghost use Rattle.star_program.specs.CodeOfSteps.{code_of_steps};
-ghost use Rattle.star_program.specs.Private.Followed.{code_of_step, followed};
+ghost use Rattle.star_program.specs.{Code.code_size, Code.scan_depth, CodeOfSteps.code_of_steps, Private.Followed.code_of_step, Private.Followed.followed};
 
 use crate::op::Op;
 use star_schema::TableId;

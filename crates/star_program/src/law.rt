@@ -1,9 +1,7 @@
 //! Laws about the meaning of programs: functions with empty bodies, whose clauses are the laws.
 
 ghost use Rattle.std.specs.Prelude.{◌↔◌, IsTrue, List};
-ghost use Rattle.star_program.specs.declared.group.GroupDecl.{GroupDecl};
-ghost use Rattle.star_program.specs.Overflow.{LeavesSomewhere};
-ghost use Rattle.star_program.specs.Puts.{Update, overflows};
+ghost use Rattle.star_program.specs.{declared.group.GroupDecl.GroupDecl, Overflow.LeavesSomewhere, Puts.Update, Puts.overflows};
 
 /// States that an update overflows exactly if with it a SUM over one of its groups, or over all
 /// updates, leaves 128 bits, or a COUNT leaves 64 bits.

@@ -1,8 +1,7 @@
 // The outcome of a run: named columns, rows of cells, and counts.
 
 ghost use Rattle.std.specs.Prelude.{◌≡◌, IfOk};
-ghost use Rattle.star_program.specs.CellViews.{cell_viewed};
-ghost use Rattle.star_program.specs.Private.Kept.{cell_view};
+ghost use Rattle.star_program.specs.{CellViews.cell_viewed, Private.Kept.cell_view};
 
 use crate::cell_rows::CellRows;
 use crate::op::Text;

@@ -1,12 +1,7 @@
 // Programs and their parts.
 
 ghost use Rattle.std.specs.Prelude.{◌≡◌, ◌≤◌, ◌<◌, ◌↔◌, All, length, IsSome, IfErr, IfNone, IfOk, IfSome, IsTrue};
-ghost use Rattle.star_program.specs.Text.Written.{program_text};
-ghost use Rattle.star_program.specs.Faults.{group_at};
-ghost use Rattle.star_program.specs.Limits.{IsSmall, IsWithinLimits};
-ghost use Rattle.star_program.specs.Text.Spellable.{IsSpellable};
-ghost use Rattle.star_program.specs.Text.FirstFaults.{IsFirstTextFault};
-ghost use Rattle.star_program.specs.Text.Spelling.{IsRead, Spells};
+ghost use Rattle.star_program.specs.{Text.Written.program_text, Faults.group_at, Limits.IsSmall, Limits.IsWithinLimits, Text.Spellable.IsSpellable, Text.FirstFaults.IsFirstTextFault, Text.Spelling.IsRead, Text.Spelling.Spells};
 
 use crate::body::Body;
 use crate::group::GroupDecl;

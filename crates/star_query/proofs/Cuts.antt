@@ -1,21 +1,19 @@
 -- The cut of a text by the function is its tokens, up to what stops it.
 use Rattle.std.proofs.Common.{◌≡◌, ◌∙◌, ◌↔◌, refl, sym, ap, subst, ℕ, zero, suc, ◌+◌, ◌<◌, ◌≤◌, ◌⊎◌, inl, inr, Bool, true, false, List, [], ◌∷◌, ◌++◌, length, take, drop, arith, Option, Some, None, Result, Ok, Err, length-append, append-nil}
-use Rattle.std.specs.Prelude.{◌≢◌, ◌==◌, ◌||◌, ◌&&◌, nat_lt, Contains, if◌then◌else◌, nat_le}
-use Rattle.std.specs.{Char.is_ascii_digit, Str.Parse.digits_value}
-use Rattle.std.specs.List.{flat_map, list_all, prefix_len}
-use Rattle.std.proofs.{Math.Seq.take-append_seam, Math.Seq.drop-append_seam}
 use Rattle.std.proofs.lemmas.Bool.{and_parts, eqb-true, leb-true, ltb-true, or_from, or_parts}
+use Rattle.std.proofs.{Math.Seq.take-append_seam, Math.Seq.drop-append_seam}
+use Rattle.std.specs.Prelude.{◌≢◌, ◌==◌, ◌||◌, ◌&&◌, nat_lt, Contains, if◌then◌else◌, nat_le}
+use Rattle.std.specs.{Char.is_ascii_digit, Str.Parse.digits_value, List.flat_map, List.list_all, List.prefix_len}
 use Rattle.star_common.proofs.NumeralLemmas.{digit_bounds}
 use Rattle.star_common.specs.{Numerals.is_numeral, Numerals.numeral_of, Quotes.doubled, Quotes.quoted, Printable.is_printable, WhiteSpace.is_blank}
-use Rattle.star_query.specs.declared.{token.Word.Word, fault.QueryFault.QueryFault, fault.QueryFault.TheVariants.BadNumber}
-use Rattle.star_query.specs.declared.token.Relation.TheVariants as r
-use Rattle.star_query.specs.{Maxima.most_digits, Private.Lexed.front_piece, Private.Lexed.with_tokens}
 use Rattle.star_query.specs.Symbols.{Symbol, Placed, relation, name, number, text, spelling, lowered}
 use Rattle.star_query.specs.Private.Cut.{Piece, blank, token, bad, put_in_front, reserved, word_of, word_piece, number_piece, piece_at, cut_from, cut_of}
 use Rattle.star_query.specs.Tokens.{is_letter, is_word_byte, begins_with_letter, is_word, signs, IsToken, a_word, a_name, a_number, a_text, a_sign, continues, is_whole, AreTokens, no_more, white_space, a_token, Stops, bad_number, open_text, bad_byte, stray, IsStopped}
-use Rattle.star_query.proofs.{Counting.by_bool, Reserved.spelled_alone, Lexing.cut_bad, Lexing.cut_blank, Lexing.cut_token, Lexing.number_followed, Lexing.number_long}
+use Rattle.star_query.specs.{declared.token.Word.Word, declared.fault.QueryFault.QueryFault, declared.fault.QueryFault.TheVariants.BadNumber, Maxima.most_digits, Private.Lexed.front_piece, Private.Lexed.with_tokens}
+use Rattle.star_query.proofs.Lexing.{cut_bad, cut_blank, cut_token, number_followed, number_long}
 use Rattle.star_query.proofs.Pieces.{Found, each_sign, ends, over_text, piece_found, quoted_front, word_goes_on}
-use Rattle.star_query.proofs.Quotes.{read_closed, read_open, read_stopped}
+use Rattle.star_query.proofs.{Counting.by_bool, Reserved.spelled_alone, Quotes.read_closed, Quotes.read_open, Quotes.read_stopped}
+use Rattle.star_query.specs.declared.token.Relation.TheVariants as r
 
 -- ---- runs of bytes
 

@@ -1,13 +1,12 @@
 -- The bytes after an opening quote: a text that is closed, or stopped by a byte, or open.
 use Rattle.std.proofs.Common.{◌≡◌, ◌∙◌, refl, sym, ap, subst, ℕ, suc, ◌+◌, ◌-◌, true, false, List, [], ◌∷◌, ◌++◌, length, arith, length-append, append_assoc, append-nil}
-use Rattle.std.specs.Prelude.{◌==◌}
-use Rattle.std.specs.{List.flat_map, List.list_all}
 use Rattle.std.proofs.{Math.Seq.take-append_seam, lemmas.Bool.and_from, lemmas.Bool.and_parts, lemmas.Bool.eqb-true}
+use Rattle.std.specs.{Prelude.◌==◌, List.flat_map, List.list_all}
 use Rattle.star_common.specs.{Quotes.doubled, Quotes.quoted, Printable.is_printable}
-use Rattle.star_query.specs.{declared.fault.QueryFault.TheVariants.BadCharacter, declared.fault.QueryFault.TheVariants.OpenText, Symbols.text, Tokens.is_whole, Private.Lexed.ended_at}
-use Rattle.star_query.specs.Private.Cut as cut
 use Rattle.star_query.specs.Private.Cut.{Ending, token, bad, farther, ending_after, undoubled, text_piece}
+use Rattle.star_query.specs.{declared.fault.QueryFault.TheVariants.BadCharacter, declared.fault.QueryFault.TheVariants.OpenText, Symbols.text, Tokens.is_whole, Private.Lexed.ended_at}
 use Rattle.star_query.proofs.Counting.{by_bool}
+use Rattle.star_query.specs.Private.Cut as cut
 
 -- ---- the three forms
 

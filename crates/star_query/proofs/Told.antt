@@ -1,11 +1,10 @@
 -- What a text means, or its first fault, by computing.
 use Rattle.std.proofs.Common.{◌≡◌, ℕ, ◌-◌, ◌≤◌, List, Result, Ok, Err, if◌then◌else◌, drop, length, arith, refl}
 use Rattle.std.specs.Prelude.{Bool, false, true, nat_lt}
-use Rattle.star_query.specs.declared.fault.{Fault.Fault, Fault.TheVariants.Unexpected, Fault.TheVariants.TooDeep, Fault.TheVariants.TooMany, QueryFault.QueryFault}
-use Rattle.star_query.specs.declared.fault.QueryFault.TheVariants as faults
-use Rattle.star_query.specs.{Symbols.Placed, Symbols.Symbol, Symbols.symbols, Maxima.most_bytes, Private.Cut.cut_of, Private.Phrases.query_tree, Tree.Tree, Private.Machine.Verdict, Private.Machine.Whole, Private.Machine.Bad}
-use Rattle.star_query.specs.Derives.{IsFirstQueryFault, Means, StopsAt, first_place}
+use Rattle.star_query.specs.{declared.fault.Fault.Fault, declared.fault.Fault.TheVariants.Unexpected, declared.fault.Fault.TheVariants.TooDeep, declared.fault.Fault.TheVariants.TooMany, declared.fault.QueryFault.QueryFault, Symbols.Placed, Symbols.Symbol, Symbols.symbols}
+use Rattle.star_query.specs.{Maxima.most_bytes, Private.Cut.cut_of, Private.Phrases.query_tree, Tree.Tree, Private.Machine.Verdict, Private.Machine.Whole, Private.Machine.Bad, Derives.IsFirstQueryFault, Derives.Means, Derives.StopsAt, Derives.first_place}
 use Rattle.star_query.proofs.{Cuts.stop_cuts, Parsing.means_tokens, Parsing.stopped, Parsing.stops_at, Verdicts.derives, Verdicts.verdict_of}
+use Rattle.star_query.specs.declared.fault.QueryFault.TheVariants as faults
 
 -- ---- what is said of a text
 

@@ -1,17 +1,16 @@
 -- What the limits count of the marks of a query is counted of its tree.
 use Rattle.std.proofs.Common.{◌≡◌, ℕ, ◌+◌, ◌≤◌, List, [], ◌∷◌, ◌++◌, length, Option, refl, subst, sym, arith, if◌then◌else◌}
+use Rattle.std.proofs.{lemmas.List.Sums.sum_by-cons, lemmas.List.Sums.sum_by_push}
 use Rattle.std.specs.List.{sum_by}
-use Rattle.std.proofs.lemmas.List.Sums.{sum_by-cons, sum_by_push}
-use Rattle.star_query.specs.declared.{counts.Part.Part, token.Additive.TheVariants.Plus, token.Additive.TheVariants.Minus}
+use Rattle.star_query.specs.Tree.{Name, Expression, Condition, Test, Measure, Grouping, SortKey, Tree}
+use Rattle.star_query.specs.Grammar.{Mark, Several, IsExpr, IsTerm, IsFactor, IsCond, IsConj, IsUnit, IsMeasure, IsItem, IsKey, IsName, IsWhere, IsGrouping, IsOrder, IsQuery, nested, bracketed}
+use Rattle.star_query.specs.Limits.{operands_of, measure_operands, item_operands, aggregates_in, comparisons_of, where_comparisons, IsQueryWithinLimits}
+use Rattle.star_query.specs.{declared.counts.Part.Part, declared.token.Additive.TheVariants.Plus, declared.token.Additive.TheVariants.Minus, Symbols.Symbol, Symbols.keyword, Symbols.additive, Symbols.sign, Maxima.limit, Derives.count_begun, Derives.Derives}
+use Rattle.star_query.proofs.Verdicts.{count_of-append}
 use Rattle.star_query.specs.declared.counts.Part.TheVariants as part
 use Rattle.star_query.specs.declared.token.Keyword.TheVariants as k
 use Rattle.star_query.specs.declared.token.Sign.TheVariants as s
-use Rattle.star_query.specs.{Symbols.Symbol, Symbols.keyword, Symbols.additive, Symbols.sign, Maxima.limit, Derives.count_begun, Derives.Derives}
-use Rattle.star_query.specs.Tree.{Name, Expression, Condition, Test, Measure, Grouping, SortKey, Tree}
 use Rattle.star_query.specs.Grammar as w
-use Rattle.star_query.specs.Grammar.{Mark, Several, IsExpr, IsTerm, IsFactor, IsCond, IsConj, IsUnit, IsMeasure, IsItem, IsKey, IsName, IsWhere, IsGrouping, IsOrder, IsQuery, nested, bracketed}
-use Rattle.star_query.specs.Limits.{operands_of, measure_operands, item_operands, aggregates_in, comparisons_of, where_comparisons, IsQueryWithinLimits}
-use Rattle.star_query.proofs.Verdicts.{count_of-append}
 
 -- ---- marks under a nesting and in parentheses
 

@@ -1,7 +1,6 @@
 -- The symbols of a query: its tokens; those of names and functions keep their place.
-use Rattle.std.specs.Prelude.{ℕ, List, codes, map}
-use Rattle.std.specs.Char.{to_ascii_lowercase}
-use Rattle.star_query.specs.declared.token.{Keyword.Keyword, Fold.Fold, Relation.Relation, Sign.Sign, Additive.Additive, Word.Word}
+use Rattle.std.specs.{Prelude.ℕ, Prelude.List, Prelude.codes, Prelude.map, Char.to_ascii_lowercase}
+use Rattle.star_query.specs.{declared.token.Keyword.Keyword, declared.token.Fold.Fold, declared.token.Relation.Relation, declared.token.Sign.Sign, declared.token.Additive.Additive, declared.token.Word.Word}
 use Rattle.star_query.specs.declared.token.Keyword.TheVariants as k
 use Rattle.star_query.specs.declared.token.Fold.TheVariants as folds
 use Rattle.star_query.specs.declared.token.Word.TheVariants as words

@@ -2,12 +2,11 @@
 use Rattle.std.specs.Prelude.{◌≡◌, ◌≢◌, ℕ, ◌+◌, ◌<◌, ◌≤◌, ◌⊎◌, Bool, true, false, ◌==◌, ◌||◌, ◌&&◌, not, List, [], ◌∷◌, ◌++◌, codes, length, Contains, Some}
 use Rattle.std.specs.{List.flat_map, List.list_all, Char.is_ascii_alphabetic, Char.is_ascii_digit}
 use Rattle.star_common.specs.{Numerals.numeral_of, Quotes.doubled, Quotes.quoted, Printable.is_printable, WhiteSpace.is_blank}
-use Rattle.star_query.specs.declared.{token.Word.Word, fault.QueryFault.QueryFault, fault.QueryFault.TheVariants.BadCharacter, fault.QueryFault.TheVariants.BadNumber, fault.QueryFault.TheVariants.OpenText}
+use Rattle.star_query.specs.Symbols.{Symbol, Placed, relation, sign, additive, name, number, text, spelling, word_symbol, lowered}
+use Rattle.star_query.specs.{declared.token.Word.Word, declared.fault.QueryFault.QueryFault, declared.fault.QueryFault.TheVariants.BadCharacter, declared.fault.QueryFault.TheVariants.BadNumber, declared.fault.QueryFault.TheVariants.OpenText, Maxima.most_digits}
 use Rattle.star_query.specs.declared.token.Relation.TheVariants as r
 use Rattle.star_query.specs.declared.token.Sign.TheVariants as s
 use Rattle.star_query.specs.declared.token.Additive.TheVariants as q
-use Rattle.star_query.specs.Maxima.{most_digits}
-use Rattle.star_query.specs.Symbols.{Symbol, Placed, relation, sign, additive, name, number, text, spelling, word_symbol, lowered}
 
 -- ---- tokens
 

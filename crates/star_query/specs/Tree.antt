@@ -1,8 +1,7 @@
 -- The tree of a query, without where it lies in memory.
 use Rattle.std.specs.Prelude.{ℕ, ℤ, List, Option}
-use Rattle.star_schema.specs.Tables.{Value}
-use Rattle.star_query.specs.declared.token.{Fold.Fold, Relation.Relation}
-use Rattle.star_schema.specs.declared.group.{Shape.Shape, Direction.Direction}
+use Rattle.star_schema.specs.{Tables.Value, declared.group.Shape.Shape, declared.group.Direction.Direction}
+use Rattle.star_query.specs.{declared.token.Fold.Fold, declared.token.Relation.Relation}
 
 pub record Name : Type 0 where
   pub text : List ℕ

@@ -2,8 +2,7 @@
 // each part it may have.
 
 ghost use Rattle.std.specs.Prelude.{◌≡◌, ◌≤◌, ◌<◌};
-ghost use Rattle.star_query.specs.Maxima.{limit};
-ghost use Rattle.star_query.specs.Private.Machine.{count_of_part, bump, nothing_counted};
+ghost use Rattle.star_query.specs.{Maxima.limit, Private.Machine.count_of_part, Private.Machine.bump, Private.Machine.nothing_counted};
 
 /// The most bytes of a query text.
 pub const MAX_TEXT: usize = 65_536;

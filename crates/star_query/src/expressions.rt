@@ -1,12 +1,10 @@
 // What an aggregate folds, from its tokens.
 
 ghost use Rattle.std.specs.Prelude.{◌≡◌, ◌≤◌, pos, neg_ℤ, length, OnOk, IfOk};
-ghost use Rattle.star_query.specs.Symbols as symbols;
 ghost use Rattle.star_query.specs.Private.Reads.{spot_of, No, ReadsOperand, ReadsFactor, ReadsTerm, ReadsExpr, NoTimes, NoOperator};
-ghost use Rattle.star_query.specs.Maxima.{most_nestings};
-ghost use Rattle.star_query.specs.Views.{expression_view};
+ghost use Rattle.star_query.specs.{Maxima.most_nestings, Views.expression_view, Private.Phrases.sum_or_difference};
+ghost use Rattle.star_query.specs.Symbols as symbols;
 ghost use Rattle.star_query.specs.Tree as tree;
-ghost use Rattle.star_query.specs.Private.Phrases.{sum_or_difference};
 
 use crate::counts::Part;
 use crate::fault::ParseError;

@@ -1,13 +1,7 @@
 //! Laws of query texts: functions with no body, whose clauses hold of all texts.
 
 ghost use Rattle.std.specs.Prelude.{◌≡◌, ◌≢◌, ℕ, List};
-ghost use Rattle.star_query.specs.declared.fault.QueryFault.{QueryFault};
-ghost use Rattle.star_query.specs.declared.fault.QueryFault.TheVariants.{OutOfMemory};
-ghost use Rattle.star_query.specs.Tree.{Tree};
-ghost use Rattle.star_query.specs.Limits.{IsQueryWithinLimits};
-ghost use Rattle.star_query.specs.Meant.{IsMeant};
-ghost use Rattle.star_query.specs.Spelled.{IsSpelledQuery};
-ghost use Rattle.star_query.specs.Derives.{Means, IsFirstQueryFault};
+ghost use Rattle.star_query.specs.{declared.fault.QueryFault.QueryFault, declared.fault.QueryFault.TheVariants.OutOfMemory, Tree.Tree, Limits.IsQueryWithinLimits, Meant.IsMeant, Spelled.IsSpelledQuery, Derives.Means, Derives.IsFirstQueryFault};
 
 /// No text means two trees.
 pub fn one_tree()

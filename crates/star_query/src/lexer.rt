@@ -1,8 +1,7 @@
 // A text cut into tokens.
 
 ghost use Rattle.std.specs.Prelude.{◌≡◌, ◌≤◌, ◌+◌, length, IfOk, Ok, Some, None, false, true, IfErr, option_to_list, map, Err};
-ghost use Rattle.std.specs.List.{prefix_len, take_while};
-ghost use Rattle.std.specs.Char.{is_ascii_digit};
+ghost use Rattle.std.specs.{List.prefix_len, List.take_while, Char.is_ascii_digit};
 ghost use Rattle.star_common.specs.WhiteSpace as white;
 ghost use Rattle.star_query.specs.Private.Cut as spec;
 ghost use Rattle.star_query.specs.Tokens as words;

@@ -1,12 +1,9 @@
 // Lists with commas: what is selected, the tables, the columns of a group and the keys of an order.
 
-ghost use Rattle.std.specs.Prelude.{◌≤◌, Result, length, OnOk};
-ghost use Rattle.std.specs.declared.alloc.Global.{Global};
-ghost use Rattle.std.specs.declared.vec.Vec.{Vec};
-ghost use Rattle.star_query.specs.declared.fault.ParseError.{ParseError};
-ghost use Rattle.star_query.specs.Private.Reads.{Spot, spot_of};
+ghost use Rattle.std.specs.{Prelude.◌≤◌, Prelude.Result, Prelude.length, Prelude.OnOk, declared.alloc.Global.Global, declared.vec.Vec.Vec};
 ghost use Rattle.star_query.specs.Private.Clauses.{NoComma, ReadsColumn, ReadsColumns, ReadsItem, ReadsItems, ReadsKey, ReadsKeyList, ReadsTable, ReadsTables};
 ghost use Rattle.star_query.specs.Private.Lists.{IsListOf, columns_listed, items_listed, keys_listed, tables_listed};
+ghost use Rattle.star_query.specs.{declared.fault.ParseError.ParseError, Private.Reads.Spot, Private.Reads.spot_of};
 
 use crate::counts::Part;
 use crate::fault::ParseError;

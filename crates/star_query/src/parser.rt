@@ -2,15 +2,12 @@
 // texts.
 
 ghost use Rattle.std.specs.Prelude.{◌≡◌, ◌≤◌, Some, [], ◌∷◌, ◌-◌, length, map, drop, option_to_list, IfErr, IfOk, IfSome, IfNone};
-ghost use Rattle.std.specs.Bool.{OnTrue, OnFalse};
-ghost use Rattle.star_query.specs.Symbols as symbols;
+ghost use Rattle.std.specs.{Bool.OnTrue, Bool.OnFalse};
 ghost use Rattle.star_query.specs.Private.Reads.{spot_of, head_of, next_kind, Takes, No, Expects, Counted, NoName, NoNumber, IsName, IsNumber, ReadsName, ReadsNumber, ReadsText, Nests};
-ghost use Rattle.star_query.specs.Views.{tree_view};
+ghost use Rattle.star_query.specs.{Views.tree_view, Private.Lexed.placed, Derives.Derives, Derives.first_place, Private.TokenFaults.IsTokenFault, Private.TokenFaults.IsTreeRead, Private.TokenFaults.query_fault};
+ghost use Rattle.star_query.specs.Symbols as symbols;
 ghost use Rattle.star_query.specs.Tree as tree;
-ghost use Rattle.star_query.specs.Private.Lexed.{placed};
 ghost use Rattle.star_query.specs.Private.Cut as spec;
-ghost use Rattle.star_query.specs.Derives.{Derives, first_place};
-ghost use Rattle.star_query.specs.Private.TokenFaults.{IsTokenFault, IsTreeRead, query_fault};
 
 use crate::counts::{Counts, MAX_DEPTH, MAX_NAME, Part};
 use crate::fault::{Fault, ParseError, QueryFault};

@@ -3,8 +3,7 @@
 ghost use Rattle.std.specs.Prelude.{◌≡◌, IfSome, IfNone};
 ghost use Rattle.std.proofs.Common.{rules};
 ghost use Rattle.star_query.specs.Symbols.{Symbol, keyword, relation, sign, additive};
-ghost use Rattle.star_query.specs.Private.Lexed.{placed};
-ghost use Rattle.star_query.specs.Private.Terminals.{IsTerminal};
+ghost use Rattle.star_query.specs.{Private.Lexed.placed, Private.Terminals.IsTerminal};
 
 use crate::token::{Additive, Keyword, Kind, Relation, Sign, Token};
 

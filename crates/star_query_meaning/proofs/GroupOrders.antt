@@ -1,10 +1,9 @@
 -- Groups and their aggregates don't hang on the order of the rows.
 use Rattle.std.proofs.Common.{◌≡◌, ◌∙◌, ℕ, ◌+◌, List, [], ◌∷◌, Option, Some, None, refl, sym, ap, arith, inl, inr}
-use Rattle.std.specs.Prelude.{ℤ, pos, ◌+ℤ◌, slice_index_or}
-use Rattle.std.specs.{Int.int_min, Int.int_max, List.Sorted.IsPermutation, declared.cmp.Ordering.Ordering}
-use Rattle.std.proofs.lemmas.{Int.ints, Int.clamps, List.Sorted.IsPermutation-map, List.Sorted.IsPermutation-sym, List.Sorted.Contains-permutation, List.Sorted.length_permutation}
-use Rattle.star_schema.specs.declared.group.{Shape.Shape, Aggregate.Aggregate, Aggregate.TheVariants.Sum, Aggregate.TheVariants.Count, Aggregate.TheVariants.Min, Aggregate.TheVariants.Max}
+use Rattle.std.proofs.{lemmas.Int.ints, lemmas.Int.clamps, lemmas.List.Sorted.IsPermutation-map, lemmas.List.Sorted.IsPermutation-sym, lemmas.List.Sorted.Contains-permutation, lemmas.List.Sorted.length_permutation}
+use Rattle.std.specs.{Prelude.ℤ, Prelude.pos, Prelude.◌+ℤ◌, Prelude.slice_index_or, Int.int_min, Int.int_max, List.Sorted.IsPermutation, declared.cmp.Ordering.Ordering}
 use Rattle.star_schema.specs.Groups.{Entry, IsGroup, belongs, members, joined_with, joined, aggregate, numbers_for, totals_from, totals_of, GroupRow, AreGroups}
+use Rattle.star_schema.specs.{declared.group.Shape.Shape, declared.group.Aggregate.Aggregate, declared.group.Aggregate.TheVariants.Sum, declared.group.Aggregate.TheVariants.Count, declared.group.Aggregate.TheVariants.Min, declared.group.Aggregate.TheVariants.Max}
 use Rattle.star_query_meaning.proofs.Reorderings.{reordered, filter_reordered}
 
 module _ (f : ℤ → ℤ → ℤ) (comm : (x y : ℤ) → f x y ≡ f y x)

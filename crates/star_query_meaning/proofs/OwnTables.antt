@@ -1,20 +1,19 @@
 -- FROM names lineorder and the dimensions that are joined, in some order.
 use Rattle.std.proofs.Common.{◌≡◌, ◌∙◌, Bool, true, false, true≢false, ◌||◌, inl, inr, List, [], ◌∷◌, ◌++◌, Option, Some, None, nat_eq, refl, sym, ap, subst}
-use Rattle.std.specs.{Cmp.Lexicographic.pointwise, List.AllByRecursion, List.IsDistinct, List.Sorted.IsPermutation, Option.option_to_list}
-use Rattle.std.proofs.lemmas.{Grind.flat_map-append, List.Folds.list_any-append, Bool.or_parts}
 use Rattle.std.proofs.lemmas.List.Sorted.{IsPermutation-refl, IsPermutation-cons, IsPermutation-middle, IsPermutation-sym, IsPermutation-trans}
-use Rattle.star_schema.specs.declared.{table.TableId.TableId, table.TheConstants.TABLES, column.ColumnId.ColumnId}
+use Rattle.std.proofs.{lemmas.Grind.flat_map-append, lemmas.List.Folds.list_any-append, lemmas.Bool.or_parts}
+use Rattle.std.specs.{Cmp.Lexicographic.pointwise, List.AllByRecursion, List.IsDistinct, List.Sorted.IsPermutation, Option.option_to_list}
 use Rattle.star_schema.specs.declared.table.TableId.TheVariants.{Date, Customer, Supplier, Part, Lineorder}
 use Rattle.star_schema.specs.declared.column.ColumnId.TheVariants.{DDatekey, CCustkey, SSuppkey, PPartkey, LoOrderkey}
-use Rattle.star_schema.specs.Schema.{column_of, is_table, table_name, table_of}
+use Rattle.star_schema.specs.{declared.table.TableId.TableId, declared.table.TheConstants.TABLES, declared.column.ColumnId.ColumnId, Schema.column_of, Schema.is_table, Schema.table_name, Schema.table_of}
 use Rattle.star_schema.proofs.{NamesApart.found_named, Same.table_same, Same.table_itself}
-use Rattle.star_query.specs.Tree as tree
 use Rattle.star_query.specs.Tree.{Condition, Name, Test}
-use Rattle.star_plan.specs.{declared.tree.Join.Join, Joins.Pair, Joins.join_by, Joins.join_of, Joins.joins_of, Joins.pairs_of, Joins.where_pairs}
-use Rattle.star_plan.specs.{Names.column_at, Names.has_name, Names.table_at, Names.table_called, Sound.in_scope, Sound.joins_table, Uses.where_uses, Private.Stages.condition_uses, WellNamed.IsThere, WellNamed.is_in_from, WellNamed.same_name}
+use Rattle.star_plan.specs.Joins.{Pair, join_by, join_of, joins_of, pairs_of, where_pairs}
+use Rattle.star_plan.specs.{declared.tree.Join.Join, Names.column_at, Names.has_name, Names.table_at, Names.table_called, Sound.in_scope, Sound.joins_table, Uses.where_uses, Private.Stages.condition_uses, WellNamed.IsThere, WellNamed.is_in_from, WellNamed.same_name}
 use Rattle.star_plan.proofs.{Known.Reaches, Known.each_left, Known.each_right, Options.first_or_second}
 use Rattle.star_query_meaning.specs.Rows.{tables_of}
 use Rattle.star_query_meaning.proofs.{Choices.AreApart, Choices.ors_turned, Choices.dimensions_of, Choices.is_among, OwnConditions.join_made}
+use Rattle.star_query.specs.Tree as tree
 
 -- ---- lists of tables
 

@@ -1,13 +1,12 @@
 -- What a query answers over five tables, by its own words and by its plan's.
 use Rattle.std.specs.Prelude.{◌≡◌, ℕ, List, [], length, map, slice_index_or}
-use Rattle.star_schema.specs.declared.{column.ColumnId.TheVariants.DDatekey, group.GroupColumn.GroupColumn, group.GroupColumn.TheVariants.Key, group.GroupColumn.TheVariants.Aggregate}
-use Rattle.star_schema.specs.{Groups.AreGroups, Groups.GroupRow, Order.AreInOrder, Order.value_cmp, Schema.column_name, Tables.Value}
+use Rattle.star_schema.specs.{declared.column.ColumnId.TheVariants.DDatekey, declared.group.GroupColumn.GroupColumn, declared.group.GroupColumn.TheVariants.Key, declared.group.GroupColumn.TheVariants.Aggregate, Groups.AreGroups, Groups.GroupRow, Order.AreInOrder, Order.value_cmp}
+use Rattle.star_schema.specs.{Schema.column_name, Tables.Value}
 use Rattle.star_query.specs.Tree.{Tree}
-use Rattle.star_plan.specs.Meaning as of_plan
 use Rattle.star_plan.specs.Meaning.{Plan, Tables}
-use Rattle.star_program.specs.declared.outcome.Cell.{Cell}
-use Rattle.star_program.specs.RowCells.{cell_of}
+use Rattle.star_program.specs.{declared.outcome.Cell.Cell, RowCells.cell_of}
 use Rattle.star_query_meaning.specs.{Rows.query_entry, Rows.measures_of, Rows.selected, Shows.item_columns, Shows.item_names, Shows.sorts_of}
+use Rattle.star_plan.specs.Meaning as of_plan
 
 -- a header and rows: the groups of the selected rows with their aggregates, in the query's order,
 -- each cut to the items of SELECT in their order, under their names

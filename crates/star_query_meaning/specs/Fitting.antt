@@ -2,8 +2,7 @@
 -- rows alone.
 use Rattle.std.specs.Prelude.{◌≡◌, ◌≤◌, ℕ, true, length, pos}
 use Rattle.std.specs.{List.list_all, Option.option_map_or}
-use Rattle.star_schema.specs.declared.table.TableId.TheVariants.{Lineorder}
-use Rattle.star_schema.specs.Columns.{bounds_in}
+use Rattle.star_schema.specs.{declared.table.TableId.TheVariants.Lineorder, Columns.bounds_in}
 use Rattle.star_interval.specs.Range.{Range, only}
 use Rattle.star_query.specs.Tree.{Name, Tree}
 use Rattle.star_plan.specs.{Fits.Fits, Fits.measure_fits, Meaning.Plan, Meaning.Tables, Names.column_at, Resolved.measures_of}

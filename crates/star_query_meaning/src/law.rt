@@ -1,19 +1,12 @@
 //! Laws of answers: functions with no body, whose clauses are the laws.
 
 ghost use Rattle.std.specs.Prelude.{◌≡◌, ◌∷◌, ◌↔◌, ℕ, List, map};
-ghost use Rattle.std.specs.List.Sorted.{IsPermutation};
-ghost use Rattle.star_schema.specs.declared.table.TableId.TheVariants.{Lineorder};
-ghost use Rattle.star_schema.specs.Database.{Database};
-ghost use Rattle.star_schema.specs.Schema.{table_of};
+ghost use Rattle.std.specs.{List.Sorted.IsPermutation};
+ghost use Rattle.star_schema.specs.{declared.table.TableId.TheVariants.Lineorder, Database.Database, Schema.table_of};
 ghost use Rattle.star_query.specs.Tree.{Tree};
-ghost use Rattle.star_plan.specs.Meaning.{Plan, Tables, plan_rows};
-ghost use Rattle.star_plan.specs.Resolved.{IsResolved};
-ghost use Rattle.star_plan.specs.WellNamed.{IsWellNamed};
+ghost use Rattle.star_plan.specs.{Meaning.Plan, Meaning.Tables, Meaning.plan_rows, Resolved.IsResolved, WellNamed.IsWellNamed};
 ghost use Rattle.star_program.specs.declared.outcome.Cell.{Cell};
-ghost use Rattle.star_query_meaning.specs.Answers.{IsAnswer, IsPlanAnswer};
-ghost use Rattle.star_query_meaning.specs.Fitting.{FitsTables, PlanFitsTables};
-ghost use Rattle.star_query_meaning.specs.Reports.{IsReport};
-ghost use Rattle.star_query_meaning.specs.Rows.{selected, tables_of};
+ghost use Rattle.star_query_meaning.specs.{Answers.IsAnswer, Answers.IsPlanAnswer, Fitting.FitsTables, Fitting.PlanFitsTables, Reports.IsReport, Rows.selected, Rows.tables_of};
 
 /// The rows of a well named query, which are those of the product of FROM's tables for which WHERE
 /// is true, are the joined rows of its plan for which all its conjuncts hold, up to their order;

@@ -1,18 +1,14 @@
 -- Lines that differ only in bytes on which no record hangs: in a field that is too long, or behind
 -- too many fields.
 use Rattle.std.proofs.Common.{◌≡◌, ◌⊎◌, ◌+◌, ◌<◌, ◌≤◌, ◌∙◌, ◌==◌, ℕ, zero, suc, List, [], ◌∷◌, ◌++◌, false, Some, None, length, take, refl, sym, ap, inl, inr, arith}
-use Rattle.std.specs.List.{slice_get}
 use Rattle.std.proofs.lemmas.Bool.{cases_Bool, eq-eqb, eqb-true, lt-leb, true≢false}
+use Rattle.std.specs.List.{slice_get}
 use Rattle.star_common.specs.First.{first_answer}
 use Rattle.star_common.proofs.Firsts.{or_none}
-use Rattle.star_schema.specs.declared.column.Kind.{Kind}
-use Rattle.star_schema.specs.Records.{fields_of, is_bar, pieces, with_first}
-use Rattle.star_schema.specs.Tables.{cells_of, ends_in_bar, is_empty_field, values_of}
+use Rattle.star_schema.specs.{declared.column.Kind.Kind, Records.fields_of, Records.is_bar, Records.pieces, Records.with_first, Tables.cells_of, Tables.ends_in_bar, Tables.is_empty_field, Tables.values_of}
+use Rattle.star_reader.specs.{Faults.cell_fault, Faults.cells_fault, Carried.AreOneRecord, Carried.run_from}
+use Rattle.star_reader.proofs.{Counts.right_count, Counts.wrong_count, Cuts.pieces_some}
 use Rattle.star_reader.specs.declared.fault.ReadFault.TheVariants as fault
-use Rattle.star_reader.specs.Faults.{cell_fault, cells_fault}
-use Rattle.star_reader.specs.Carried.{AreOneRecord, run_from}
-use Rattle.star_reader.proofs.Counts.{right_count, wrong_count}
-use Rattle.star_reader.proofs.Cuts.{pieces_some}
 
 -- two fields are equal, or both too long, where `n` bytes more stand before each
 abbrev AreAlike : ℕ → List ℕ → List ℕ → Type 0

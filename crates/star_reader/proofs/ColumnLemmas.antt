@@ -1,20 +1,9 @@
 -- The column at a place of a table.
 use Rattle.std.proofs.Common.{◌≡◌, ◌<◌, ℕ, ℤ, List, Option, None, Some, length, map, get_or, refl, sym, ap, ◌∙◌, arith}
-use Rattle.std.specs.List.{slice_get}
-use Rattle.std.specs.Option.{option_and_then, option_map}
-use Rattle.std.proofs.lemmas.List.{length-map, map-id}
-use Rattle.std.proofs.lemmas.List.Elements.{All-get_or}
-use Rattle.std.proofs.lemmas.Option.{slice_get-map, slice_get_read, slice_get_within}
-use Rattle.std.proofs.lemmas.Simd.{map-map}
-use Rattle.star_schema.specs.declared.table.TableId.{TableId}
-use Rattle.star_schema.specs.declared.column.Kind.{Kind}
-use Rattle.star_schema.specs.Bounds.{number_in, numbers_at}
-use Rattle.star_schema.specs.Schema.{kinds_of}
-use Rattle.star_schema.specs.Tables.{Number, Text, Value, value_at}
-use Rattle.star_schema.specs.Texts.{text_in, texts_at}
-use Rattle.star_reader.specs.declared.column.RawColumn.{RawColumn}
-use Rattle.star_reader.specs.declared.column.RawColumn.TheVariants.{Numbers, Texts}
-use Rattle.star_reader.specs.Columns.{AreColumnsOf, first_rows, raw_kind, values}
+use Rattle.std.proofs.{lemmas.List.length-map, lemmas.List.map-id, lemmas.List.Elements.All-get_or, lemmas.Option.slice_get-map, lemmas.Option.slice_get_read, lemmas.Option.slice_get_within, lemmas.Simd.map-map}
+use Rattle.std.specs.{List.slice_get, Option.option_and_then, Option.option_map}
+use Rattle.star_schema.specs.{declared.table.TableId.TableId, declared.column.Kind.Kind, Bounds.number_in, Bounds.numbers_at, Schema.kinds_of, Tables.Number, Tables.Text, Tables.Value, Tables.value_at, Texts.text_in, Texts.texts_at}
+use Rattle.star_reader.specs.{declared.column.RawColumn.RawColumn, declared.column.RawColumn.TheVariants.Numbers, declared.column.RawColumn.TheVariants.Texts, Columns.AreColumnsOf, Columns.first_rows, Columns.raw_kind, Columns.values}
 use Rattle.star_reader.proofs.RowLemmas.{read_there}
 
 -- a column at its place

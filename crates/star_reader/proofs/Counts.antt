@@ -1,10 +1,9 @@
 -- How many cells a record has, and its fault.
 use Rattle.std.proofs.Common.{◌≡◌, ◌==◌, ℕ, List, Bool, true, false, Some, length, refl}
-use Rattle.std.proofs.lemmas.Bool.{eq-eqb, eqb-true}
-use Rattle.star_schema.specs.declared.column.Kind.{Kind}
-use Rattle.star_schema.specs.Tables.{cells_of}
-use Rattle.star_reader.specs.declared.fault.ReadFault.TheVariants as fault
+use Rattle.std.proofs.{lemmas.Bool.eq-eqb, lemmas.Bool.eqb-true}
+use Rattle.star_schema.specs.{declared.column.Kind.Kind, Tables.cells_of}
 use Rattle.star_reader.specs.Faults.{cells_fault, record_fault}
+use Rattle.star_reader.specs.declared.fault.ReadFault.TheVariants as fault
 
 pub wrong_count : (ks : List Kind) (at_row : ℕ) (fields : List (List ℕ))
     → (length (cells_of (length ks) fields) ≡ length ks → ⊥)

@@ -1,13 +1,9 @@
 -- Where a piece of a text is cut.
 use Rattle.std.proofs.Common.{◌≡◌, ◌+◌, ◌-◌, ◌<◌, ◌≤◌, ℕ, suc, List, true, false, drop, get_or, length, take, refl, sym, inl, inr, arith, length-drop, drop-cons}
-use Rattle.std.specs.Prelude.{nat_lt}
-use Rattle.std.specs.List.{list_all}
-use Rattle.std.proofs.Math.Seq.{take-suc}
-use Rattle.std.proofs.lemmas.Bool.{cases_Bool, ltb-false, ltb-true, true≢false}
-use Rattle.std.proofs.lemmas.List.{get_or-drop, take_all}
+use Rattle.std.proofs.{Math.Seq.take-suc, lemmas.Bool.cases_Bool, lemmas.Bool.ltb-false, lemmas.Bool.ltb-true, lemmas.Bool.true≢false, lemmas.List.get_or-drop, lemmas.List.take_all}
+use Rattle.std.specs.{Prelude.nat_lt, List.list_all}
 use Rattle.star_schema.specs.Records.{ends_line}
-use Rattle.star_reader.specs.Carried.{is_inner}
-use Rattle.star_reader.specs.Private.Cut.{AreLinesOf, EndsInLineEnd, IsBegun}
+use Rattle.star_reader.specs.{Carried.is_inner, Private.Cut.AreLinesOf, Private.Cut.EndsInLineEnd, Private.Cut.IsBegun}
 use Rattle.star_reader.proofs.Fronts.{all_at}
 
 -- a line end is no inner byte

@@ -1,11 +1,8 @@
 -- The first field of a text, as a number.
 use Rattle.std.proofs.Common.{◌≡◌, ◌+◌, ◌^◌, ◌<◌, ◌≤◌, ◌∙◌, ℕ, ℤ, List, [], ◌∷◌, ◌&&◌, true, false, Some, None, get_or, length, take, refl, inl, inr, arith}
-use Rattle.std.specs.Char.{is_ascii_digit}
-use Rattle.std.specs.List.{list_all}
-use Rattle.std.specs.Prelude.{◌==◌, if◌then◌else◌, nat_le}
 use Rattle.std.proofs.lemmas.Bool.{and_from, and_parts, cases_Bool, eqb-true, le-leb}
-use Rattle.std.proofs.lemmas.List.{length-take-le}
-use Rattle.std.specs.Str.Parse.{digits_value, starts_with_minus}
+use Rattle.std.proofs.{lemmas.List.length-take-le}
+use Rattle.std.specs.{Char.is_ascii_digit, List.list_all, Prelude.◌==◌, Prelude.if◌then◌else◌, Prelude.nat_le, Str.Parse.digits_value, Str.Parse.starts_with_minus}
 use Rattle.star_common.specs.Numerals.{is_numeral}
 use Rattle.star_schema.specs.Tables.{is_number, number_of}
 use Rattle.star_common.proofs.NumeralLemmas.{below_power, digit_bounds}

@@ -1,9 +1,8 @@
 -- The first field of a text, as a text.
 use Rattle.std.proofs.Common.{◌≡◌, ◌⊎◌, ◌<◌, ◌≤◌, ◌∙◌, ℕ, zero, suc, List, true, false, get_or, length, take, refl, sym, inl, inr, arith}
-use Rattle.std.specs.List.{list_all}
-use Rattle.std.specs.Prelude.{nat_le}
 use Rattle.std.proofs.lemmas.Bool.{and_from, and_parts, cases_Bool, le-leb, leb-true, true≢false}
-use Rattle.std.proofs.lemmas.List.{length-take-le}
+use Rattle.std.proofs.{lemmas.List.length-take-le}
+use Rattle.std.specs.{List.list_all, Prelude.nat_le}
 use Rattle.star_common.specs.Printable.{is_printable}
 use Rattle.star_schema.specs.Tables.{is_short}
 use Rattle.star_reader.specs.Private.Fronts.{IsFront, is_plain}

@@ -1,21 +1,13 @@
 -- One more field of a line.
 use Rattle.std.proofs.Common.{◌≡◌, ◌⊎◌, ◌+◌, ◌<◌, ◌≤◌, ◌∙◌, ◌==◌, ℕ, zero, suc, List, [], ◌∷◌, ◌++◌, true, false, Option, Some, None, drop, length, map, set, take, refl, sym, ap, inl, inr, arith, length-drop}
-use Rattle.std.specs.List.{slice_get}
 use Rattle.std.proofs.lemmas.Bool.{and_parts, cases_Bool, eq-eqb, eqb-true, true≢false}
-use Rattle.std.proofs.lemmas.List.{drop-drop, length-map, length-take, length-take-le}
-use Rattle.star_schema.specs.declared.column.Kind.{Kind}
-use Rattle.star_schema.specs.Records.{fields_of, is_bar, pieces, with_first}
+use Rattle.std.proofs.{lemmas.List.drop-drop, lemmas.List.length-map, lemmas.List.length-take, lemmas.List.length-take-le}
+use Rattle.std.specs.List.{slice_get}
 use Rattle.star_schema.specs.Tables.{cells_of, ends_in_bar, is_cell, is_empty_field, value_of}
-use Rattle.star_reader.specs.declared.column.RawColumn.{RawColumn}
-use Rattle.star_reader.specs.declared.fault.ReadFault.{ReadFault}
-use Rattle.star_reader.specs.Columns.{raw_kind, values}
-use Rattle.star_reader.specs.Faults.{cell_fault, record_fault}
-use Rattle.star_reader.specs.Private.Fronts.{IsFront, left_of}
-use Rattle.star_reader.specs.Private.Steps.{AddsRecord, HasPushedTo}
-use Rattle.star_reader.proofs.Counts.{right_count, wrong_count}
-use Rattle.star_reader.proofs.Fields.{cell_at}
+use Rattle.star_schema.specs.{declared.column.Kind.Kind, Records.fields_of, Records.is_bar, Records.pieces, Records.with_first}
+use Rattle.star_reader.specs.{declared.column.RawColumn.RawColumn, declared.fault.ReadFault.ReadFault, Columns.raw_kind, Columns.values, Faults.cell_fault, Faults.record_fault, Private.Fronts.IsFront, Private.Fronts.left_of, Private.Steps.AddsRecord, Private.Steps.HasPushedTo}
 use Rattle.star_reader.proofs.Fronts.{end_left, front_there, left_within, next_left, none_left, start_left}
-use Rattle.star_reader.proofs.Law.{cell_complete, cell_sound}
+use Rattle.star_reader.proofs.{Counts.right_count, Counts.wrong_count, Fields.cell_at, Law.cell_complete, Law.cell_sound}
 use Rattle.star_reader.proofs.Pushes as pushes
 
 at_front : {X : Type 0} (xs : List X) (i : ℕ) (x : X) (rest : List X) → drop i xs ≡ x ∷ rest

@@ -1,18 +1,11 @@
 -- One more byte of an open line.
 use Rattle.std.proofs.Common.{◌≡◌, ◌⊎◌, ◌+◌, ◌<◌, ◌≤◌, ◌∙◌, ℕ, List, [], ◌∷◌, ◌++◌, true, false, length, refl, sym, ap, inl, inr, arith, append_assoc}
-use Rattle.std.specs.Prelude.{◌==◌, nat_eq}
-use Rattle.std.specs.List.{slice_get, starts_with}
-use Rattle.std.proofs.lemmas.Bool.{and_parts, cases_Bool, eqb-true}
-use Rattle.std.proofs.lemmas.List.{length-append}
-use Rattle.star_schema.specs.declared.column.Kind.{Kind}
+use Rattle.std.proofs.{lemmas.Bool.and_parts, lemmas.Bool.cases_Bool, lemmas.Bool.eqb-true, lemmas.List.length-append}
+use Rattle.std.specs.{Prelude.◌==◌, Prelude.nat_eq, List.slice_get, List.starts_with}
 use Rattle.star_schema.specs.Records.{fields_of, is_bar, is_filled, pieces, with_first}
-use Rattle.star_schema.specs.Tables.{cells_of, ends_in_bar, is_empty_field}
-use Rattle.star_reader.specs.Faults.{byte_order_mark}
-use Rattle.star_reader.specs.Carried.{AreOneRecord, StandsFor, run_from}
-use Rattle.star_reader.specs.Private.Open.{HasKeptByte}
-use Rattle.star_reader.specs.declared.open_line.OpenLine.{OpenLine}
-use Rattle.star_reader.proofs.Cuts.{pieces_cut}
-use Rattle.star_reader.proofs.AlikeLines.{alike_record, long_alike, miscounted_both}
+use Rattle.star_schema.specs.{declared.column.Kind.Kind, Tables.cells_of, Tables.ends_in_bar, Tables.is_empty_field}
+use Rattle.star_reader.specs.{Faults.byte_order_mark, Carried.AreOneRecord, Carried.StandsFor, Carried.run_from, Private.Open.HasKeptByte, declared.open_line.OpenLine.OpenLine}
+use Rattle.star_reader.proofs.{Cuts.pieces_cut, AlikeLines.alike_record, AlikeLines.long_alike, AlikeLines.miscounted_both}
 
 same_line : (ks : List Kind) (a : List ℕ) → AreOneRecord ks a a
 same_line ks a = record { fault = λ at_row. refl; values = λ at_row none. refl }

@@ -1,30 +1,14 @@
 -- The row of an open line that ends.
 use Rattle.std.proofs.Common.{◌≡◌, ◌+◌, ◌≤◌, ◌∙◌, ◌&&◌, ℕ, List, [], ◌∷◌, ◌++◌, Bool, true, false, Some, None, length, map, refl, sym, ap, inl, inr, arith}
-use Rattle.std.specs.Prelude.{filter, nat_eq, nat_lt}
-use Rattle.std.specs.List.{list_all, starts_with}
-use Rattle.std.proofs.lemmas.Bool.{cases_Bool, true≢false}
-use Rattle.std.proofs.lemmas.List.{append-nil}
+use Rattle.std.proofs.{lemmas.Bool.cases_Bool, lemmas.Bool.true≢false, lemmas.List.append-nil}
+use Rattle.std.specs.{Prelude.filter, Prelude.nat_eq, Prelude.nat_lt, List.list_all, List.starts_with}
 use Rattle.star_common.specs.First.{first_answer}
 use Rattle.star_common.proofs.Firsts.{or_none}
-use Rattle.star_schema.specs.declared.column.Kind.{Kind}
-use Rattle.star_schema.specs.declared.table.TableId.{TableId}
-use Rattle.star_schema.specs.Records.{fields_of, is_filled, records_of}
-use Rattle.star_schema.specs.Schema.{kinds_of}
-use Rattle.star_schema.specs.Tables.{Value, row_of}
-use Rattle.star_reader.specs.declared.column.RawColumn.{RawColumn}
-use Rattle.star_reader.specs.declared.fault.ReadFault.{ReadFault}
+use Rattle.star_schema.specs.{declared.column.Kind.Kind, declared.table.TableId.TableId, Records.fields_of, Records.is_filled, Records.records_of, Schema.kinds_of, Tables.Value, Tables.row_of}
+use Rattle.star_reader.specs.{declared.column.RawColumn.RawColumn, declared.fault.ReadFault.ReadFault, declared.open_line.OpenLine.OpenLine, declared.progress.Progress.Progress, Columns.AreColumnsOf, Columns.first_rows, Columns.values, Faults.byte_order_mark, Faults.record_fault}
+use Rattle.star_reader.specs.{Faults.records_fault, Partway.left_fault, Carried.is_inner, Carried.AreOneRecord, Carried.StandsFor, Private.Ended.HasEnded, Private.Steps.HasAdded, Private.Steps.HasRows}
+use Rattle.star_reader.proofs.{Cuts.inner_records, Law.marked_fault, Law.plain_fault, Law.records_sound, Law.width_kinds, TableSteps.start as begin}
 use Rattle.star_reader.specs.declared.fault.ReadFault.TheVariants as fault
-use Rattle.star_reader.specs.declared.open_line.OpenLine.{OpenLine}
-use Rattle.star_reader.specs.declared.progress.Progress.{Progress}
-use Rattle.star_reader.specs.Columns.{AreColumnsOf, first_rows, values}
-use Rattle.star_reader.specs.Faults.{byte_order_mark, record_fault, records_fault}
-use Rattle.star_reader.specs.Partway.{left_fault}
-use Rattle.star_reader.specs.Carried.{is_inner, AreOneRecord, StandsFor}
-use Rattle.star_reader.specs.Private.Ended.{HasEnded}
-use Rattle.star_reader.specs.Private.Steps.{HasAdded, HasRows}
-use Rattle.star_reader.proofs.Cuts.{inner_records}
-use Rattle.star_reader.proofs.Law.{marked_fault, plain_fault, records_sound, width_kinds}
-use Rattle.star_reader.proofs.TableSteps.{start as begin}
 
 -- the row of one line is to be added
 pub open_start : (table : TableId) (most start : ℕ) (line : List ℕ) (columns : List RawColumn)

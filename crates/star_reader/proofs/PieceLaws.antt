@@ -1,14 +1,10 @@
 -- A text that comes in pieces has the records, and the first fault, that it has as a whole.
 use Rattle.std.proofs.Common.{◌≡◌, ◌⊎◌, ◌+◌, ◌++◌, ◌∙◌, ℕ, List, [], ◌∷◌, true, false, length, refl, sym, ap, append_assoc, inl, inr}
-use Rattle.std.specs.List.{list_any}
-use Rattle.std.specs.Option.{option_or}
-use Rattle.std.proofs.lemmas.Bool.{cases_Bool, true≢false}
-use Rattle.std.proofs.lemmas.List.{append-nil}
-use Rattle.star_schema.specs.declared.table.TableId.{TableId}
-use Rattle.star_schema.specs.Records.{ends_line, pieces, records_of}
-use Rattle.star_reader.specs.Faults.{records_fault}
+use Rattle.std.proofs.{lemmas.Bool.cases_Bool, lemmas.Bool.true≢false, lemmas.List.append-nil}
+use Rattle.std.specs.{List.list_any, Option.option_or}
+use Rattle.star_schema.specs.{declared.table.TableId.TableId, Records.ends_line, Records.pieces, Records.records_of}
 use Rattle.star_reader.specs.Pieces.{ended_of, fault_from, joined_pieces, open_of, records_from}
-use Rattle.star_reader.specs.Private.Cut.{EndsInLineEnd}
+use Rattle.star_reader.specs.{Faults.records_fault, Private.Cut.EndsInLineEnd}
 use Rattle.star_reader.proofs.Cuts.{records_ended, records_fault-append}
 
 ended_open : (text : List ℕ) → ended_of text ++ open_of text ≡ text

@@ -1,28 +1,12 @@
 -- One more piece of a table's text.
 use Rattle.std.proofs.Common.{◌≡◌, ◌+◌, ◌-◌, ◌∙◌, ℕ, List, [], ◌∷◌, ◌++◌, Bool, true, false, Some, None, drop, length, map, take, refl, sym, ap, inl, inr, arith, append_assoc}
-use Rattle.std.specs.Prelude.{nat_eq}
-use Rattle.std.specs.List.{list_all, starts_with}
-use Rattle.std.specs.Option.{option_or}
-use Rattle.std.proofs.lemmas.Bool.{and_from, cases_Bool}
-use Rattle.std.proofs.lemmas.Grind.{flat_map-append}
 use Rattle.std.proofs.lemmas.List.{append-nil, drop-drop, length-append, length-map, map-append, take-append-drop}
-use Rattle.std.proofs.lemmas.List.Folds.{list_all-append}
-use Rattle.star_schema.specs.declared.table.TableId.{TableId}
-use Rattle.star_schema.specs.Records.{records_in, records_of}
-use Rattle.star_schema.specs.Schema.{kinds_of}
-use Rattle.star_schema.specs.Tables.{row_of}
-use Rattle.star_reader.specs.declared.column.RawColumn.{RawColumn}
-use Rattle.star_reader.specs.declared.fault.ReadFault.{ReadFault}
-use Rattle.star_reader.specs.declared.progress.Progress.{Progress}
-use Rattle.star_reader.specs.Columns.{AreColumnsOf, first_rows, raw_kind, values}
-use Rattle.star_reader.specs.Faults.{byte_order_mark, parts_fault, records_fault, text_fault}
-use Rattle.star_reader.specs.Partway.{IsFaultOf, IsPartway, left_fault}
-use Rattle.star_reader.specs.Carried.{is_inner, StandsFor}
-use Rattle.star_reader.specs.Private.Cut.{AreLinesOf, EndsInLineEnd, IsBegun}
-use Rattle.star_reader.specs.Private.Ended.{HasEnded}
-use Rattle.star_reader.specs.Private.Steps.{HasRows}
-use Rattle.star_reader.proofs.Cuts.{mark_ends, records_begun, records_ended, records_fault-append}
-use Rattle.star_reader.proofs.Law.{marked_fault, plain_fault, records_sound}
+use Rattle.std.proofs.{lemmas.Bool.and_from, lemmas.Bool.cases_Bool, lemmas.Grind.flat_map-append, lemmas.List.Folds.list_all-append}
+use Rattle.std.specs.{Prelude.nat_eq, List.list_all, List.starts_with, Option.option_or}
+use Rattle.star_schema.specs.{declared.table.TableId.TableId, Records.records_in, Records.records_of, Schema.kinds_of, Tables.row_of}
+use Rattle.star_reader.specs.{declared.column.RawColumn.RawColumn, declared.fault.ReadFault.ReadFault, declared.progress.Progress.Progress, Columns.AreColumnsOf, Columns.first_rows, Columns.raw_kind, Columns.values, Faults.byte_order_mark, Faults.parts_fault, Faults.records_fault}
+use Rattle.star_reader.specs.{Faults.text_fault, Partway.IsFaultOf, Partway.IsPartway, Partway.left_fault, Carried.is_inner, Carried.StandsFor, Private.Cut.AreLinesOf, Private.Cut.EndsInLineEnd, Private.Cut.IsBegun, Private.Ended.HasEnded, Private.Steps.HasRows}
+use Rattle.star_reader.proofs.{Cuts.mark_ends, Cuts.records_begun, Cuts.records_ended, Cuts.records_fault-append, Law.marked_fault, Law.plain_fault, Law.records_sound}
 
 -- a table has as many columns as kinds of them
 pub as_wide : {table : TableId} {rows : ℕ} {columns : List RawColumn}

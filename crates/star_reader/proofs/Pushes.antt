@@ -1,20 +1,11 @@
 -- One more cell of a record.
 use Rattle.std.proofs.Common.{◌≡◌, ◌+◌, ◌≤◌, ℕ, zero, suc, List, [], ◌∷◌, ◌++◌, Some, None, drop, length, map, set, refl, sym, ap, ◌∙◌, arith, append_assoc, length-append}
-use Rattle.std.specs.List.{slice_get}
-use Rattle.std.specs.Option.{option_map}
-use Rattle.std.proofs.Math.Seq.{map-set_same}
-use Rattle.std.proofs.lemmas.List.{append-nil, drop_all, map-set}
-use Rattle.std.proofs.lemmas.Option.{get_or_from_slice_get, slice_get-map}
-use Rattle.star_schema.specs.declared.column.Kind.{Kind}
+use Rattle.std.proofs.{Math.Seq.map-set_same, lemmas.List.append-nil, lemmas.List.drop_all, lemmas.List.map-set, lemmas.Option.get_or_from_slice_get, lemmas.Option.slice_get-map}
+use Rattle.std.specs.{List.slice_get, Option.option_map}
+use Rattle.star_schema.specs.{declared.column.Kind.Kind, Tables.Value, Tables.value_of, Tables.values_of}
 use Rattle.star_common.specs.First.{first_answer}
-use Rattle.star_schema.specs.Tables.{Value, value_of, values_of}
 use Rattle.star_common.proofs.Lists.{drop_at_place}
-use Rattle.star_reader.specs.declared.column.RawColumn.{RawColumn}
-use Rattle.star_reader.specs.declared.fault.ReadFault.{ReadFault}
-use Rattle.star_reader.specs.Columns.{raw_kind, values}
-use Rattle.star_reader.specs.Private.Extended.{extended_columns}
-use Rattle.star_reader.specs.Faults.{cell_fault, cells_fault}
-use Rattle.star_reader.specs.Private.Steps.{HasPushed}
+use Rattle.star_reader.specs.{declared.column.RawColumn.RawColumn, declared.fault.ReadFault.ReadFault, Columns.raw_kind, Columns.values, Private.Extended.extended_columns, Faults.cell_fault, Faults.cells_fault, Private.Steps.HasPushed}
 
 extended-nil : (columns : List (List Value)) → extended_columns columns [] ≡ columns
 unfolding extended_columns

@@ -1,14 +1,10 @@
 -- The rows that columns make.
 use Rattle.std.proofs.Common.{◌≡◌, ◌+◌, ◌<◌, ◌≤◌, ℕ, zero, suc, List, [], ◌∷◌, ◌++◌, Option, Some, All, length, map, take, pos, get_or, refl, sym, ap, ◌∙◌, arith, length-append}
-use Rattle.std.specs.List.{slice_get}
-use Rattle.std.specs.Option.{option_map}
-use Rattle.std.proofs.Math.Seq.{take-suc, take-length}
-use Rattle.std.proofs.lemmas.List.{get_or_push, get_or_append_left, map-append}
-use Rattle.std.proofs.lemmas.List.Elements.{All-cons, All-head, All-nil, All-tail}
-use Rattle.std.proofs.lemmas.Option.{slice_get-map}
+use Rattle.std.proofs.{Math.Seq.take-suc, Math.Seq.take-length, lemmas.List.get_or_push, lemmas.List.get_or_append_left, lemmas.List.map-append, lemmas.List.Elements.All-cons, lemmas.List.Elements.All-head, lemmas.List.Elements.All-nil, lemmas.List.Elements.All-tail}
+use Rattle.std.proofs.{lemmas.Option.slice_get-map}
+use Rattle.std.specs.{List.slice_get, Option.option_map}
 use Rattle.star_schema.specs.Tables.{Value, Number}
-use Rattle.star_reader.specs.Columns.{first_rows, row_of_columns}
-use Rattle.star_reader.specs.Private.Extended.{extended_columns}
+use Rattle.star_reader.specs.{Columns.first_rows, Columns.row_of_columns, Private.Extended.extended_columns}
 
 pub length-first_rows : (n : ℕ) (columns : List (List Value)) → length (first_rows n columns) ≡ n
 unfolding first_rows

@@ -1,8 +1,6 @@
 -- What stands at a place of rows.
 use Rattle.std.proofs.Common.{◌≡◌, ◌∷◌, [], ℕ, List, suc, length, refl, ap}
-use Rattle.star_schema.specs.Bounds.{numbers_at}
-use Rattle.star_schema.specs.Tables.{Value}
-use Rattle.star_schema.specs.Texts.{texts_at}
+use Rattle.star_schema.specs.{Bounds.numbers_at, Tables.Value, Texts.texts_at}
 
 pub length-numbers_at : (place : ℕ) (rows : List (List Value)) → length (numbers_at place rows)
     ≡ length rows

@@ -1,26 +1,15 @@
 -- One more record of a table.
 use Rattle.std.proofs.Common.{◌≡◌, ◌+◌, ◌<◌, ◌≤◌, ℕ, List, [], ◌∷◌, All, ◌++◌, true, false, Some, None, Result, Ok, Err, MatchResult, length, map, refl, sym, ◌∙◌, inl, inr, arith, append_assoc}
-use Rattle.std.specs.Prelude.{◌==◌, filter, nat_eq}
-use Rattle.std.specs.List.{starts_with}
 use Rattle.std.proofs.lemmas.Bool.{and_parts, cases_Bool, eqb-true, le-ltb, lt-ltb, true≢false}
-use Rattle.std.proofs.Math.ListN.{get_or-map}
-use Rattle.std.proofs.lemmas.List.{length-map}
-use Rattle.std.proofs.lemmas.List.Elements.{All-map}
+use Rattle.std.proofs.{Math.ListN.get_or-map, lemmas.List.length-map, lemmas.List.Elements.All-map}
+use Rattle.std.specs.{Prelude.◌==◌, Prelude.filter, Prelude.nat_eq, List.starts_with}
 use Rattle.csv.specs.Reading.{is_bom, strip_bom}
-use Rattle.star_schema.specs.declared.table.TableId.{TableId}
+use Rattle.star_schema.specs.{declared.table.TableId.TableId, Records.fields_of, Records.is_filled, Schema.kinds_of, Tables.Value, Tables.cells_of, Tables.row_of, Tables.values_of}
 use Rattle.star_common.specs.First.{first_answer}
-use Rattle.star_schema.specs.Records.{fields_of, is_filled}
-use Rattle.star_schema.specs.Schema.{kinds_of}
-use Rattle.star_schema.specs.Tables.{Value, cells_of, row_of, values_of}
-use Rattle.star_reader.specs.declared.column.RawColumn.{RawColumn}
-use Rattle.star_reader.specs.declared.fault.ReadFault.{ReadFault}
+use Rattle.star_reader.specs.{declared.column.RawColumn.RawColumn, declared.fault.ReadFault.ReadFault, Columns.AreColumnsOf, Columns.first_rows, Columns.raw_kind, Columns.values, Private.Extended.extended_columns, Faults.byte_order_mark, Faults.record_fault, Faults.records_fault}
+use Rattle.star_reader.specs.{Private.Steps.AddsRecord, Private.Steps.HasAdded, Private.Steps.HasRows}
+use Rattle.star_reader.proofs.{Law.width_kinds, RowLemmas.extended_full, RowLemmas.first_rows-extended}
 use Rattle.star_reader.specs.declared.fault.ReadFault.TheVariants as fault
-use Rattle.star_reader.specs.Columns.{AreColumnsOf, first_rows, raw_kind, values}
-use Rattle.star_reader.specs.Private.Extended.{extended_columns}
-use Rattle.star_reader.specs.Faults.{byte_order_mark, record_fault, records_fault}
-use Rattle.star_reader.specs.Private.Steps.{AddsRecord, HasAdded, HasRows}
-use Rattle.star_reader.proofs.Law.{width_kinds}
-use Rattle.star_reader.proofs.RowLemmas.{extended_full, first_rows-extended}
 
 -- a text with no byte order mark has none to take off
 pub no_mark : (text : List ℕ) → starts_with nat_eq text byte_order_mark ≡ false

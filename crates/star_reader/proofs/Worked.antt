@@ -3,13 +3,10 @@ use Rattle.std.proofs.Common.{◌≡◌, ℕ, List, [], ◌∷◌, Some, None, t
 use Rattle.std.specs.Prelude.{◌++◌, codes}
 use Rattle.star_common.specs.First.{first_answer}
 use Rattle.star_common.proofs.Tables.{Gives, Gives2}
-use Rattle.star_schema.specs.Records.{pieces}
-use Rattle.star_schema.specs.Schema.{column_of, columns_of}
-use Rattle.star_schema.specs.declared.table.TableId.TheVariants.{Customer, Supplier}
+use Rattle.star_schema.specs.{Records.pieces, Schema.column_of, Schema.columns_of, declared.table.TableId.TheVariants.Customer, declared.table.TableId.TheVariants.Supplier}
 use Rattle.star_reader.specs.declared.fault.ReadFault.TheVariants.{BadByte, BadNumber, ByteOrderMark, FieldCount, TooManyRows}
 use Rattle.star_reader.specs.Faults.{byte_order_mark, part_fault, parts_fault, record_fault, text_fault}
-use Rattle.star_reader.specs.Partway.{left_fault, parts_with}
-use Rattle.star_reader.specs.Pieces.{ended_of, open_of, records_from}
+use Rattle.star_reader.specs.{Partway.left_fault, Partway.parts_with, Pieces.ended_of, Pieces.open_of, Pieces.records_from}
 
 abbrev line : List ℕ
 line = codes "7|n|a|c|u|r|p|m|"

@@ -1,12 +1,8 @@
 -- What the columns of a table hold, and the rows that they make.
 use Rattle.std.specs.Prelude.{◌≡◌, ◌++◌, ℕ, zero, suc, List, [], ◌∷◌, All, length, map, pos, slice_index_or}
-use Rattle.star_schema.specs.declared.table.TableId.{TableId}
-use Rattle.star_schema.specs.declared.column.Kind.{Kind}
+use Rattle.star_schema.specs.{declared.table.TableId.TableId, declared.column.Kind.Kind, Schema.kinds_of, Tables.Value, Tables.Number, Tables.Text}
+use Rattle.star_reader.specs.{declared.column.RawColumn.RawColumn, declared.column.RawColumn.TheVariants.Numbers, declared.column.RawColumn.TheVariants.Texts}
 use Rattle.star_schema.specs.declared.column.Kind.TheVariants as kind
-use Rattle.star_schema.specs.Schema.{kinds_of}
-use Rattle.star_schema.specs.Tables.{Value, Number, Text}
-use Rattle.star_reader.specs.declared.column.RawColumn.{RawColumn}
-use Rattle.star_reader.specs.declared.column.RawColumn.TheVariants.{Numbers, Texts}
 
 abbrev pub raw_kind : RawColumn → Kind
 raw_kind (Numbers numbers) = kind.Number

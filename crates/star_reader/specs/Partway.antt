@@ -1,19 +1,10 @@
 -- How far a table has been read whose text comes in pieces.
 use Rattle.std.specs.Prelude.{◌≡◌, ◌≤◌, ◌+◌, ◌++◌, ◌∷◌, if◌then◌else◌, Bool, true, ℕ, List, [], Option, Some, MatchOption, length, map}
-use Rattle.std.specs.List.{list_all}
-use Rattle.std.specs.Option.{option_or}
+use Rattle.std.specs.{List.list_all, Option.option_or}
 use Rattle.star_common.specs.Memory.{UnlessMemory}
-use Rattle.star_schema.specs.declared.table.TableId.{TableId}
-use Rattle.star_schema.specs.Records.{records_in, records_of}
-use Rattle.star_schema.specs.Schema.{kinds_of}
-use Rattle.star_schema.specs.Tables.{row_of}
-use Rattle.star_reader.specs.declared.column.RawColumn.{RawColumn}
-use Rattle.star_reader.specs.declared.fault.ReadFault.{ReadFault}
-use Rattle.star_reader.specs.declared.fault.ReadFault.TheVariants.{OutOfMemory}
-use Rattle.star_reader.specs.declared.progress.Progress.{Progress}
-use Rattle.star_reader.specs.Columns.{AreColumnsOf, first_rows, values}
-use Rattle.star_reader.specs.Faults.{part_fault, parts_fault, records_fault, text_fault}
-use Rattle.star_reader.specs.Carried.{is_inner, StandsFor}
+use Rattle.star_schema.specs.{declared.table.TableId.TableId, Records.records_in, Records.records_of, Schema.kinds_of, Tables.row_of}
+use Rattle.star_reader.specs.{declared.column.RawColumn.RawColumn, declared.fault.ReadFault.ReadFault, declared.fault.ReadFault.TheVariants.OutOfMemory, declared.progress.Progress.Progress, Columns.AreColumnsOf, Columns.first_rows, Columns.values, Faults.part_fault, Faults.parts_fault}
+use Rattle.star_reader.specs.{Faults.records_fault, Faults.text_fault, Carried.is_inner, Carried.StandsFor}
 
 -- the first fault of what is left of a part: of all of it, or of the records behind a line end
 abbrev pub left_fault : (is_start : Bool) → TableId → ℕ → ℕ → List ℕ → Option ReadFault

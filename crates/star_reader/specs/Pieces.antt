@@ -1,11 +1,8 @@
 -- How a text that comes in pieces falls into records: what a piece leaves open goes on with the next.
 use Rattle.std.specs.Prelude.{◌++◌, ◌∷◌, ◌+◌, if◌then◌else◌, ℕ, List, [], Option, length}
-use Rattle.std.specs.List.{flat_map, list_any}
-use Rattle.std.specs.Option.{option_or}
-use Rattle.star_schema.specs.declared.table.TableId.{TableId}
-use Rattle.star_schema.specs.Records.{ends_line, records_of}
-use Rattle.star_reader.specs.declared.fault.ReadFault.{ReadFault}
-use Rattle.star_reader.specs.Faults.{records_fault}
+use Rattle.std.specs.{List.flat_map, List.list_any, Option.option_or}
+use Rattle.star_schema.specs.{declared.table.TableId.TableId, Records.ends_line, Records.records_of}
+use Rattle.star_reader.specs.{declared.fault.ReadFault.ReadFault, Faults.records_fault}
 
 -- the text that pieces make, one behind the other
 abbrev pub joined_pieces : List (List ℕ) → List ℕ

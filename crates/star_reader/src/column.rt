@@ -2,10 +2,8 @@
 
 ghost use Rattle.std.specs.Prelude.{◌≡◌, ◌++◌, ◌∷◌, [], ℕ, None, Some, IfOk, MatchOption, MatchResult, false, true, take};
 ghost use Rattle.star_common.specs.Memory.{UnlessMemory};
+ghost use Rattle.star_reader.specs.{Columns.raw_kind, Columns.values, Faults.cell_fault, Private.Fronts.IsFront};
 ghost use Rattle.star_schema.specs.Tables as spec;
-ghost use Rattle.star_reader.specs.Columns.{raw_kind, values};
-ghost use Rattle.star_reader.specs.Faults.{cell_fault};
-ghost use Rattle.star_reader.specs.Private.Fronts.{IsFront};
 
 use crate::cell::parse_number;
 use crate::fault::ReadFault;

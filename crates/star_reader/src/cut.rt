@@ -1,10 +1,9 @@
 // Where a piece of a text has its lines.
 
 ghost use Rattle.std.specs.Prelude.{◌≡◌, ◌<◌, ◌≤◌, ◌-◌, MatchOption, true, drop, get_or, length, take};
-ghost use Rattle.std.specs.List.{list_all};
+ghost use Rattle.std.specs.{List.list_all};
 ghost use Rattle.star_schema.specs.Records.{ends_line};
-ghost use Rattle.star_reader.specs.Carried.{is_inner};
-ghost use Rattle.star_reader.specs.Private.Cut.{AreLinesOf};
+ghost use Rattle.star_reader.specs.{Carried.is_inner, Private.Cut.AreLinesOf};
 
 /// The lines of a piece: they lie from its first line end to after its last.
 #[derive(Clone, Copy)]

@@ -1,12 +1,10 @@
 // The first field of what is left of a line.
 
 ghost use Rattle.std.specs.Prelude.{◌≡◌, ◌+◌, ◌<◌, ◌≤◌, ◌^◌, ◌&&◌, if◌then◌else◌, ℕ, None, Some, MatchOption, false, true, length, take};
-ghost use Rattle.std.specs.List.{list_all};
-ghost use Rattle.std.specs.Str.Parse.{digits_value};
-ghost use Rattle.star_common.specs.Numerals.{is_numeral};
-ghost use Rattle.star_common.specs.Printable.{is_printable};
-ghost use Rattle.star_schema.specs.Tables as spec;
+ghost use Rattle.std.specs.{List.list_all, Str.Parse.digits_value};
+ghost use Rattle.star_common.specs.{Numerals.is_numeral, Printable.is_printable};
 ghost use Rattle.star_reader.specs.Private.Fronts.{IsFront};
+ghost use Rattle.star_schema.specs.Tables as spec;
 
 use crate::cell::parse_number;
 

@@ -1,11 +1,8 @@
 //! Laws of texts of tables: functions with no body, whose clauses are the laws.
 
 ghost use Rattle.std.specs.Prelude.{◌≡◌, ◌↔◌, ◌++◌, ℕ, List, None};
-ghost use Rattle.star_schema.specs.Records.{records_of};
-ghost use Rattle.star_schema.specs.Tables.{IsTable};
-ghost use Rattle.star_schema.specs.declared.table.TableId.{TableId};
-ghost use Rattle.star_reader.specs.Faults.{records_fault, text_fault};
-ghost use Rattle.star_reader.specs.Pieces.{fault_from, joined_pieces, records_from};
+ghost use Rattle.star_schema.specs.{Records.records_of, Tables.IsTable, declared.table.TableId.TableId};
+ghost use Rattle.star_reader.specs.{Faults.records_fault, Faults.text_fault, Pieces.fault_from, Pieces.joined_pieces, Pieces.records_from};
 
 /// However a text is cut into pieces, in mid-record too, its records are those that end in each
 /// piece after what the pieces before left open, and at last the record that is left open; and the

@@ -3,12 +3,8 @@
 ghost use Rattle.std.specs.Prelude.{◌≡◌, ◌≢◌, ◌≤◌, ◌+◌, ◌++◌, ◌∷◌, ℕ, List, [], None, Some, IfOk, MatchBool, MatchResult, drop, filter, length, map};
 ghost use Rattle.star_common.specs.Memory.{UnlessMemory};
 ghost use Rattle.csv.specs.Records.{fields_of as fields_read};
-ghost use Rattle.star_schema.specs.Records.{fields_of, is_filled};
-ghost use Rattle.star_schema.specs.Tables.{Value};
-ghost use Rattle.star_schema.specs.declared.table.TableId.{TableId};
-ghost use Rattle.star_reader.specs.Columns.{raw_kind};
-ghost use Rattle.star_reader.specs.Faults.{record_fault, records_fault};
-ghost use Rattle.star_reader.specs.Private.Steps.{AddsRecord, HasAdded};
+ghost use Rattle.star_schema.specs.{Records.fields_of, Records.is_filled, Tables.Value, declared.table.TableId.TableId};
+ghost use Rattle.star_reader.specs.{Columns.raw_kind, Faults.record_fault, Faults.records_fault, Private.Steps.AddsRecord, Private.Steps.HasAdded};
 
 use crate::column::RawColumn;
 use crate::fault::ReadFault;

@@ -1,10 +1,8 @@
 // The line that a piece of a text leaves open.
 
 ghost use Rattle.std.specs.Prelude.{◌≡◌, ◌⊎◌, ◌<◌, ◌≤◌, ◌++◌, ◌∷◌, ℕ, List, [], OnOk, false, length};
-ghost use Rattle.star_schema.specs.Records.{is_bar};
-ghost use Rattle.star_schema.specs.declared.column.Kind.{Kind};
-ghost use Rattle.star_reader.specs.Carried.{StandsFor};
-ghost use Rattle.star_reader.specs.Private.Open.{HasKeptByte};
+ghost use Rattle.star_schema.specs.{Records.is_bar, declared.column.Kind.Kind};
+ghost use Rattle.star_reader.specs.{Carried.StandsFor, Private.Open.HasKeptByte};
 
 use std::alloc::{AllocError, Global};
 

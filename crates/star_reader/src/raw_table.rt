@@ -1,15 +1,11 @@
 // A table as it was read.
 
 ghost use Rattle.std.specs.Prelude.{◌≡◌, ◌<◌, ◌∷◌, ℕ, [], Some, IfOk, IfErr, length, map, slice_get};
-ghost use Rattle.std.specs.Option.{option_map};
+ghost use Rattle.std.specs.{Option.option_map};
 ghost use Rattle.star_common.specs.Memory.{UnlessMemory};
-ghost use Rattle.star_schema.specs.Bounds.{numbers_at};
-ghost use Rattle.star_schema.specs.Schema.{kinds_of};
-ghost use Rattle.star_schema.specs.declared.table.TableId.{TableId};
 ghost use Rattle.star_schema.specs.Tables.{IsTable, Number, Text, rows_of, value_at};
-ghost use Rattle.star_schema.specs.Texts.{texts_at};
-ghost use Rattle.star_reader.specs.Columns.{AreColumnsOf, first_rows, values};
-ghost use Rattle.star_reader.specs.Faults.{text_fault};
+ghost use Rattle.star_schema.specs.{Bounds.numbers_at, Schema.kinds_of, declared.table.TableId.TableId, Texts.texts_at};
+ghost use Rattle.star_reader.specs.{Columns.AreColumnsOf, Columns.first_rows, Columns.values, Faults.text_fault};
 
 use crate::column::RawColumn;
 use crate::fault::ReadFault;

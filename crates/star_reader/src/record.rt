@@ -1,13 +1,11 @@
 // One record of a table.
 
 ghost use Rattle.std.specs.Prelude.{◌≡◌, ◌≤◌, None, Some, length, map, slice_get, MatchResult};
-ghost use Rattle.std.specs.Option.{option_copied};
+ghost use Rattle.std.specs.{Option.option_copied};
 ghost use Rattle.star_common.specs.Memory.{UnlessMemory};
 ghost use Rattle.csv.specs.Records.{fields_of as fields_read};
+ghost use Rattle.star_reader.specs.{Columns.raw_kind, Columns.values, Faults.record_fault, Private.Extended.extended_columns};
 ghost use Rattle.star_schema.specs.Tables as spec;
-ghost use Rattle.star_reader.specs.Columns.{raw_kind, values};
-ghost use Rattle.star_reader.specs.Faults.{record_fault};
-ghost use Rattle.star_reader.specs.Private.Extended.{extended_columns};
 
 use crate::column::RawColumn;
 use crate::fault::ReadFault;

@@ -3,14 +3,8 @@
 ghost use Rattle.std.specs.Prelude.{◌≡◌, ◌≤◌, ◌+◌, ◌++◌, ℕ, List, [], None, Some, MatchResult, filter, length, map};
 ghost use Rattle.star_common.specs.Memory.{UnlessMemory};
 ghost use Rattle.csv.specs.Records.{fields_of as fields_read};
-ghost use Rattle.star_schema.specs.Records.{is_filled, records_of};
-ghost use Rattle.star_schema.specs.Tables.{Value};
-ghost use Rattle.star_schema.specs.declared.table.TableId.{TableId};
-ghost use Rattle.star_reader.specs.Columns.{AreColumnsOf, first_rows, values};
-ghost use Rattle.star_reader.specs.Faults.{records_fault};
-ghost use Rattle.star_reader.specs.Private.Cut.{IsBegun};
-ghost use Rattle.star_reader.specs.Private.Lines.{HasLeft};
-ghost use Rattle.star_reader.specs.Private.Steps.{HasAdded, HasRows};
+ghost use Rattle.star_schema.specs.{Records.is_filled, Records.records_of, Tables.Value, declared.table.TableId.TableId};
+ghost use Rattle.star_reader.specs.{Columns.AreColumnsOf, Columns.first_rows, Columns.values, Faults.records_fault, Private.Cut.IsBegun, Private.Lines.HasLeft, Private.Steps.HasAdded, Private.Steps.HasRows};
 
 use crate::column::RawColumn;
 use crate::fault::ReadFault;

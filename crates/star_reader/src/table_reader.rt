@@ -2,10 +2,8 @@
 
 ghost use Rattle.std.specs.Prelude.{◌≡◌, ◌<◌, ◌++◌, ◌∷◌, ℕ, List, [], IfErr, IfOk, Some, length, map, slice_get};
 ghost use Rattle.star_common.specs.Memory.{UnlessMemory};
-ghost use Rattle.star_schema.specs.Tables.{IsTable, rows_of};
-ghost use Rattle.star_reader.specs.Columns.{AreColumnsOf};
-ghost use Rattle.star_reader.specs.Faults.{text_fault};
-ghost use Rattle.star_schema.specs.declared.table.TableId.{TableId};
+ghost use Rattle.star_schema.specs.{Tables.IsTable, Tables.rows_of, declared.table.TableId.TableId};
+ghost use Rattle.star_reader.specs.{Columns.AreColumnsOf, Faults.text_fault};
 
 use crate::column::RawColumn;
 use crate::fault::ReadFault;

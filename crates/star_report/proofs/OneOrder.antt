@@ -1,16 +1,15 @@
 -- Rows that are in order are so in one way, and so a run has one outcome.
 use Rattle.std.proofs.Common.{◌≡◌, ◌∙◌, ℕ, zero, suc, true≢false, List, [], ◌∷◌, Option, Some, None, ap, arith, get_or, map, refl, subst, sym}
-use Rattle.std.specs.{Cmp.Lexicographic.slice_cmp, List.AllByRecursion, List.Contains, List.Sorted.IsStrictlySortedBy, Ordering.is_lt, Ordering.ordering_reverse, Ordering.ordering_then}
-use Rattle.std.specs.declared.cmp.Ordering.{Ordering, TheVariants.Less, TheVariants.Equal, TheVariants.Greater}
-use Rattle.std.proofs.lemmas.Cmp.{int_cmp_total, lists_total, nat_cmp_total}
+use Rattle.std.proofs.{lemmas.Cmp.int_cmp_total, lemmas.Cmp.lists_total, lemmas.Cmp.nat_cmp_total}
+use Rattle.std.specs.{Cmp.Lexicographic.slice_cmp, List.AllByRecursion, List.Contains, List.Sorted.IsStrictlySortedBy, Ordering.is_lt, Ordering.ordering_reverse, Ordering.ordering_then, declared.cmp.Ordering.Ordering, declared.cmp.Ordering.TheVariants.Less}
+use Rattle.std.specs.{declared.cmp.Ordering.TheVariants.Equal, declared.cmp.Ordering.TheVariants.Greater}
 use Rattle.star_common.proofs.Members.{at_each, contains_here, contains_later, contains_mapped, from_contains_map}
-use Rattle.star_schema.specs.declared.group.{Aggregate.Aggregate, GroupColumn.GroupColumn, Direction.Direction, Direction.TheVariants.Ascending, Direction.TheVariants.Descending, Shape.Shape, SortKey.SortKey}
-use Rattle.star_schema.specs.declared.group.GroupColumn.TheVariants as column
 use Rattle.star_schema.specs.Groups.{AreGroups, Entry, GroupRow, members, totals_of}
 use Rattle.star_schema.specs.Order.{column_cmp, key_cmp, row_cmp, sort_cmp, total_cmp, value_cmp}
-use Rattle.star_schema.specs.Tables.{Value, Number, Text}
-use Rattle.star_program.specs.declared.{group.GroupDecl.GroupDecl, outcome.Outcome.Outcome, program.Parts.Parts}
-use Rattle.star_program.specs.{Effects.State, Faults.group_at, Outcome.AreReportRows, Outcome.IsOutcome, Outcome.decoded_row, Outcome.shown_cells, Puts.Update, World.World}
+use Rattle.star_schema.specs.{declared.group.Aggregate.Aggregate, declared.group.GroupColumn.GroupColumn, declared.group.Direction.Direction, declared.group.Direction.TheVariants.Ascending, declared.group.Direction.TheVariants.Descending, declared.group.Shape.Shape}
+use Rattle.star_schema.specs.{declared.group.SortKey.SortKey, Tables.Value, Tables.Number, Tables.Text}
+use Rattle.star_program.specs.{declared.group.GroupDecl.GroupDecl, declared.outcome.Outcome.Outcome, declared.program.Parts.Parts, Effects.State, Faults.group_at, Outcome.AreReportRows, Outcome.IsOutcome, Outcome.decoded_row, Outcome.shown_cells, Puts.Update, World.World}
+use Rattle.star_schema.specs.declared.group.GroupColumn.TheVariants as column
 
 -- ---- the order of rows, turned round
 

@@ -1,16 +1,9 @@
 //! Laws of printed reports: functions with empty bodies, whose clauses are the laws.
 
 ghost use Rattle.std.specs.Prelude.{◌≡◌, ℕ, List, All};
-ghost use Rattle.star_schema.specs.declared.table.TableId.{TableId};
-ghost use Rattle.star_schema.specs.Tables.{rows_of};
-ghost use Rattle.star_program.specs.declared.outcome.Cell.{Cell};
-ghost use Rattle.star_program.specs.declared.outcome.Outcome.{Outcome};
-ghost use Rattle.star_program.specs.declared.program.Parts.{Parts};
-ghost use Rattle.star_program.specs.Effects.{State};
-ghost use Rattle.star_program.specs.Outcome.{IsOutcome};
-ghost use Rattle.star_program.specs.World.{World};
-ghost use Rattle.star_report.specs.Report.{report_text};
-ghost use Rattle.star_report.specs.Columns.{ColumnKind, AreRowsOf, IsFieldValue};
+ghost use Rattle.star_schema.specs.{declared.table.TableId.TableId, Tables.rows_of};
+ghost use Rattle.star_program.specs.{declared.outcome.Cell.Cell, declared.outcome.Outcome.Outcome, declared.program.Parts.Parts, Effects.State, Outcome.IsOutcome, World.World};
+ghost use Rattle.star_report.specs.{Report.report_text, Columns.ColumnKind, Columns.AreRowsOf, Columns.IsFieldValue};
 
 // The numbers of these rows have at most 64 digits (`AreRowsOf`): for longer ones the toolchain
 // does not say what is printed.

@@ -1,10 +1,8 @@
 -- Numbers of 64 bits in a program, and bounds of 64 bits of its columns.
-use Rattle.std.specs.Prelude.{◌≡◌, FitsSigned, false}
-use Rattle.std.specs.Int.{w64}
+use Rattle.std.specs.{Prelude.◌≡◌, Prelude.FitsSigned, Prelude.false, Int.w64}
 use Rattle.star_schema.specs.declared.column.ColumnId.{ColumnId}
 use Rattle.star_interval.specs.Range.{FitsI64}
-use Rattle.star_program.specs.declared.{op.Op.Op, op.Op.TheVariants.Assign, op.Operation.TheVariants.Const, op.Operation.TheVariants.Read, program.Parts.Parts}
-use Rattle.star_program.specs.{Code.Code, Code.Stop, Code.Then, Code.Each, World.World, World.is_text}
+use Rattle.star_program.specs.{declared.op.Op.Op, declared.op.Op.TheVariants.Assign, declared.op.Operation.TheVariants.Const, declared.op.Operation.TheVariants.Read, declared.program.Parts.Parts, Code.Code, Code.Stop, Code.Then, Code.Each, World.World, World.is_text}
 
 -- a constant, or the default of a read, has 64 bits
 abbrev pub NamesI64 : Op → Type 0

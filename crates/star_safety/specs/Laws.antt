@@ -1,10 +1,8 @@
 -- What acceptance by the verifier implies.
 use Rattle.std.specs.Prelude.{◌≡◌, ℕ, ◌^◌, ◌≤◌, ◌<◌, ℤ, List, length, Option, Some, None, slice_index_or}
-use Rattle.star_schema.specs.declared.group.Aggregate.TheVariants.{Sum, Count}
-use Rattle.star_schema.specs.Groups.{members, aggregate, numbers_for}
+use Rattle.star_schema.specs.{declared.group.Aggregate.TheVariants.Sum, declared.group.Aggregate.TheVariants.Count, Groups.members, Groups.aggregate, Groups.numbers_for}
 use Rattle.star_interval.specs.Range.{Range, Holds, FitsI128}
-use Rattle.star_program.specs.declared.{key.KeyValue.KeyValue, program.Parts.Parts}
-use Rattle.star_program.specs.{Limits.IsWithinLimits, World.World, World.IsLoaded, Keys.key_value_cmp, Faults.group_at, Effects.State, Run.End, Run.EndsWith}
+use Rattle.star_program.specs.{declared.key.KeyValue.KeyValue, declared.program.Parts.Parts, Limits.IsWithinLimits, World.World, World.IsLoaded, Keys.key_value_cmp, Faults.group_at, Effects.State, Run.End, Run.EndsWith}
 use Rattle.star_safety.specs.{Tallies.sum_range, Tallies.most_of, Tallies.aggregate_range, Quote.quote, Admissible.IsAdmissible, Moments.all_shares}
 
 -- a program is admissible over a loaded catalogue, and its quote does not exceed the maximum of any

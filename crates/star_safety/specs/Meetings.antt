@@ -1,7 +1,6 @@
 -- How often the instructions of a program are executed.
 use Rattle.std.specs.Prelude.{◌≡◌, ◌≤◌, true, false}
-use Rattle.star_program.specs.declared.program.Parts.{Parts}
-use Rattle.star_program.specs.World.{World}
+use Rattle.star_program.specs.{declared.program.Parts.Parts, World.World}
 use Rattle.star_safety.specs.{Quote.quote, Standing.Standing}
 
 -- in a scan at most as often as the quote says, elsewhere at most once

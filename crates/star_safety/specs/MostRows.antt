@@ -2,11 +2,9 @@
 -- 3: the groupings of CUBE and ROLLUP).
 use Rattle.std.specs.Prelude.{ℕ, suc, ◌*◌, ℤ, pos, negsuc, ◌-ℤ◌, nat_le, List, [], ◌∷◌, filter, Option, Some, None, if◌then◌else◌}
 use Rattle.std.specs.{List.list_all, List.sum_by, Option.is_none}
-use Rattle.star_schema.specs.declared.group.Shape.{Shape}
-use Rattle.star_schema.specs.Groups.{is_grouping}
+use Rattle.star_schema.specs.{declared.group.Shape.Shape, Groups.is_grouping}
 use Rattle.star_interval.specs.Range.{Range}
-use Rattle.star_program.specs.declared.{group.GroupKey.GroupKey, group.GroupKey.TheVariants.Number, group.GroupKey.TheVariants.Text, program.Parts.Parts}
-use Rattle.star_program.specs.{Faults.group_at, Puts.masks, World.World, World.is_text}
+use Rattle.star_program.specs.{declared.group.GroupKey.GroupKey, declared.group.GroupKey.TheVariants.Number, declared.group.GroupKey.TheVariants.Text, declared.program.Parts.Parts, Faults.group_at, Puts.masks, World.World, World.is_text}
 use Rattle.star_safety.specs.{Tallies.Share, Tallies.Shares, Tallies.most_of, Tallies.hull_of, Contexts.at_first, Contexts.at_end}
 
 -- ---- the values of a key

@@ -1,8 +1,7 @@
 -- The quote: how many rows a program visits at most.
 use Rattle.std.specs.Prelude.{ℕ, ◌+◌, ◌*◌}
 use Rattle.star_schema.specs.declared.table.TableId.{TableId}
-use Rattle.star_program.specs.declared.program.Parts.{Parts}
-use Rattle.star_program.specs.Code.{Code, Stop, Then, Each}
+use Rattle.star_program.specs.{declared.program.Parts.Parts, Code.Code, Code.Stop, Code.Then, Code.Each}
 
 -- the visits of code that is executed `times` times: for each scan the product of its row count and
 -- of those of the enclosing scans

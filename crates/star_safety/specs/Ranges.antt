@@ -1,10 +1,9 @@
 -- Register facts: the kind of a register, and the range of a number.
 use Rattle.std.specs.Prelude.{ℕ, ℤ, pos, ◌+ℤ◌, ◌-ℤ◌, ◌*ℤ◌, Bool, true, false, ◌||◌, Option, Some, None}
-use Rattle.std.specs.Option.{option_map}
-use Rattle.star_schema.specs.declared.{table.TableId.TableId, column.ColumnId.ColumnId}
+use Rattle.std.specs.{Option.option_map}
+use Rattle.star_schema.specs.{declared.table.TableId.TableId, declared.column.ColumnId.ColumnId}
 use Rattle.star_interval.specs.Range.{Range, only, corner_range}
-use Rattle.star_program.specs.declared.{op.Operator.Operator, op.Operator.TheVariants.Add, op.Operator.TheVariants.Sub, op.Operator.TheVariants.Mul, value.Kind.Kind}
-use Rattle.star_program.specs.{World.World, World.is_column, Faults.Kinds}
+use Rattle.star_program.specs.{declared.op.Operator.Operator, declared.op.Operator.TheVariants.Add, declared.op.Operator.TheVariants.Sub, declared.op.Operator.TheVariants.Mul, declared.value.Kind.Kind, World.World, World.is_column, Faults.Kinds}
 use Rattle.star_program.specs.declared.value.Kind.TheVariants as kind
 use Rattle.star_program.specs.declared.value.Kind.TheVariants as kind
 

@@ -2,10 +2,9 @@
 use Rattle.std.specs.Prelude.{◌++◌, ℕ, List, [], ◌∷◌, codes, decimal, flat_map}
 use Rattle.star_interval.specs.Range.{text_of}
 use Rattle.star_schema.specs.Schema.{column_name}
-use Rattle.star_program.specs.declared.fault.Fault.{Fault}
 use Rattle.star_program.specs.declared.fault.Fault.TheVariants.{BadRegister, WrittenTwice, Unset, WrongKind, BadColumn, BadGroup, Misplaced}
-use Rattle.star_program.specs.TrapTexts.{wrong_text}
-use Rattle.star_safety.specs.declared.reason.{Reached.Reached, Reason.Reason, Reason.TheVariants.Faulty, Reason.TheVariants.NotAForeignKey, Reason.TheVariants.OpenGroup, Reason.TheVariants.Overflow}
+use Rattle.star_program.specs.{declared.fault.Fault.Fault, TrapTexts.wrong_text}
+use Rattle.star_safety.specs.{declared.reason.Reached.Reached, declared.reason.Reason.Reason, declared.reason.Reason.TheVariants.Faulty, declared.reason.Reason.TheVariants.NotAForeignKey, declared.reason.Reason.TheVariants.OpenGroup, declared.reason.Reason.TheVariants.Overflow}
 
 abbrev pub fault_number : Fault → ℕ
 fault_number BadRegister = 60

@@ -1,14 +1,12 @@
 -- The instructions of a program by number, each in its context, with the reason to refuse it there;
 -- also the end of each body.
 use Rattle.std.specs.Prelude.{ℕ, ◌+◌, Bool, false, ◌&&◌, ◌||◌, nat_eq, nat_lt, List, [], ◌∷◌, ◌++◌, Option, Some, None}
-use Rattle.std.specs.List.{list_any}
+use Rattle.std.specs.{List.list_any}
 use Rattle.star_schema.specs.declared.table.TableId.{TableId}
-use Rattle.star_program.specs.declared.{op.Op.Op, op.Op.TheVariants.Put, program.Parts.Parts}
 use Rattle.star_program.specs.Code.{Code, Stop, Then, Each, code_size}
-use Rattle.star_program.specs.World.{World}
+use Rattle.star_program.specs.{declared.op.Op.Op, declared.op.Op.TheVariants.Put, declared.program.Parts.Parts, World.World}
 use Rattle.star_safety.specs.Contexts.{Context, at_first, after_op, in_scan, after_scan, at_end}
-use Rattle.star_safety.specs.declared.reason.Reason.{Reason}
-use Rattle.star_safety.specs.Refusals.{op_reason, scan_reason}
+use Rattle.star_safety.specs.{declared.reason.Reason.Reason, Refusals.op_reason, Refusals.scan_reason}
 
 pub data CodeItem : Type 0 where
   -- a scan of a table into a register

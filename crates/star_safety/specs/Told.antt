@@ -1,11 +1,10 @@
 -- The context of an instruction from its enclosing scans and the instructions before it.
 use Rattle.std.specs.Prelude.{◌≡◌, ℕ, ◌+◌, ◌*◌, Bool, true, false, ◌&&◌, nat_lt, List, [], ◌∷◌, ◌++◌, length, filter, fold, Option, Some, None}
 use Rattle.std.specs.{List.last_or, List.list_all, List.list_any, Option.option_map}
-use Rattle.star_program.specs.declared.program.Parts.{Parts}
-use Rattle.star_program.specs.{World.World, Faults.target_of}
-use Rattle.star_safety.specs.{Ranges.Known, Ranges.KnownRow, Ranges.KnownFlag, Tallies.Shares, Tallies.no_shares}
+use Rattle.star_program.specs.{declared.program.Parts.Parts, World.World, Faults.target_of}
 use Rattle.star_safety.specs.Contexts.{Context, op_shares, op_key_shares, result_known, is_target}
 use Rattle.star_safety.specs.Standing.{CodeItem, Scan, Act, BodyEnd, Enclosing, Standing, instructions_of, has_scan}
+use Rattle.star_safety.specs.{Ranges.Known, Ranges.KnownRow, Ranges.KnownFlag, Tallies.Shares, Tallies.no_shares}
 
 -- ---- each instruction
 

@@ -1,41 +1,17 @@
 //! Laws of accepted programs: functions with empty bodies, whose clauses are the laws.
 
-ghost use Rattle.std.specs.List.{last_or, sum_by};
-ghost use Rattle.std.specs.Option.{option_map};
 ghost use Rattle.std.specs.Prelude.{◌≡◌, ◌↔◌, ◌≤◌, ◌<◌, ◌^◌, ◌∷◌, ℕ, ℤ, All, List, None, Option, Some, length, true};
+ghost use Rattle.std.specs.{List.last_or, List.sum_by, Option.option_map};
 ghost use Rattle.star_common.specs.First.{first_answer};
-ghost use Rattle.star_schema.specs.declared.table.TableId.{TableId};
-ghost use Rattle.star_schema.specs.declared.column.ColumnId.{ColumnId};
+ghost use Rattle.star_schema.specs.{declared.table.TableId.TableId, declared.column.ColumnId.ColumnId};
 ghost use Rattle.star_interval.specs.Range.{FitsI64, FitsI128, Range};
-ghost use Rattle.star_program.specs.declared.op.Op.TheVariants.{Put};
-ghost use Rattle.star_program.specs.declared.program.Parts.{Parts};
-ghost use Rattle.star_program.specs.Code.{Code, Then};
-ghost use Rattle.star_program.specs.Effects.{GoesOn, State, act, update_of};
-ghost use Rattle.star_program.specs.Faults.{group_at, is_number_kind};
-ghost use Rattle.star_program.specs.Limits.{IsWithinLimits};
-ghost use Rattle.star_program.specs.Outcome.{IsOutcome};
-ghost use Rattle.star_program.specs.declared.outcome.Outcome.{Outcome};
-ghost use Rattle.star_program.specs.Reads.{IsTaken};
-ghost use Rattle.star_program.specs.Run.{EndsWith, bounded_run_of, meaning_of, run_of};
-ghost use Rattle.star_program.specs.Values.{Registers};
-ghost use Rattle.star_program.specs.World.{World};
+ghost use Rattle.star_program.specs.{declared.op.Op.TheVariants.Put, declared.program.Parts.Parts, Code.Code, Code.Then, Effects.GoesOn, Effects.State, Effects.act, Effects.update_of, Faults.group_at, Faults.is_number_kind, Limits.IsWithinLimits, Outcome.IsOutcome};
+ghost use Rattle.star_program.specs.{declared.outcome.Outcome.Outcome, Reads.IsTaken, Run.EndsWith, Run.bounded_run_of, Run.meaning_of, Run.run_of, Values.Registers, World.World};
 ghost use Rattle.star_group.specs.Stores.{HasRoom, group_declared};
-ghost use Rattle.star_safety.specs.Admissible.{IsAdmissible, Refused, TooCostly, first_refusal};
-ghost use Rattle.star_safety.specs.Bounds.{AreI64};
-ghost use Rattle.star_safety.specs.Contexts.{Context, at_end, at_first};
-ghost use Rattle.star_safety.specs.Laws.{EndsWithin, IsAccepted, SumsFit, TotalsLie};
-ghost use Rattle.star_safety.specs.Meetings.{IsMetWithinQuote};
 ghost use Rattle.star_safety.specs.Moments.{AtEveryMoment, HoldsFrom, IsMet, IsMetFrom, Moment, StandsIn, moment};
-ghost use Rattle.star_safety.specs.MostRows.{most_report_rows};
-ghost use Rattle.star_safety.specs.Quote.{quote};
-ghost use Rattle.star_safety.specs.Private.Forward.{first_reason, none_open};
-ghost use Rattle.star_safety.specs.Private.Throughout.{HoldsThroughout};
-ghost use Rattle.star_safety.specs.declared.reason.Reached.{Reached};
-ghost use Rattle.star_safety.specs.declared.reason.Reason.TheVariants.{Overflow};
-ghost use Rattle.star_safety.specs.Ranges.{Known, KnownNumber, Reach, known_kind};
-ghost use Rattle.star_safety.specs.Standing.{instructions_of, reason_of};
-ghost use Rattle.star_safety.specs.Tallies.{Shares};
-ghost use Rattle.star_safety.specs.Told.{AreTold, turns_of};
+ghost use Rattle.star_safety.specs.{Admissible.IsAdmissible, Admissible.Refused, Admissible.TooCostly, Admissible.first_refusal, Bounds.AreI64, Contexts.Context, Contexts.at_end, Contexts.at_first, Laws.EndsWithin, Laws.IsAccepted, Laws.SumsFit, Laws.TotalsLie, Meetings.IsMetWithinQuote};
+ghost use Rattle.star_safety.specs.{MostRows.most_report_rows, Quote.quote, Private.Forward.first_reason, Private.Forward.none_open, Private.Throughout.HoldsThroughout, declared.reason.Reached.Reached, declared.reason.Reason.TheVariants.Overflow, Ranges.Known, Ranges.KnownNumber};
+ghost use Rattle.star_safety.specs.{Ranges.Reach, Ranges.known_kind, Standing.instructions_of, Standing.reason_of, Tallies.Shares, Told.AreTold, Told.turns_of};
 
 /// States that an admissible program runs to its end without a trap over any loaded catalogue.
 ///

@@ -1,7 +1,6 @@
 // Why an instruction is refused, and the printed form of the reason.
 
-ghost use Rattle.std.specs.Prelude.{◌≡◌, Some};
-ghost use Rattle.std.specs.Fmt.{DisplaysOnOk};
+ghost use Rattle.std.specs.{Prelude.◌≡◌, Prelude.Some, Fmt.DisplaysOnOk};
 ghost use Rattle.star_safety.specs.ReasonTexts.{bounds_text, columns_text, fault_number, others_text, reached_text, reason_text};
 
 use star_common::Items;

@@ -1,8 +1,7 @@
 -- The texts that stand before an edge of a text are the first ones of a dictionary.
 use Rattle.std.proofs.Common.{◌≡◌, ℕ, ◌<◌, Bool, true, false, List, get_or, refl, sym, ap, ◌∙◌, arith, ⊎_elim, true≢false}
-use Rattle.std.specs.List.Sorted.{IsPartitionedBy, IsStrictlySortedBy}
-use Rattle.std.specs.declared.cmp.Ordering.{Ordering, TheVariants.Less, TheVariants.Equal, TheVariants.Greater}
-use Rattle.std.proofs.lemmas.{Bool.cases_eq, Cmp.nat_list_cmp_total, Cmp.alike_right, Map.Keys.Less-from_sorted}
+use Rattle.std.proofs.{lemmas.Bool.cases_eq, lemmas.Cmp.nat_list_cmp_total, lemmas.Cmp.alike_right, lemmas.Map.Keys.Less-from_sorted}
+use Rattle.std.specs.{List.Sorted.IsPartitionedBy, List.Sorted.IsStrictlySortedBy, declared.cmp.Ordering.Ordering, declared.cmp.Ordering.TheVariants.Less, declared.cmp.Ordering.TheVariants.Equal, declared.cmp.Ordering.TheVariants.Greater}
 use Rattle.star_schema.specs.Dictionary.{text_cmp}
 
 -- an edge of a text is told by which texts stand before it, by how they compare with it: each that

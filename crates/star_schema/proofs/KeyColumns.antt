@@ -1,12 +1,11 @@
 -- The columns of keys, and those that refer to keys.
 use Rattle.std.specs.Prelude.{◌≡◌, Contains, Some, None, slice_get, refl}
-use Rattle.std.proofs.Common.{ap, ◌∙◌, lit≤}
-use Rattle.std.specs.Option.{option_map}
-use Rattle.std.proofs.lemmas.Option.{slice_get-map}
-use Rattle.star_schema.specs.declared.{table.TableId.TableId, table.TableId.TheVariants.Lineorder, table.Key.TheVariants.One, table.Key.TheVariants.Two, column.Kind.Kind, column.Kind.TheVariants.Number, column.ColumnId.ColumnId}
+use Rattle.std.specs.{Option.option_map}
+use Rattle.std.proofs.{Common.ap, Common.◌∙◌, Common.lit≤, lemmas.Option.slice_get-map}
 use Rattle.star_schema.specs.declared.column.ColumnId.TheVariants.{LoCustkey, LoPartkey, LoSuppkey, LoOrderdate, LoCommitdate}
-use Rattle.star_schema.specs.Loadable.{foreign_keys}
 use Rattle.star_schema.specs.Schema.{column_of, columns_of, key_of, kind_of, kinds_of, place_of, references, table_of}
+use Rattle.star_schema.specs.{declared.table.TableId.TableId, declared.table.TableId.TheVariants.Lineorder, declared.table.Key.TheVariants.One, declared.table.Key.TheVariants.Two, declared.column.Kind.Kind, declared.column.Kind.TheVariants.Number, declared.column.ColumnId.ColumnId}
+use Rattle.star_schema.specs.{Loadable.foreign_keys}
 use Rattle.star_schema.proofs.Places.{at_place}
 
 -- a column of numbers of a table

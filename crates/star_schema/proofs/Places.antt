@@ -1,9 +1,8 @@
 -- The places of the columns in their tables.
-use Rattle.std.specs.Prelude.{◌≡◌, ◌+◌, ◌≤◌, ℕ, zero, suc, Bool, true, false, List, [], ◌∷◌, IfSome, Some, filter, slice_get, refl}
+use Rattle.std.specs.Prelude.{◌≡◌, ◌+◌, ◌≤◌, ℕ, zero, suc, Bool, true, false, List, [], ◌∷◌, IfSome, Some, filter, slice_get, refl, Option}
 use Rattle.std.proofs.Common.{subst, sym, lit≤}
-use Rattle.std.specs.Prelude.{Option}
-use Rattle.star_schema.specs.declared.{table.TableId.TableId, table.TableId.TheVariants.Date, column.ColumnId.ColumnId, column.ColumnId.TheVariants.DDatekey, column.TheConstants.COLUMNS}
 use Rattle.star_schema.specs.Schema.{column_of, columns_of, index_of, is_table, place_of, table_of, width_of}
+use Rattle.star_schema.specs.{declared.table.TableId.TableId, declared.table.TableId.TheVariants.Date, declared.column.ColumnId.ColumnId, declared.column.ColumnId.TheVariants.DDatekey, declared.column.TheConstants.COLUMNS}
 use Rattle.star_schema.proofs.Same.{table_same}
 
 after_first : (c : ColumnId)

@@ -1,8 +1,7 @@
 -- The bounds of a column of numbers (this project's profile).
 use Rattle.std.specs.Prelude.{ℕ, ℤ, List, [], ◌∷◌, Option, Some, fold, map, pos, slice_get}
-use Rattle.std.specs.Int.{int_max, int_min}
-use Rattle.star_schema.specs.declared.column.ColumnId.{ColumnId}
-use Rattle.star_schema.specs.{Schema.place_of, Tables.Value, Tables.Number}
+use Rattle.std.specs.{Int.int_max, Int.int_min}
+use Rattle.star_schema.specs.{declared.column.ColumnId.ColumnId, Schema.place_of, Tables.Value, Tables.Number}
 
 -- the least of some numbers, 0 if there are none
 unfoldable pub least : List ℤ → ℤ

@@ -1,7 +1,6 @@
 -- The texts of a text column.
 use Rattle.std.specs.Prelude.{ℕ, List, [], Option, Some, map, slice_get}
-use Rattle.star_schema.specs.declared.column.ColumnId.{ColumnId}
-use Rattle.star_schema.specs.{Schema.place_of, Tables.Value, Tables.Text}
+use Rattle.star_schema.specs.{declared.column.ColumnId.ColumnId, Schema.place_of, Tables.Value, Tables.Text}
 
 abbrev pub text_in : Option Value → List ℕ
 text_in (Some (Text bytes)) = bytes

@@ -2,11 +2,8 @@
 // column of each table. The definition `column_of` says the same for contracts.
 
 ghost use Rattle.std.specs.Prelude.{◌≡◌, ◌↔◌, ◌-◌, ◌<◌, Some, IsTrue, slice_get};
-ghost use Rattle.star_schema.specs.declared.column.ColumnId.{ColumnId};
+ghost use Rattle.star_schema.specs.{declared.column.ColumnId.ColumnId, Words.named, declared.column.TheConstants.COLUMNS, Private.Describes.Describes};
 ghost use Rattle.star_schema.specs.Schema as spec;
-ghost use Rattle.star_schema.specs.Words.{named};
-ghost use Rattle.star_schema.specs.declared.column.TheConstants.{COLUMNS};
-ghost use Rattle.star_schema.specs.Private.Describes.{Describes};
 
 use crate::name::{Named, first_named};
 use crate::table::{TableId, column_at};

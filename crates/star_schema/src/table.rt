@@ -1,10 +1,8 @@
 // The five tables: their columns and keys.
 
 ghost use Rattle.std.specs.Prelude.{◌≡◌, ◌≤◌, ◌<◌, ◌↔◌, Some, length, slice_get};
-ghost use Rattle.star_schema.specs.declared.table.TableId.{TableId};
+ghost use Rattle.star_schema.specs.{declared.table.TableId.TableId, Words.named, declared.table.TheConstants.TABLES};
 ghost use Rattle.star_schema.specs.Schema as spec;
-ghost use Rattle.star_schema.specs.Words.{named};
-ghost use Rattle.star_schema.specs.declared.table.TheConstants.{TABLES};
 
 use crate::column::{COLUMNS, ColumnId};
 use crate::name::{Named, first_named};

@@ -1,16 +1,12 @@
 -- A session that is under way, from its first statement to its end.
 use Rattle.std.proofs.Common.{◌≡◌, ◌++◌, ◌+◌, ◌-◌, ◌^◌, ◌<◌, ◌≤◌, ℕ, List, [], ◌∷◌, Bool, true, false, Option, arith, inl, inr, length, refl, subst, sym}
+use Rattle.std.proofs.{lemmas.List.length-append}
 use Rattle.std.specs.Prelude.{Err}
-use Rattle.std.proofs.lemmas.List.{length-append}
-use Rattle.star_engine.specs.Answered.{Change}
-use Rattle.star_engine.specs.Loads.{Loaded}
-use Rattle.star_statements.specs.Sources.{IsPastCounting}
-use Rattle.star_statements.specs.declared.sources.ReadFault.TheVariants.{Failed as ReadFailed, OutOfMemory as ReadMemory}
+use Rattle.star_engine.specs.{Answered.Change, Loads.Loaded}
+use Rattle.star_statements.specs.{Sources.IsPastCounting, declared.sources.ReadFault.TheVariants.Failed as ReadFailed, declared.sources.ReadFault.TheVariants.OutOfMemory as ReadMemory}
 use Rattle.star_statements.proofs.DraftLemmas.{consumed_both}
 use Rattle.star_service.specs.Sessions.{AreAllAnswered, AreAnswered, IsConversed, IsStatementUnread, IsUnwritten}
-use Rattle.star_service.specs.declared.sessions.Stop.{Stop}
-use Rattle.star_service.specs.declared.sessions.Stop.TheVariants.{Unread, Unwritten}
-use Rattle.star_service.specs.Private.Turns.{IsPrompted, IsStatementAnswered, IsTurn}
+use Rattle.star_service.specs.{declared.sessions.Stop.Stop, declared.sessions.Stop.TheVariants.Unread, declared.sessions.Stop.TheVariants.Unwritten, Private.Turns.IsPrompted, Private.Turns.IsStatementAnswered, Private.Turns.IsTurn}
 use Rattle.star_service.proofs.SessionLemmas.{all_answered, answered_more, none_answered}
 
 -- statements were answered, one after another, which have at least `many` bytes

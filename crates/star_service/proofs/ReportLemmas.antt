@@ -1,21 +1,13 @@
 -- Reports of files, one after another.
 use Rattle.std.proofs.Common.{◌≡◌, ◌∙◌, ◌++◌, ◌+◌, ◌<◌, ◌&&◌, ℕ, suc, List, [], ◌∷◌, Bool, true, false, Option, Some, None, ap, drop, get_or, inl, inr, length, refl, subst, sym, take}
+use Rattle.std.proofs.{Math.Bool.and-true, Math.Bool.and_assoc, Math.Seq.drop-cons, lemmas.List.take-append-drop, lemmas.List.take_more}
 use Rattle.std.specs.Prelude.{Result, Ok, Err}
-use Rattle.std.proofs.Math.Bool.{and-true, and_assoc}
-use Rattle.std.proofs.Math.Seq.{drop-cons}
-use Rattle.std.proofs.lemmas.List.{take-append-drop, take_more}
-use Rattle.star_engine.specs.declared.fault.EngineFault.{EngineFault}
-use Rattle.star_engine.specs.declared.fault.EngineFault.TheVariants as engine
-use Rattle.star_engine.specs.Answered.{Change, HasGained, OrMemory}
-use Rattle.star_engine.specs.Loads.{Loaded}
-use Rattle.star_engine.specs.Noted.{Telling}
-use Rattle.star_engine.specs.Tellings.{IsFileToldOver, IsJudgedOver, IsUnjudgedOver}
+use Rattle.star_engine.specs.{declared.fault.EngineFault.EngineFault, Answered.Change, Answered.HasGained, Answered.OrMemory, Loads.Loaded, Noted.Telling, Tellings.IsFileToldOver, Tellings.IsJudgedOver, Tellings.IsUnjudgedOver}
 use Rattle.star_service.specs.Reports.{AreDelivered, AreJudged, IsDelivered, IsDue, IsHalted, IsJudged, IsJudgingHalted, named_line, refused_line, told_line}
-use Rattle.star_service.specs.Private.ReportSteps.{IsKeptAndTold, IsLineWritten, IsRefusalTold}
 use Rattle.star_service.specs.Shelves.{HasKept, HasKeptNone, KeepsAll, Kept, Shelving, shelving}
-use Rattle.star_service.specs.declared.reports.Errand.{Errand}
-use Rattle.star_service.specs.declared.reports.Halt.{Halt}
-use Rattle.star_service.specs.declared.reports.Halt.TheVariants.{OutOfMemory, Unkept, Unwritten}
+use Rattle.star_service.specs.{Private.ReportSteps.IsKeptAndTold, Private.ReportSteps.IsLineWritten, Private.ReportSteps.IsRefusalTold, declared.reports.Errand.Errand, declared.reports.Halt.Halt, declared.reports.Halt.TheVariants.OutOfMemory, declared.reports.Halt.TheVariants.Unkept}
+use Rattle.star_service.specs.{declared.reports.Halt.TheVariants.Unwritten}
+use Rattle.star_engine.specs.declared.fault.EngineFault.TheVariants as engine
 
 keeps_self : (known : Option (List Kept)) → KeepsAll known known
 keeps_self None = tt

@@ -1,12 +1,11 @@
 -- What telling a text comes to, and the line of want of memory.
 use Rattle.std.proofs.Common.{◌≡◌, ◌<◌, ◌↔◌, ℕ, List, [], ◌∷◌, false, true, length, take, inl, inr, refl, arith}
 use Rattle.std.specs.Prelude.{Result, Ok, Err, IsOk, OnOk, OnErr, IfErr, codes}
-use Rattle.std.specs.Io.KnownBytes.{Appends}
+use Rattle.std.specs.{Io.KnownBytes.Appends}
 use Rattle.star_common.specs.declared.delivery.WriteFault.{WriteFault}
-use Rattle.star_engine.specs.Answered.{Change}
-use Rattle.star_engine.specs.FaultTexts.{engine_fault_text}
-use Rattle.star_engine.specs.declared.fault.EngineFault.TheVariants as engine
+use Rattle.star_engine.specs.{Answered.Change, FaultTexts.engine_fault_text}
 use Rattle.star_service.specs.Lines.{IsTextTold, fault_line}
+use Rattle.star_engine.specs.declared.fault.EngineFault.TheVariants as engine
 
 -- by what the one call that writes ensures
 pub told : {S : Type 0} (sink : Change S) (text : List ℕ) (result : Result (Unit {0}) WriteFault)

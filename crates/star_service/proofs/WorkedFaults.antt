@@ -4,11 +4,8 @@ use Rattle.std.proofs.lemmas.Str.{chars-encodes}
 use Rattle.std.specs.Prelude.{codes, map}
 use lib.Utf8.{encode, scalars}
 use Rattle.std.specs.Fmt.{digits}
-use Rattle.star_engine.specs.FaultTexts.{engine_fault_text}
-use Rattle.star_engine.specs.declared.fault.EngineFault.TheVariants.{OutOfMemory, Write}
-use Rattle.star_service.specs.Lines.{fault_line}
-use Rattle.star_service.specs.Reports.{named_line, told_line}
-use Rattle.star_service.specs.Names.{printed_letter, printed_name}
+use Rattle.star_engine.specs.{FaultTexts.engine_fault_text, declared.fault.EngineFault.TheVariants.OutOfMemory, declared.fault.EngineFault.TheVariants.Write}
+use Rattle.star_service.specs.{Lines.fault_line, Reports.named_line, Reports.told_line, Names.printed_letter, Names.printed_name}
 
 lines : map fault_line (OutOfMemory ∷ Write 65536 ∷ [])
     ≡ codes "memory\n" ∷ codes "write 65536\n" ∷ []

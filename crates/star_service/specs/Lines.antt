@@ -1,9 +1,7 @@
 -- The lines of faults, the exit status of each, and what a sink gains of a text that is told.
 use Rattle.std.specs.Prelude.{◌≡◌, ◌++◌, ◌⊎◌, ℕ, List, [], codes}
-use Rattle.star_engine.specs.declared.fault.EngineFault.{EngineFault}
+use Rattle.star_engine.specs.{declared.fault.EngineFault.EngineFault, Answered.Change, Answered.HasGained, Answered.HasGainedPart, Answered.IsUntouched, FaultTexts.engine_fault_text}
 use Rattle.star_engine.specs.declared.fault.EngineFault.TheVariants as engine
-use Rattle.star_engine.specs.Answered.{Change, HasGained, HasGainedPart, IsUntouched}
-use Rattle.star_engine.specs.FaultTexts.{engine_fault_text}
 
 -- of a fault of the engine
 unfoldable pub fault_line : EngineFault → List ℕ

@@ -1,16 +1,8 @@
 -- What reports of many files tell, over tables that are loaded once.
 use Rattle.std.specs.Prelude.{◌≡◌, ◌⊎◌, ◌++◌, ◌-◌, ◌&&◌, ℕ, List, [], ◌∷◌, Bool, true, false, Result, Ok, Err, codes, length, take}
-use Rattle.star_engine.specs.declared.fault.EngineFault.{EngineFault}
-use Rattle.star_engine.specs.Answered.{Change, HasGained, HasGainedPart, IsUntouched}
-use Rattle.star_engine.specs.Loads.{Loaded}
-use Rattle.star_engine.specs.Noted.{Telling}
-use Rattle.star_engine.specs.Tellings.{IsFileToldOver, IsJudgedOver, IsUnjudgedOver}
-use Rattle.star_service.specs.Lines.{fault_line}
-use Rattle.star_service.specs.Names.{printed_name}
-use Rattle.star_service.specs.Shelves.{HasFailedAt, HasKept, HasKeptNone, Shelving}
-use Rattle.star_service.specs.declared.reports.Errand.{Errand}
-use Rattle.star_service.specs.declared.reports.Halt.{Halt}
-use Rattle.star_service.specs.declared.reports.Halt.TheVariants.{OutOfMemory, Unkept, Unwritten}
+use Rattle.star_engine.specs.{declared.fault.EngineFault.EngineFault, Answered.Change, Answered.HasGained, Answered.HasGainedPart, Answered.IsUntouched, Loads.Loaded, Noted.Telling, Tellings.IsFileToldOver, Tellings.IsJudgedOver, Tellings.IsUnjudgedOver}
+use Rattle.star_service.specs.{Lines.fault_line, Names.printed_name, Shelves.HasFailedAt, Shelves.HasKept, Shelves.HasKeptNone, Shelves.Shelving, declared.reports.Errand.Errand, declared.reports.Halt.Halt, declared.reports.Halt.TheVariants.OutOfMemory}
+use Rattle.star_service.specs.{declared.reports.Halt.TheVariants.Unkept, declared.reports.Halt.TheVariants.Unwritten}
 
 -- ---- lines
 

@@ -1,23 +1,14 @@
 -- What a session tells: of each of its statements, and of all that a source has.
 use Rattle.std.specs.Prelude.{◌≡◌, ◌⊎◌, ◌++◌, ℕ, List, [], ◌∷◌, Bool, true, false, Option, Result, Ok, Err, codes, if◌then◌else◌}
-use Rattle.std.specs.Io.KnownBytes.{Consumes, IsAtEnd}
-use Rattle.star_query.specs.declared.fault.QueryFault.TheVariants as parsing
-use Rattle.star_engine.specs.declared.fault.EngineFault.{EngineFault}
-use Rattle.star_engine.specs.declared.fault.EngineFault.TheVariants.{Query, Write}
-use Rattle.star_engine.specs.Answered.{Change, IsAnswered, IsUntouched}
-use Rattle.star_engine.specs.Loads.{Loaded}
-use Rattle.star_engine.specs.Noted.{IsNoted}
+use Rattle.std.specs.{Io.KnownBytes.Consumes, Io.KnownBytes.IsAtEnd}
 use Rattle.star_engine.specs.Queries.{IsExplained, IsNoQuery, IsQueryQuoteOver, IsQueryToldOver, IsUnansweredOver}
-use Rattle.star_engine.specs.QuoteTexts.{IsQuoteTextOver, IsUnquotedOver}
-use Rattle.star_statements.specs.Questions.{asked_by}
-use Rattle.star_statements.specs.Sources.{IsPastCounting, IsStatementRead}
-use Rattle.star_statements.specs.Statements.{statements_of}
-use Rattle.star_statements.specs.declared.questions.Question.{Question}
+use Rattle.star_engine.specs.{declared.fault.EngineFault.EngineFault, declared.fault.EngineFault.TheVariants.Query, declared.fault.EngineFault.TheVariants.Write, Answered.Change, Answered.IsAnswered, Answered.IsUntouched, Loads.Loaded, Noted.IsNoted, QuoteTexts.IsQuoteTextOver}
+use Rattle.star_engine.specs.{QuoteTexts.IsUnquotedOver}
+use Rattle.star_statements.specs.{Questions.asked_by, Sources.IsPastCounting, Sources.IsStatementRead, Statements.statements_of, declared.questions.Question.Question, declared.sources.ReadFault.TheVariants.Failed as ReadFailed}
+use Rattle.star_statements.specs.{declared.sources.ReadFault.TheVariants.OutOfMemory as ReadMemory}
+use Rattle.star_service.specs.{Lines.IsFaultTold, Lines.IsTextTold, declared.sessions.Stop.Stop, declared.sessions.Stop.TheVariants.Unread, declared.sessions.Stop.TheVariants.Unwritten}
+use Rattle.star_query.specs.declared.fault.QueryFault.TheVariants as parsing
 use Rattle.star_statements.specs.declared.questions.Question.TheVariants as asked
-use Rattle.star_statements.specs.declared.sources.ReadFault.TheVariants.{Failed as ReadFailed, OutOfMemory as ReadMemory}
-use Rattle.star_service.specs.Lines.{IsFaultTold, IsTextTold}
-use Rattle.star_service.specs.declared.sessions.Stop.{Stop}
-use Rattle.star_service.specs.declared.sessions.Stop.TheVariants.{Unread, Unwritten}
 
 -- ---- one statement
 

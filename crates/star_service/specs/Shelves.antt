@@ -1,7 +1,6 @@
 -- Where reports are kept, before and after a call.
 use Rattle.std.specs.Prelude.{◌≡◌, ◌≤◌, ◌++◌, ℕ, List, [], ◌∷◌, Option, Some, None, length, ⊤}
-use Rattle.star_service.specs.declared.shelf.ShelfFault.{ShelfFault}
-use Rattle.star_service.specs.declared.shelf.ShelfFault.TheVariants.{OutOfMemory, Write}
+use Rattle.star_service.specs.{declared.shelf.ShelfFault.ShelfFault, declared.shelf.ShelfFault.TheVariants.OutOfMemory, declared.shelf.ShelfFault.TheVariants.Write}
 
 -- a report and the name under which it is kept
 pub record Kept : Type 0 where

@@ -1,8 +1,6 @@
 // Names of files on one line.
 
-ghost use Rattle.std.specs.Prelude.{◌≤◌, Some, encode_utf8_all};
-ghost use Rattle.std.specs.Char.Iter.{escape_end, escape_rest};
-ghost use Rattle.std.specs.Fmt.{WritesOnOk};
+ghost use Rattle.std.specs.{Prelude.◌≤◌, Prelude.Some, Prelude.encode_utf8_all, Char.Iter.escape_end, Char.Iter.escape_rest, Fmt.WritesOnOk};
 ghost use Rattle.star_service.specs.Names.{printed_letter, printed_name};
 
 use std::char::EscapeDefault;

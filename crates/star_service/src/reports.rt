@@ -3,13 +3,10 @@
 
 ghost use Rattle.std.specs.Prelude.{◌≡◌, ◌<◌, Err, IfOk, MatchResult, length, string_bytes};
 ghost use Rattle.star_common.specs.Memory.{TellsMemory};
-ghost use Rattle.star_engine.specs.Answered.{OrMemory, change};
-ghost use Rattle.star_engine.specs.Tellings.{IsFileToldOver, IsJudgedOver, IsUnjudgedOver, telling_of};
-ghost use Rattle.star_service.specs.Private.ReportSteps.{IsKeptAndTold, IsLineWritten, IsRefusalTold};
-ghost use Rattle.star_service.specs.Reports as spec;
+ghost use Rattle.star_engine.specs.{Answered.OrMemory, Answered.change, Tellings.IsFileToldOver, Tellings.IsJudgedOver, Tellings.IsUnjudgedOver, Tellings.telling_of};
 ghost use Rattle.star_service.specs.Reports.{AreAllDelivered, AreAllJudged, IsDelivered, IsJudged, told_line};
-ghost use Rattle.star_service.specs.Shelves.{shelving};
-ghost use Rattle.star_service.specs.declared.reports.Halt.TheVariants.{OutOfMemory};
+ghost use Rattle.star_service.specs.{Private.ReportSteps.IsKeptAndTold, Private.ReportSteps.IsLineWritten, Private.ReportSteps.IsRefusalTold, Shelves.shelving, declared.reports.Halt.TheVariants.OutOfMemory};
+ghost use Rattle.star_service.specs.Reports as spec;
 
 use crate::names::Shown;
 use crate::shelf::{Shelf, ShelfFault};

@@ -1,13 +1,11 @@
 // Sessions: statements that are read one after another, and answered over tables that are loaded once.
 
 ghost use Rattle.std.specs.Prelude.{◌≡◌};
-ghost use Rattle.star_engine.specs.Answered.{IsAnswered, change};
-ghost use Rattle.star_engine.specs.QuoteTexts.{IsQuoteTextOver, IsUnquotedOver};
-ghost use Rattle.star_service.specs.Sessions as spec;
+ghost use Rattle.star_engine.specs.{Answered.IsAnswered, Answered.change, QuoteTexts.IsQuoteTextOver, QuoteTexts.IsUnquotedOver};
 ghost use Rattle.star_service.specs.Sessions.{IsAnswerTo, IsConversed, IsLineEnded, IsReportEnded, IsReported, IsSession, IsSessionEnded, IsStep};
-ghost use Rattle.star_service.specs.Private.Turns.{IsTurn};
-ghost use Rattle.star_statements.specs.Questions.{asked_by_text};
-ghost use Rattle.star_statements.specs.Sources.{has_failed, reader_of};
+ghost use Rattle.star_service.specs.{Private.Turns.IsTurn};
+ghost use Rattle.star_statements.specs.{Questions.asked_by_text, Sources.has_failed, Sources.reader_of};
+ghost use Rattle.star_service.specs.Sessions as spec;
 
 use crate::lines::{MEMORY_LINE, MEMORY_STATUS, tell, tell_fault};
 use star_common::{Sink, write_whole};

@@ -2,8 +2,7 @@
 
 ghost use Rattle.std.specs.Prelude.{ℕ, List, Option, None, IfErr, OnOk};
 ghost use Rattle.star_common.specs.Memory.{TellsMemory};
-ghost use Rattle.star_service.specs.Shelves.{HasKept, IsUnkept, Kept, shelving};
-ghost use Rattle.star_service.specs.declared.shelf.ShelfFault.TheVariants.{OutOfMemory};
+ghost use Rattle.star_service.specs.{Shelves.HasKept, Shelves.IsUnkept, Shelves.Kept, Shelves.shelving, declared.shelf.ShelfFault.TheVariants.OutOfMemory};
 
 use std::alloc::{AllocError, Global};
 

@@ -1,9 +1,8 @@
 -- Blanks in front of a text.
 use Rattle.std.proofs.Common.{◌≡◌, ◌++◌, ◌&&◌, ℕ, List, [], ◌∷◌, Bool, true, false, refl}
 use Rattle.std.specs.Prelude.{if◌then◌else◌}
-use Rattle.star_statements.specs.Blanks.{without_blanks}
+use Rattle.star_statements.specs.{Blanks.without_blanks, Private.Drafts.is_empty}
 use Rattle.star_common.specs.WhiteSpace.{is_blank}
-use Rattle.star_statements.specs.Private.Drafts.{is_empty}
 
 module _ {X : Type 0} (x y : X) where
   pub if_true : (b : Bool) → b ≡ true → (if b then x else y) ≡ x

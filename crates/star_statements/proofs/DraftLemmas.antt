@@ -1,18 +1,11 @@
 -- A statement that is being read, from its first byte to its last.
 use Rattle.std.proofs.Common.{◌≡◌, ◌∙◌, ◌++◌, ◌+◌, ◌<◌, ◌≤◌, ◌&&◌, ◌||◌, ℕ, List, [], ◌∷◌, Bool, true, false, Option, Some, None, append-nil, append_assoc, ap, arith, length, refl, subst, sym, take}
-use Rattle.std.specs.Prelude.{IfSome, if◌then◌else◌, nat_lt}
-use Rattle.std.specs.Io.KnownBytes.{Consumes, IsAtEnd}
-use Rattle.std.proofs.lemmas.Bool.{le-ltb, lt-ltb, ltb-false, ltb-true}
-use Rattle.std.proofs.lemmas.List.{length-append, length-take, take-append-le, take_all}
-use Rattle.star_statements.specs.Blanks.{without_blanks}
-use Rattle.star_common.specs.WhiteSpace.{is_blank}
-use Rattle.star_statements.specs.Questions.{asked_by, asked_by_text}
-use Rattle.star_statements.specs.Sources.{IsStatementRead}
-use Rattle.star_statements.specs.Statements.{joined_to_first, statements_of}
+use Rattle.std.proofs.{lemmas.Bool.le-ltb, lemmas.Bool.lt-ltb, lemmas.Bool.ltb-false, lemmas.Bool.ltb-true, lemmas.List.length-append, lemmas.List.length-take, lemmas.List.take-append-le, lemmas.List.take_all}
+use Rattle.std.specs.{Prelude.IfSome, Prelude.if◌then◌else◌, Prelude.nat_lt, Io.KnownBytes.Consumes, Io.KnownBytes.IsAtEnd}
 use Rattle.star_statements.specs.Private.Drafts.{IsDraft, closes_statement, cut_statements, ends_behind, is_empty, kept, with_byte}
-use Rattle.star_statements.proofs.BlankLemmas.{if_false, if_true, without_blanks-more}
-use Rattle.star_statements.proofs.QuestionLemmas.{asked-front}
-use Rattle.star_statements.proofs.StatementLemmas.{joined_assoc, statements_cut, statements_from_cut}
+use Rattle.star_statements.specs.{Blanks.without_blanks, Questions.asked_by, Questions.asked_by_text, Sources.IsStatementRead, Statements.joined_to_first, Statements.statements_of}
+use Rattle.star_common.specs.WhiteSpace.{is_blank}
+use Rattle.star_statements.proofs.{BlankLemmas.if_false, BlankLemmas.if_true, BlankLemmas.without_blanks-more, QuestionLemmas.asked-front, StatementLemmas.joined_assoc, StatementLemmas.statements_cut, StatementLemmas.statements_from_cut}
 
 -- ---- what is kept
 

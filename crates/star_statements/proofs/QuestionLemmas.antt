@@ -1,17 +1,9 @@
 -- What a text asks for.
 use Rattle.std.proofs.Common.{◌≡◌, ◌∙◌, ◌<◌, ◌≤◌, ◌&&◌, ℕ, List, [], ◌∷◌, Bool, true, false, ap, arith, codes, drop, length, map, refl, sym, take}
-use Rattle.std.specs.Prelude.{nat_lt}
-use Rattle.std.specs.Bool.{Decides}
-use Rattle.std.specs.Char.{to_ascii_lowercase}
-use Rattle.std.specs.Str.{bytes_eq, str_eq_ignore_ascii_case}
-use Rattle.std.proofs.Math.Bool.{and-false}
-use Rattle.std.proofs.lemmas.Bool.{le-ltb, lt-ltb, ltb-false, ltb-true}
-use Rattle.std.proofs.lemmas.Bool.Decides.{same_from_decides}
-use Rattle.std.proofs.lemmas.List.{drop_all, length-take, take_all}
-use Rattle.std.proofs.lemmas.Slice.Eq.{bytes_eq-Decides}
-use Rattle.star_statements.specs.Blanks.{is_blank_at_front}
-use Rattle.star_statements.specs.Questions.{asked_by_text, begins_with_word, behind_word}
+use Rattle.std.proofs.{Math.Bool.and-false, lemmas.Bool.le-ltb, lemmas.Bool.lt-ltb, lemmas.Bool.ltb-false, lemmas.Bool.ltb-true, lemmas.Bool.Decides.same_from_decides, lemmas.List.drop_all, lemmas.List.length-take, lemmas.List.take_all, lemmas.Slice.Eq.bytes_eq-Decides}
+use Rattle.std.specs.{Prelude.nat_lt, Bool.Decides, Char.to_ascii_lowercase, Str.bytes_eq, Str.str_eq_ignore_ascii_case}
 use Rattle.star_statements.specs.declared.questions.Question.TheVariants.{Nothing, TooLong, Query, Explain, Quote}
+use Rattle.star_statements.specs.{Blanks.is_blank_at_front, Questions.asked_by_text, Questions.begins_with_word, Questions.behind_word}
 use Rattle.star_statements.proofs.BlankLemmas.{if_false, if_true}
 
 -- two texts that a test has told

@@ -1,14 +1,11 @@
 -- The statements of a text have its bytes, and are cut by its bytes one after another.
 use Rattle.std.proofs.Common.{◌≡◌, ◌∙◌, ◌++◌, ◌==◌, ◌&&◌, ◌||◌, ℕ, List, [], ◌∷◌, Bool, true, false, append_assoc, ap, refl, subst, sym}
-use Rattle.std.specs.Prelude.{if◌then◌else◌}
-use Rattle.std.specs.List.{concat, list_all}
-use Rattle.std.proofs.lemmas.Bool.{eqb-true}
-use Rattle.std.proofs.lemmas.List.Folds.{list_all-append}
-use Rattle.std.proofs.Math.Bool.{and-false}
+use Rattle.std.proofs.{lemmas.Bool.eqb-true, lemmas.List.Folds.list_all-append, Math.Bool.and-false}
+use Rattle.std.specs.{Prelude.if◌then◌else◌, List.concat, List.list_all}
 use Rattle.star_statements.proofs.BlankLemmas.{if_false}
 use Rattle.star_common.specs.WhiteSpace.{is_blank}
 use Rattle.star_statements.specs.Statements.{ends_statement, joined_to_first, statement_lines, statements_in, statements_of}
-use Rattle.star_statements.specs.Private.Drafts.{cut_statements, ends_behind}
+use Rattle.star_statements.specs.{Private.Drafts.cut_statements, Private.Drafts.ends_behind}
 
 pub concat-joined : (piece : List ℕ) (others : List (List ℕ))
     → concat (joined_to_first piece others) ≡ piece ++ concat others

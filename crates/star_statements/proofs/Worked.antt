@@ -1,15 +1,11 @@
 -- Texts with their statements, statements with what they ask for, statements that were read of a
 -- source, and more bytes than are counted.
 use Rattle.std.proofs.Common.{◌≡◌, ◌↔◌, ◌<◌, ◌≤◌, ◌++◌, ◌-◌, ◌^◌, ℕ, Bool, List, [], ◌∷◌, Option, true, false, arith, codes, length, refl}
-use Rattle.std.specs.Borrow.{Bor}
-use Rattle.std.specs.Io.KnownBytes.{Consumes, IsAtEnd}
+use Rattle.std.specs.{Borrow.Bor, Io.KnownBytes.Consumes, Io.KnownBytes.IsAtEnd}
 use Rattle.star_common.proofs.Tables.{Gives}
-use Rattle.star_statements.specs.Blanks.{without_blanks}
-use Rattle.star_statements.specs.Questions.{asked_by, asked_by_text, begins_with_word}
-use Rattle.star_statements.specs.Sources.{IsPastCounting, IsStatementRead}
 use Rattle.star_statements.specs.Statements.{ends_statement, joined_to_first, statement_lines, statements_in, statements_of}
-use Rattle.star_statements.specs.Views.{question_view}
 use Rattle.star_statements.specs.declared.questions.Question.TheVariants.{Nothing, TooLong, Query, Explain, Quote}
+use Rattle.star_statements.specs.{Blanks.without_blanks, Questions.asked_by, Questions.asked_by_text, Questions.begins_with_word, Sources.IsPastCounting, Sources.IsStatementRead, Views.question_view}
 use Rattle.star_statements.proofs.QuestionLemmas.{queried, too_long}
 
 -- a line that ends with a semicolon ends a statement, with blanks and a carriage return after it too; a

@@ -1,9 +1,7 @@
 -- What was read from a source.
 use Rattle.std.specs.Prelude.{◌≡◌, ◌≤◌, ◌<◌, ◌++◌, ◌-◌, ◌^◌, ℕ, List, [], ◌∷◌, Bool, true, false, Option, length}
-use Rattle.std.specs.Io.KnownBytes.{Consumes, IsAtEnd}
-use Rattle.star_statements.specs.Questions.{asked_by, asked_by_text}
-use Rattle.star_statements.specs.Statements.{statements_of}
-use Rattle.star_statements.specs.declared.sources.Source.{Source}
+use Rattle.std.specs.{Io.KnownBytes.Consumes, Io.KnownBytes.IsAtEnd}
+use Rattle.star_statements.specs.{Questions.asked_by, Questions.asked_by_text, Statements.statements_of, declared.sources.Source.Source}
 
 abbrev pub reader_of : {R : Type 0} → Source R → R
 reader_of source = source.reader

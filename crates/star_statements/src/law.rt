@@ -1,7 +1,6 @@
 // A law about the statements of every text.
 
-ghost use Rattle.std.specs.Prelude.{◌≡◌, ℕ, List};
-ghost use Rattle.std.specs.List.{concat};
+ghost use Rattle.std.specs.{Prelude.◌≡◌, Prelude.ℕ, Prelude.List, List.concat};
 ghost use Rattle.star_statements.specs.Statements.{statements_of};
 
 /// States that the statements of a text, joined in order, are the text.

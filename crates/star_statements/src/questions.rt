@@ -1,10 +1,9 @@
 // The request in a statement.
 
 ghost use Rattle.std.specs.Prelude.{◌≡◌, ◌&&◌, true, false, IfNone, IfSome};
-ghost use Rattle.std.specs.Str.{str_eq_ignore_ascii_case};
+ghost use Rattle.std.specs.{Str.str_eq_ignore_ascii_case};
+ghost use Rattle.star_statements.specs.{Questions.asked_by_text, Questions.begins_with_word, Questions.behind_word, Views.question_view};
 ghost use Rattle.star_statements.specs.Blanks as spec;
-ghost use Rattle.star_statements.specs.Questions.{asked_by_text, begins_with_word, behind_word};
-ghost use Rattle.star_statements.specs.Views.{question_view};
 
 use crate::blanks::{is_blank_at_front, without_blanks};
 

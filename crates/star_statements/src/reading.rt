@@ -1,9 +1,8 @@
 // Reading statements, one after another.
 
 ghost use Rattle.std.specs.Prelude.{◌≡◌, ◌≤◌, ◌⊎◌, ℕ, List, true, Err, IfOk, OnOk, vec_len};
-ghost use Rattle.star_statements.specs.Sources.{IsPastCounting, IsStatementRead, has_failed, reader_of};
+ghost use Rattle.star_statements.specs.{Sources.IsPastCounting, Sources.IsStatementRead, Sources.has_failed, Sources.reader_of, Private.Drafts.with_byte};
 ghost use Rattle.star_statements.specs.Private.Drafts as spec;
-ghost use Rattle.star_statements.specs.Private.Drafts.{with_byte};
 
 use crate::blanks::is_blank;
 use crate::questions::MOST_BYTES;

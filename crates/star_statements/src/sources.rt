@@ -1,10 +1,9 @@
 // The bytes of a reader, one at a time.
 
 ghost use Rattle.std.specs.Prelude.{◌≡◌, [], ◌∷◌, true, false, Ok, None, IfErr, IfOk, IfSome, OnErr, OnOk};
-ghost use Rattle.std.specs.Io.KnownBytes.{Consumes, IsAtEnd};
+ghost use Rattle.std.specs.{Io.KnownBytes.Consumes, Io.KnownBytes.IsAtEnd};
 ghost use Rattle.star_common.specs.Memory.{TellsMemory};
-ghost use Rattle.star_statements.specs.Sources.{has_failed, reader_of};
-ghost use Rattle.star_statements.specs.declared.sources.ReadFault.TheVariants.{OutOfMemory};
+ghost use Rattle.star_statements.specs.{Sources.has_failed, Sources.reader_of, declared.sources.ReadFault.TheVariants.OutOfMemory};
 
 use std::alloc::AllocError;
 use std::io::Read;

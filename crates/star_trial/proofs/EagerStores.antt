@@ -1,14 +1,8 @@
 -- One more update in the store of a group.
 use Rattle.std.proofs.Common.{◌≡◌, ◌⊎◌, inl, inr, ℕ, true, false, List, ◌∷◌, Some, subst, slice_get, slice_set, ⊎_elim}
 use Rattle.std.specs.Prelude.{Result, Ok, Err, OnOk, IfErr, MatchResult}
-use Rattle.star_group.specs.declared.eager.EagerStore.{EagerStore}
-use Rattle.star_group.specs.Eager.{group_view, Has}
-use Rattle.star_group.specs.declared.rows.PutFault.{PutFault}
-use Rattle.star_group.specs.declared.rows.PutFault.TheVariants.{OutOfMemory}
-use Rattle.star_program.specs.declared.program.Parts.{Parts}
-use Rattle.star_program.specs.Effects.{with_update}
-use Rattle.star_program.specs.Faults.{group_at}
-use Rattle.star_program.specs.Puts.{Update, overflows}
+use Rattle.star_group.specs.{declared.eager.EagerStore.EagerStore, Eager.group_view, Eager.Has, declared.rows.PutFault.PutFault, declared.rows.PutFault.TheVariants.OutOfMemory}
+use Rattle.star_program.specs.{declared.program.Parts.Parts, Effects.with_update, Faults.group_at, Puts.Update, Puts.overflows}
 use Rattle.star_outcome.proofs.Stored.{with_put}
 use Rattle.star_trial.specs.Private.Runs.{AreStores}
 

@@ -2,26 +2,15 @@
 use Rattle.std.proofs.Common.{◌≡◌, ◌⊎◌, ⊎_elim, ℕ, ℤ, Bool, true, false, Some, None, Option, refl, ap, sym, subst}
 use Rattle.std.specs.Prelude.{Result, Ok, Err, MatchOption, if◌then◌else◌}
 use Rattle.star_schema.specs.Database.{Database}
-use Rattle.star_program.specs.declared.op.Operator.{Operator}
-use Rattle.star_program.specs.declared.op.Operator.TheVariants.{Add, Sub, Mul, Less}
-use Rattle.star_program.specs.declared.program.Parts.{Parts}
 use Rattle.star_program.specs.Effects.{State, Effect, GoesOn, Traps, answer_of, fits_register, unless_trap}
-use Rattle.star_program.specs.Faults.{unless}
-use Rattle.star_program.specs.Private.Doing.{fitting, puts, puts_update, sets_answer}
-use Rattle.star_program.specs.declared.fault.TrapKind.TheVariants.{Overflow}
-use Rattle.star_program.specs.Puts.{Update, overflows}
-use Rattle.star_program.specs.declared.group.GroupDecl.{GroupDecl}
+use Rattle.star_program.specs.{declared.op.Operator.Operator, declared.op.Operator.TheVariants.Add, declared.op.Operator.TheVariants.Sub, declared.op.Operator.TheVariants.Mul, declared.op.Operator.TheVariants.Less, declared.program.Parts.Parts, Faults.unless, Private.Doing.fitting}
+use Rattle.star_program.specs.{Private.Doing.puts, Private.Doing.puts_update, Private.Doing.sets_answer, declared.fault.TrapKind.TheVariants.Overflow, Puts.Update, Puts.overflows, declared.group.GroupDecl.GroupDecl, declared.value.Value.Value, declared.value.Value.TheVariants.Number}
+use Rattle.star_program.specs.{Values.Registers, Values.with_entry}
 use Rattle.star_group.specs.declared.rows.PutFault.{PutFault}
-use Rattle.star_group.specs.declared.rows.PutFault.TheVariants as memory
-use Rattle.star_program.specs.declared.value.Value.{Value}
-use Rattle.star_program.specs.declared.value.Value.TheVariants.{Number}
-use Rattle.star_program.specs.Values.{Registers, with_entry}
-use Rattle.star_trial.specs.declared.fault.Stop.{Stop}
-use Rattle.star_trial.specs.declared.fault.Stop.TheVariants as stop
-use Rattle.star_trial.specs.Private.Acts.{IsActStopped, IsValueMade, Sets}
-use Rattle.star_trial.specs.Private.Stops.{stop_of_put}
-use Rattle.star_trial.specs.Private.Runs.{HasDone, Run}
+use Rattle.star_trial.specs.{declared.fault.Stop.Stop, Private.Acts.IsActStopped, Private.Acts.IsValueMade, Private.Acts.Sets, Private.Stops.stop_of_put, Private.Runs.HasDone, Private.Runs.Run}
 use Rattle.star_outcome.specs.Sound.{IsSoundValue}
+use Rattle.star_group.specs.declared.rows.PutFault.TheVariants as memory
+use Rattle.star_trial.specs.declared.fault.Stop.TheVariants as stop
 
 answer_sound : (database : Database) (o : Operator) (l r : Option Value)
     → IsSoundValue database (answer_of o l r)

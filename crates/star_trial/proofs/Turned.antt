@@ -1,36 +1,21 @@
 -- One step of a walk, and one turn of a scan.
 use Rattle.std.proofs.Common.{◌≡◌, ◌<◌, ◌≤◌, ◌+◌, ◌-◌, ◌*◌, ℕ, suc, Bool, true, false, List, length, drop, get_or, arith, ap, sym, subst, ◌∙◌, refl}
-use Rattle.std.proofs.lemmas.Bool.{lt-ltb}
-use Rattle.std.proofs.Math.Nat.{mul-le-mul_right, suc-mul}
+use Rattle.std.proofs.{lemmas.Bool.lt-ltb, Math.Nat.mul-le-mul_right, Math.Nat.suc-mul}
 use Rattle.std.specs.Prelude.{nat_lt}
-use Rattle.star_schema.specs.declared.table.TableId.{TableId}
-use Rattle.star_program.specs.declared.body.Step.{Step}
-use Rattle.star_program.specs.declared.body.Step.TheVariants.{Act, Scan}
-use Rattle.star_program.specs.declared.op.Op.{Op}
-use Rattle.star_program.specs.declared.program.Parts.{Parts}
-use Rattle.star_program.specs.Code.{Code, Each, code_size, scan_depth}
-use Rattle.star_program.specs.CodeOfSteps.{code_of_steps}
-use Rattle.star_program.specs.Effects.{State, Effect, act}
+use Rattle.star_schema.specs.{declared.table.TableId.TableId, Database.Database}
 use Rattle.star_program.specs.Run.{End, after, begin, follow, meaning, scans, turns, visited}
-use Rattle.star_program.specs.Values.{Registers, with_entry}
-use Rattle.star_program.specs.declared.value.Value.TheVariants.{Row}
-use Rattle.star_program.specs.World.{World}
-use Rattle.star_schema.specs.Database.{Database}
+use Rattle.star_program.specs.{declared.body.Step.Step, declared.body.Step.TheVariants.Act, declared.body.Step.TheVariants.Scan, declared.op.Op.Op, declared.program.Parts.Parts, Code.Code, Code.Each, Code.code_size, Code.scan_depth, CodeOfSteps.code_of_steps, Effects.State, Effects.Effect}
+use Rattle.star_program.specs.{Effects.act, Values.Registers, Values.with_entry, declared.value.Value.TheVariants.Row, World.World}
 use Rattle.star_program.proofs.Steps.{next_act, next_scan}
 use Rattle.star_safety.proofs.Nested.{deeper_left, deeper_right}
 use Rattle.star_outcome.proofs.Turns.{turn_limited, turn_trapped}
 use Rattle.star_outcome.specs.declared.flow.Flow.{Flow}
-use Rattle.star_outcome.specs.declared.flow.Flow.TheVariants as flow
-use Rattle.star_trial.specs.declared.fault.Stop.{Stop}
-use Rattle.star_trial.specs.declared.fault.Stop.TheVariants as stop
-use Rattle.star_trial.specs.declared.fault.TrialFault.{TrialFault}
-use Rattle.star_trial.specs.declared.fault.TrialFault.TheVariants as fault
-use Rattle.star_trial.specs.declared.machine.Machine.{Machine}
-use Rattle.star_trial.specs.Private.Acts.{Ends, Goes, IsActStopped, IsFlow}
-use Rattle.star_trial.specs.Private.Runs.{AreStores, HasDone, Run}
-use Rattle.star_trial.specs.Trials.{IsFaultOfEnd}
-use Rattle.star_trial.specs.Private.Walks.{HasWorked, fault_at, means}
+use Rattle.star_trial.specs.{declared.fault.Stop.Stop, declared.fault.TrialFault.TrialFault, declared.machine.Machine.Machine, Private.Acts.Ends, Private.Acts.Goes, Private.Acts.IsActStopped, Private.Acts.IsFlow, Private.Runs.AreStores, Private.Runs.HasDone, Private.Runs.Run}
+use Rattle.star_trial.specs.{Trials.IsFaultOfEnd, Private.Walks.HasWorked, Private.Walks.fault_at, Private.Walks.means}
 use Rattle.star_world.specs.WorldOf.{world_of}
+use Rattle.star_outcome.specs.declared.flow.Flow.TheVariants as flow
+use Rattle.star_trial.specs.declared.fault.Stop.TheVariants as stop
+use Rattle.star_trial.specs.declared.fault.TrialFault.TheVariants as fault
 
 -- ---- the steps of a body
 

@@ -1,8 +1,7 @@
 -- The words of runs that don't come to their end.
 use Rattle.std.specs.Prelude.{◌++◌, ℕ, List, codes, decimal}
 use Rattle.star_program.specs.TrapTexts.{kind_text}
-use Rattle.star_trial.specs.declared.fault.TrialFault.{TrialFault}
-use Rattle.star_trial.specs.declared.fault.TrialFault.TheVariants.{OutOfMemory, Trap, Limit}
+use Rattle.star_trial.specs.{declared.fault.TrialFault.TrialFault, declared.fault.TrialFault.TheVariants.OutOfMemory, declared.fault.TrialFault.TheVariants.Trap, declared.fault.TrialFault.TheVariants.Limit}
 
 unfoldable pub trial_fault_text : TrialFault → List ℕ
 trial_fault_text OutOfMemory = codes "memory"

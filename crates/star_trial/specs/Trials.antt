@@ -1,9 +1,6 @@
 -- What a trial answers.
 use Rattle.std.specs.Prelude.{◌≡◌, ℕ, Result, MatchResult}
-use Rattle.star_program.specs.declared.outcome.Outcome.{Outcome}
-use Rattle.star_program.specs.declared.program.Parts.{Parts}
-use Rattle.star_program.specs.Run.{End, Trapped, Limited, bounded_run_of}
-use Rattle.star_program.specs.World.{World}
+use Rattle.star_program.specs.{declared.outcome.Outcome.Outcome, declared.program.Parts.Parts, Run.End, Run.Trapped, Run.Limited, Run.bounded_run_of, World.World}
 use Rattle.star_outcome.specs.Yields.{Yields}
 use Rattle.star_trial.specs.declared.fault.TrialFault.{TrialFault}
 use Rattle.star_trial.specs.declared.fault.TrialFault.TheVariants as fault

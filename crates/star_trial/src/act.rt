@@ -1,25 +1,20 @@
 // One instruction.
 
 ghost use Rattle.std.specs.Prelude.{◌≡◌, ◌<◌, ◌^◌, ℕ, Bool, List, None, Ok, Err, MatchOption, Some, length, slice_get, unwrap_or};
-ghost use Rattle.star_group.specs.declared.eager.EagerStore.{EagerStore};
-ghost use Rattle.star_group.specs.Eager.{group_view};
+ghost use Rattle.star_group.specs.{declared.eager.EagerStore.EagerStore, Eager.group_view};
 ghost use Rattle.star_outcome.specs.Private.Placed.{IsPutPlaced};
+ghost use Rattle.star_program.specs.{declared.program.Parts.Parts, Effects.kinds_in, Private.Doing.fitting, Puts.Update};
+ghost use Rattle.star_trial.specs.Private.Acts.{CanAct, HasActed, HasWorkedOnce, Makes, does_op};
+ghost use Rattle.star_trial.specs.{Private.Runs.AreStores, Private.Views.registers_view};
+ghost use Rattle.star_world.specs.WorldOf.{world_of};
 ghost use Rattle.star_program.specs.declared.fault.TrapKind.TheVariants as TrapKind;
 ghost use Rattle.star_program.specs.declared.op.Op.TheVariants as op;
 ghost use Rattle.star_program.specs.declared.op.Operation.TheVariants as operation;
-ghost use Rattle.star_program.specs.declared.program.Parts.{Parts};
 ghost use Rattle.star_program.specs.declared.value.Value.TheVariants as Value;
 ghost use Rattle.star_program.specs.Effects as effects;
-ghost use Rattle.star_program.specs.Effects.{kinds_in};
 ghost use Rattle.star_program.specs.Faults as faults;
-ghost use Rattle.star_program.specs.Private.Doing.{fitting};
 ghost use Rattle.star_program.specs.Puts as puts;
-ghost use Rattle.star_program.specs.Puts.{Update};
 ghost use Rattle.star_trial.specs.declared.fault.Stop.TheVariants as Stop;
-ghost use Rattle.star_trial.specs.Private.Acts.{CanAct, HasActed, HasWorkedOnce, Makes, does_op};
-ghost use Rattle.star_trial.specs.Private.Runs.{AreStores};
-ghost use Rattle.star_trial.specs.Private.Views.{registers_view};
-ghost use Rattle.star_world.specs.WorldOf.{world_of};
 
 use crate::compute::{Register, answer, flag, is_within, number, row, set};
 use crate::fault::Stop;

@@ -1,10 +1,9 @@
 // What an instruction computes from the registers that it reads.
 
 ghost use Rattle.std.specs.Prelude.{◌≡◌, ◌<◌, ◌&&◌, None, length, slice_index_or};
-ghost use Rattle.std.specs.Ordering.{is_lt, is_le};
-ghost use Rattle.star_program.specs.Effects.{answer_of, compared};
-ghost use Rattle.star_program.specs.Private.Doing.{fitting};
+ghost use Rattle.std.specs.{Ordering.is_lt, Ordering.is_le};
 ghost use Rattle.star_program.specs.Values.{number_read, flag_read, row_read, key_read, with_entry};
+ghost use Rattle.star_program.specs.{Effects.answer_of, Effects.compared, Private.Doing.fitting};
 ghost use Rattle.star_trial.specs.Private.Views.{registers_view};
 
 use star_program::{KeyValue, Operator, Value};

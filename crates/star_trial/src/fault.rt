@@ -3,9 +3,7 @@
 ghost use Rattle.std.specs.Prelude.{◌≡◌};
 ghost use Rattle.star_common.specs.Memory.{TellsMemory};
 ghost use Rattle.star_program.specs.declared.fault.TrapKind.TheVariants.{Wrong};
-ghost use Rattle.star_trial.specs.declared.fault.Stop.TheVariants.{Trap};
-ghost use Rattle.star_trial.specs.declared.fault.TrialFault.TheVariants.{OutOfMemory};
-ghost use Rattle.star_trial.specs.Private.Stops.{stop_of_put};
+ghost use Rattle.star_trial.specs.{declared.fault.Stop.TheVariants.Trap, declared.fault.TrialFault.TheVariants.OutOfMemory, Private.Stops.stop_of_put};
 
 use star_group::PutFault;
 use star_program::{Fault, TrapKind};

@@ -1,8 +1,7 @@
 // What walks over a program read and never change.
 
 ghost use Rattle.std.specs.Prelude.{◌≤◌, ◌<◌, ◌+◌, ◌^◌, All};
-ghost use Rattle.star_program.specs.Code.{code_size};
-ghost use Rattle.star_program.specs.Limits.{IsSmall};
+ghost use Rattle.star_program.specs.{Code.code_size, Limits.IsSmall};
 
 use crate::compute::Register;
 use star_catalogue::Catalogue;

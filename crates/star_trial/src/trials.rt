@@ -1,12 +1,8 @@
 // Programs run over a loaded catalogue, under a bound on visits.
 
 ghost use Rattle.std.specs.Prelude.{◌≡◌, ◌≤◌, ◌^◌, IfOk, MatchResult, length, nat_lt};
-ghost use Rattle.star_program.specs.Limits.{IsWithinLimits};
-ghost use Rattle.star_program.specs.Run.{meaning_of};
-ghost use Rattle.star_program.specs.Values.{no_registers};
-ghost use Rattle.star_trial.specs.Trials.{IsFaultOfEnd, IsTrial};
-ghost use Rattle.star_trial.specs.Private.Views.{registers_view};
-ghost use Rattle.star_trial.specs.Private.Walks.{Finishes};
+ghost use Rattle.star_program.specs.{Limits.IsWithinLimits, Run.meaning_of, Values.no_registers};
+ghost use Rattle.star_trial.specs.{Trials.IsFaultOfEnd, Trials.IsTrial, Private.Views.registers_view, Private.Walks.Finishes};
 ghost use Rattle.star_world.specs.WorldOf.{world_of};
 
 use crate::compute::Register;

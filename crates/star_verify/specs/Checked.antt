@@ -3,8 +3,7 @@ use Rattle.std.specs.Prelude.{◌≤◌, ◌^◌}
 use Rattle.star_schema.specs.Database.{Database}
 use Rattle.star_program.specs.declared.program.Parts.{Parts}
 use Rattle.star_world.specs.WorldOf.{world_of}
-use Rattle.star_safety.specs.Admissible.{IsAdmissible}
-use Rattle.star_safety.specs.Quote.{quote}
+use Rattle.star_safety.specs.{Admissible.IsAdmissible, Quote.quote}
 
 pub record Checked : Type 0 where
   pub database : Database

@@ -1,11 +1,7 @@
 -- The row counts and column bounds that the check of a program needs.
 use Rattle.std.specs.Prelude.{◌≡◌, ◌<◌, ℕ, List, slice_index_or}
-use Rattle.star_schema.specs.declared.column.ColumnId.{ColumnId}
-use Rattle.star_schema.specs.declared.table.TableId.{TableId}
-use Rattle.star_schema.specs.Schema.{index_of}
-use Rattle.star_schema.specs.Sizes.{size_of}
-use Rattle.star_interval.specs.declared.Interval.{Interval}
-use Rattle.star_interval.specs.Interval.{range_of}
+use Rattle.star_schema.specs.{declared.column.ColumnId.ColumnId, declared.table.TableId.TableId, Schema.index_of, Sizes.size_of}
+use Rattle.star_interval.specs.{declared.Interval.Interval, Interval.range_of}
 use Rattle.star_program.specs.World.{World}
 use Rattle.star_verify.specs.declared.facts.Facts.{Facts}
 

@@ -1,8 +1,7 @@
 -- The printed form of refusals.
 use Rattle.std.specs.Prelude.{◌++◌, ℕ, List, codes, decimal}
 use Rattle.star_safety.specs.ReasonTexts.{bounds_text, reason_text}
-use Rattle.star_verify.specs.declared.refusal.Refusal.{Refusal}
-use Rattle.star_verify.specs.declared.refusal.Refusal.TheVariants.{OutOfMemory, TooCostly, Refused, BadShow}
+use Rattle.star_verify.specs.{declared.refusal.Refusal.Refusal, declared.refusal.Refusal.TheVariants.OutOfMemory, declared.refusal.Refusal.TheVariants.TooCostly, declared.refusal.Refusal.TheVariants.Refused, declared.refusal.Refusal.TheVariants.BadShow}
 
 unfoldable pub refusal_text : Refusal → List ℕ
 refusal_text OutOfMemory = codes "memory"

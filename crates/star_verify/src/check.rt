@@ -2,14 +2,11 @@
 
 ghost use Rattle.std.specs.Prelude.{◌≡◌, ◌≤◌, ◌^◌, IfOk, MatchResult, None, length};
 ghost use Rattle.star_schema.specs.Sizes.{size_of};
-ghost use Rattle.star_program.specs.Limits.{IsWithinLimits};
-ghost use Rattle.star_program.specs.World.{World};
-ghost use Rattle.star_safety.specs.Contexts.{at_end, at_first};
-ghost use Rattle.star_safety.specs.Private.Forward.{first_reason, none_open};
-ghost use Rattle.star_safety.specs.Quote as spec;
-ghost use Rattle.star_verify.specs.Facts.{AreFacts};
+ghost use Rattle.star_program.specs.{Limits.IsWithinLimits, World.World};
+ghost use Rattle.star_safety.specs.{Contexts.at_end, Contexts.at_first, Private.Forward.first_reason, Private.Forward.none_open};
 ghost use Rattle.star_verify.specs.Private.CheckResults.{AreFewAt, IsChecked, IsFirst, IsSized, KeepsContext};
-ghost use Rattle.star_verify.specs.Private.Kept.{HasKeyShares};
+ghost use Rattle.star_verify.specs.{Facts.AreFacts, Private.Kept.HasKeyShares};
+ghost use Rattle.star_safety.specs.Quote as spec;
 
 use crate::facts::Facts;
 use crate::input::CheckInput;

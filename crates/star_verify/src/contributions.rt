@@ -1,15 +1,11 @@
 // What a put contributes to the aggregates and the keys of its group.
 
 ghost use Rattle.std.specs.Prelude.{◌≡◌, ◌+◌, ◌<◌, ◌≤◌, ◌∷◌, ◌⊎◌, ℕ, List, None, length, map, slice_index_or};
-ghost use Rattle.std.specs.Option.{option_map};
+ghost use Rattle.std.specs.{Option.option_map};
 ghost use Rattle.star_schema.specs.declared.group.Aggregate.{Aggregate as Kind};
 ghost use Rattle.star_program.specs.Faults.{value_count};
-ghost use Rattle.star_safety.specs.Contexts.{known_share};
-ghost use Rattle.star_safety.specs.Tallies.{Share};
-ghost use Rattle.star_verify.specs.Private.Bounded.{IsBounded};
-ghost use Rattle.star_verify.specs.Private.Kept.{HasTallyRoom, IsTallyGrown, numbers_known};
-ghost use Rattle.star_verify.specs.Private.Made.{IsTallyAt};
-ghost use Rattle.star_verify.specs.Private.Views.{known_in, known_view};
+ghost use Rattle.star_safety.specs.{Contexts.known_share, Tallies.Share};
+ghost use Rattle.star_verify.specs.{Private.Bounded.IsBounded, Private.Kept.HasTallyRoom, Private.Kept.IsTallyGrown, Private.Kept.numbers_known, Private.Made.IsTallyAt, Private.Views.known_in, Private.Views.known_view};
 
 use crate::known::{Known, given, range_at, reach_at};
 use crate::register::{Register, known_at};

@@ -4,10 +4,8 @@ ghost use Rattle.std.specs.Prelude.{◌≡◌, None, IfErr, IfOk, OnOk};
 ghost use Rattle.star_common.specs.Memory.{UnlessMemory};
 ghost use Rattle.star_program.specs.World.{World};
 ghost use Rattle.star_safety.specs.Admissible.{first_refusal};
+ghost use Rattle.star_verify.specs.{declared.refusal.Refusal.TheVariants.OutOfMemory, Facts.AreFacts, Views.refusal_view};
 ghost use Rattle.star_safety.specs.Quote as spec;
-ghost use Rattle.star_verify.specs.declared.refusal.Refusal.TheVariants.{OutOfMemory};
-ghost use Rattle.star_verify.specs.Facts.{AreFacts};
-ghost use Rattle.star_verify.specs.Views.{refusal_view};
 
 use crate::check::check;
 use crate::facts::Facts;

@@ -4,12 +4,11 @@ ghost use Rattle.std.specs.Prelude.{◌≡◌, IfOk, None, slice_index_or};
 ghost use Rattle.star_schema.specs.Schema.{index_of};
 ghost use Rattle.star_interval.specs.Interval.{range_of};
 ghost use Rattle.star_world.specs.WorldOf.{world_of};
-ghost use Rattle.star_program.specs.World as world;
 ghost use Rattle.star_program.specs.World.{World};
+ghost use Rattle.star_verify.specs.{Facts.AreFacts, Private.Views.known_view, Private.Views.reach_view};
+ghost use Rattle.star_program.specs.World as world;
 ghost use Rattle.star_safety.specs.Ranges as ranges;
 ghost use Rattle.star_safety.specs.Refusals as refusals;
-ghost use Rattle.star_verify.specs.Facts.{AreFacts};
-ghost use Rattle.star_verify.specs.Private.Views.{known_view, reach_view};
 
 use crate::known::Known;
 use crate::reach::Reach;

@@ -1,24 +1,13 @@
 // The check of one instruction, and the verifier state after it.
 
 ghost use Rattle.std.specs.Prelude.{◌≡◌, ◌*◌, ◌+◌, ◌<◌, ◌≤◌, ◌||◌, ◌^◌, ℕ, Bool, IfOk, List, Option, None, Some, length, nat_eq};
-ghost use Rattle.std.specs.Option.{option_map, option_or};
-ghost use Rattle.star_program.specs.CodeOfSteps.{code_of_steps};
-ghost use Rattle.star_program.specs.declared.fault.Fault.{Fault as Wrong};
-ghost use Rattle.star_program.specs.declared.op.Op.TheVariants as op;
+ghost use Rattle.std.specs.{Option.option_map, Option.option_or};
 ghost use Rattle.star_program.specs.Faults.{fault_of, group_at, place_fault, target_of, value_count};
-ghost use Rattle.star_program.specs.Limits.{IsWithinLimits};
-ghost use Rattle.star_program.specs.World.{World};
-ghost use Rattle.star_safety.specs.Contexts.{Context, after_op};
-ghost use Rattle.star_safety.specs.Private.Forward.{open_with};
-ghost use Rattle.star_safety.specs.Ranges.{kinds_known};
-ghost use Rattle.star_safety.specs.declared.reason.Reason.TheVariants.{Faulty};
-ghost use Rattle.star_safety.specs.Refusals.{op_reason, range_reason, source_reason, target_again};
-ghost use Rattle.star_verify.specs.Facts.{AreFacts};
+ghost use Rattle.star_program.specs.{CodeOfSteps.code_of_steps, declared.fault.Fault.Fault as Wrong, Limits.IsWithinLimits, World.World};
+ghost use Rattle.star_safety.specs.{Contexts.Context, Contexts.after_op, Private.Forward.open_with, Ranges.kinds_known, declared.reason.Reason.TheVariants.Faulty, Refusals.op_reason, Refusals.range_reason, Refusals.source_reason, Refusals.target_again};
 ghost use Rattle.star_verify.specs.Private.CheckResults.{AreFewAt, InEachContext, IsFirst, IsReady, IsSized, KeepsContext, HasReason};
-ghost use Rattle.star_verify.specs.Private.Kept.{AreTalliesFew, HasKeyShares, HasShares, flag_at};
-ghost use Rattle.star_verify.specs.Private.Made.{beyond_view};
-ghost use Rattle.star_verify.specs.Private.Views.{known_in};
-ghost use Rattle.star_verify.specs.Views.{IsReason};
+ghost use Rattle.star_verify.specs.{Facts.AreFacts, Private.Kept.AreTalliesFew, Private.Kept.HasKeyShares, Private.Kept.HasShares, Private.Kept.flag_at, Private.Made.beyond_view, Private.Views.known_in, Views.IsReason};
+ghost use Rattle.star_program.specs.declared.op.Op.TheVariants as op;
 
 use crate::contributions::{contribute, contribute_keys};
 use crate::input::CheckInput;

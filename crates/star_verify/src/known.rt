@@ -1,14 +1,13 @@
 // Register facts: what is known about a register before a run.
 
 ghost use Rattle.std.specs.Prelude.{◌≡◌, ◌↔◌, None, Some, IfOk, IsOk, MatchResult};
-ghost use Rattle.std.specs.Option.{option_map};
-ghost use Rattle.star_interval.specs.Interval.{bounds_of, range_of};
-ghost use Rattle.star_interval.specs.Range.{FitsI64};
+ghost use Rattle.std.specs.{Option.option_map};
+ghost use Rattle.star_interval.specs.{Interval.bounds_of, Interval.range_of, Range.FitsI64};
 ghost use Rattle.star_program.specs.World.{World};
+ghost use Rattle.star_verify.specs.Private.Views.{known_view, reach_view};
 ghost use Rattle.star_safety.specs.Ranges as ranges;
 ghost use Rattle.star_safety.specs.Refusals as refusals;
 ghost use Rattle.star_safety.specs.declared.reason.Reason.TheVariants as reason;
-ghost use Rattle.star_verify.specs.Private.Views.{known_view, reach_view};
 
 use crate::reach::Reach;
 use star_interval::{Interval, Wide};

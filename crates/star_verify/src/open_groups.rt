@@ -2,8 +2,7 @@
 
 ghost use Rattle.std.specs.Prelude.{◌≡◌, ◌<◌, ◌||◌, ℕ, false, length, nat_eq, slice_index_or};
 ghost use Rattle.star_program.specs.CodeOfSteps.{code_of_steps};
-ghost use Rattle.star_safety.specs.Private.Forward.{code_puts_to};
-ghost use Rattle.star_safety.specs.Standing.{op_puts_to};
+ghost use Rattle.star_safety.specs.{Private.Forward.code_puts_to, Standing.op_puts_to};
 
 use star_program::{Op, Step};
 

@@ -1,22 +1,12 @@
 // The facts of an operation's result, and the check of its source.
 
 ghost use Rattle.std.specs.Prelude.{◌≡◌, ◌*◌, ◌+◌, ◌<◌, ◌≤◌, ℕ, Bool, None, length};
-ghost use Rattle.star_program.specs.CodeOfSteps.{code_of_steps};
-ghost use Rattle.star_program.specs.declared.op.Op.TheVariants.{Assign};
-ghost use Rattle.star_program.specs.Faults.{group_at, place_fault};
-ghost use Rattle.star_program.specs.World.{World};
-ghost use Rattle.star_safety.specs.Contexts as contexts;
-ghost use Rattle.star_safety.specs.Contexts.{Context, operation_known};
-ghost use Rattle.star_safety.specs.Private.Forward.{open_with};
-ghost use Rattle.star_safety.specs.Ranges as ranges;
-ghost use Rattle.star_safety.specs.Refusals.{overflow, range_reason, source_reason};
-ghost use Rattle.star_safety.specs.Tallies.{reach_of, read_range};
+ghost use Rattle.star_program.specs.{CodeOfSteps.code_of_steps, declared.op.Op.TheVariants.Assign, Faults.group_at, Faults.place_fault, World.World};
+ghost use Rattle.star_safety.specs.{Contexts.Context, Contexts.operation_known, Private.Forward.open_with, Refusals.overflow, Refusals.range_reason, Refusals.source_reason, Tallies.reach_of, Tallies.read_range};
 ghost use Rattle.star_interval.specs.Range.{only};
-ghost use Rattle.star_verify.specs.Facts.{AreFacts};
-ghost use Rattle.star_verify.specs.Private.Kept.{AreMarked, HasShares, flag_at};
-ghost use Rattle.star_verify.specs.Private.Made.{IsMade};
-ghost use Rattle.star_verify.specs.Private.Views.{known_in};
-ghost use Rattle.star_verify.specs.Views.{IsReason};
+ghost use Rattle.star_verify.specs.{Facts.AreFacts, Private.Kept.AreMarked, Private.Kept.HasShares, Private.Kept.flag_at, Private.Made.IsMade, Private.Views.known_in, Views.IsReason};
+ghost use Rattle.star_safety.specs.Contexts as contexts;
+ghost use Rattle.star_safety.specs.Ranges as ranges;
 
 use crate::facts::{Facts, refers_to};
 use crate::known::{Beyond, Known, answer, given, origin_at};

@@ -2,8 +2,7 @@
 
 ghost use Rattle.std.specs.Prelude.{Some};
 ghost use Rattle.star_common.specs.Memory.{TellsMemory};
-ghost use Rattle.star_verify.specs.declared.refusal.Refusal.TheVariants.{OutOfMemory};
-ghost use Rattle.star_verify.specs.RefusalTexts.{refusal_text};
+ghost use Rattle.star_verify.specs.{declared.refusal.Refusal.TheVariants.OutOfMemory, RefusalTexts.refusal_text};
 
 use star_safety::Reason;
 use std::alloc::AllocError;

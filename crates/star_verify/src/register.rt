@@ -2,8 +2,7 @@
 
 ghost use Rattle.std.specs.Prelude.{◌≡◌, ◌<◌, length};
 ghost use Rattle.star_kinds.specs.Kinds.{Answers};
-ghost use Rattle.star_program.specs.Faults.{fault_of};
-ghost use Rattle.star_program.specs.Values.{with_entry};
+ghost use Rattle.star_program.specs.{Faults.fault_of, Values.with_entry};
 ghost use Rattle.star_safety.specs.Ranges.{kinds_known, known_kind};
 ghost use Rattle.star_verify.specs.Private.Views.{kind_known, known_in, known_of, known_view};
 

@@ -1,19 +1,14 @@
 // The maximum number of rows of a program's report.
 
 ghost use Rattle.std.specs.Prelude.{◌≡◌, ◌≤◌, ◌<◌, ◌*◌, ◌+◌, ◌^◌, ℕ, List, [], true, length, if◌then◌else◌};
-ghost use Rattle.std.specs.Option.{option_map};
+ghost use Rattle.std.specs.{Option.option_map};
 ghost use Rattle.star_interval.specs.Interval.{range_of};
 ghost use Rattle.star_program.specs.Limits.{IsWithinLimits};
 ghost use Rattle.star_world.specs.WorldOf.{world_of};
-ghost use Rattle.star_safety.specs.Contexts.{at_end, at_first};
+ghost use Rattle.star_safety.specs.{Contexts.at_end, Contexts.at_first, MostRows.each_values, Tallies.Share};
+ghost use Rattle.star_verify.specs.{Private.Kept.HasKeyShares, Private.Made.IsTallyAt, Private.Rows.AgreeUpTo, Private.Rows.MayHide, Private.Rows.groupings, Private.Rows.rows_of_rest, Private.Views.IsTally};
 ghost use Rattle.star_safety.specs.MostRows as bound;
-ghost use Rattle.star_safety.specs.MostRows.{each_values};
-ghost use Rattle.star_safety.specs.Tallies.{Share};
-ghost use Rattle.star_verify.specs.Private.Kept.{HasKeyShares};
-ghost use Rattle.star_verify.specs.Private.Made.{IsTallyAt};
 ghost use Rattle.star_verify.specs.Private.Rows as spec;
-ghost use Rattle.star_verify.specs.Private.Rows.{AgreeUpTo, MayHide, groupings, rows_of_rest};
-ghost use Rattle.star_verify.specs.Private.Views.{IsTally};
 
 use crate::tally::Tally;
 use crate::totals::tally_at;

@@ -1,11 +1,10 @@
 // The possible sums over the updates of a group.
 
 ghost use Rattle.std.specs.Prelude.{◌≡◌, ◌≤◌, ◌+◌, ◌^◌, ◌∷◌, [], List, ◌+ℤ◌, ◌≤ℤ◌, pos};
-ghost use Rattle.std.specs.Option.{option_map};
+ghost use Rattle.std.specs.{Option.option_map};
 ghost use Rattle.star_interval.specs.Interval.{range_of};
 ghost use Rattle.star_safety.specs.Tallies.{Share, hull_with};
-ghost use Rattle.star_verify.specs.Private.Bounded.{IsBounded};
-ghost use Rattle.star_verify.specs.Private.Views.{IsTally, reach_view};
+ghost use Rattle.star_verify.specs.{Private.Bounded.IsBounded, Private.Views.IsTally, Private.Views.reach_view};
 
 use crate::reach::Reach;
 use star_interval::{Interval, Wide};

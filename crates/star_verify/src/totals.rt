@@ -1,15 +1,13 @@
 // The facts of a read.
 
 ghost use Rattle.std.specs.Prelude.{◌≡◌, ◌<◌, List, length, slice_index_or};
-ghost use Rattle.std.specs.Option.{option_map};
-ghost use Rattle.star_interval.specs.Interval.{wide_range_of};
-ghost use Rattle.star_interval.specs.Range.{only};
+ghost use Rattle.std.specs.{Option.option_map};
+ghost use Rattle.star_interval.specs.{Interval.wide_range_of, Range.only};
 ghost use Rattle.star_program.specs.World.{World};
+ghost use Rattle.star_safety.specs.Tallies.{Share, aggregate_range, hull_with, reach_of, read_range};
+ghost use Rattle.star_verify.specs.{Private.Made.IsMade, Private.Views.IsTally};
 ghost use Rattle.star_safety.specs.Ranges as ranges;
 ghost use Rattle.star_safety.specs.Refusals as refusals;
-ghost use Rattle.star_safety.specs.Tallies.{Share, aggregate_range, hull_with, reach_of, read_range};
-ghost use Rattle.star_verify.specs.Private.Made.{IsMade};
-ghost use Rattle.star_verify.specs.Private.Views.{IsTally};
 
 use crate::known::{Beyond, Known, given};
 use crate::tally::Tally;

@@ -4,12 +4,10 @@ ghost use Rattle.std.specs.Prelude.{◌≡◌, None, IfErr, IfOk, OnOk};
 ghost use Rattle.star_common.specs.Memory.{UnlessMemory};
 ghost use Rattle.star_world.specs.WorldOf.{world_of};
 ghost use Rattle.star_safety.specs.Admissible.{first_refusal};
+ghost use Rattle.star_program.specs.Limits.{IsWithinLimits};
+ghost use Rattle.star_verify.specs.{declared.refusal.Refusal.TheVariants.OutOfMemory, Checked.IsVerified, Views.refusal_view};
 ghost use Rattle.star_safety.specs.MostRows as bound;
 ghost use Rattle.star_safety.specs.Quote as spec;
-ghost use Rattle.star_program.specs.Limits.{IsWithinLimits};
-ghost use Rattle.star_verify.specs.declared.refusal.Refusal.TheVariants.{OutOfMemory};
-ghost use Rattle.star_verify.specs.Checked.{IsVerified};
-ghost use Rattle.star_verify.specs.Views.{refusal_view};
 
 use crate::check::check;
 use crate::facts::Facts;

@@ -1,12 +1,9 @@
 -- Limits of trials, and arguments that are separated one by one.
 use Rattle.std.proofs.Common.{◌+◌, Global, String, add-one, drop-cons, get_or, map, string_bytes, ◌≡◌, ◌∙◌, ◌<◌, ◌≤◌, ◌++◌, ◌&&◌, ap, sym, subst, ℕ, List, [], ◌∷◌, length, Bool, true, false, Option, Some, None, if◌then◌else◌, drop, append-nil, refl, nat_lt, tests, rules}
-use Rattle.std.specs.Char.{digit_value}
-use Rattle.std.specs.List.{list_all}
-use Rattle.std.specs.Str.Parse.{AllDigits, IsNumeral, digits_value, without_leading_plus}
-use Rattle.std.proofs.lemmas.List.{drop_all}
+use Rattle.std.proofs.{lemmas.List.drop_all}
+use Rattle.std.specs.{Char.digit_value, List.list_all, Str.Parse.AllDigits, Str.Parse.IsNumeral, Str.Parse.digits_value, Str.Parse.without_leading_plus}
 use Rattle.star_words.specs.Private.Parting.{AreArguments, IsAdded, all_operands, all_options, texts}
-use Rattle.star_words.specs.Requests.{Word, limit_of, operands, options}
-use Rattle.star_words.specs.declared.request.Arguments.{Arguments}
+use Rattle.star_words.specs.{Requests.Word, Requests.limit_of, Requests.operands, Requests.options, declared.request.Arguments.Arguments}
 
 -- ---- limits
 

@@ -1,19 +1,14 @@
 -- What arguments ask for, one by one; that no folder's name is empty; and what is said of arguments
 -- that ask for nothing.
 use Rattle.std.proofs.Common.{◌≡◌, [], ◌∷◌, Some, None, true, false, refl}
-use Rattle.std.specs.Borrow.{Bor}
-use Rattle.std.specs.Prelude.{List, codes}
-use Rattle.clap.specs.Values.{kind_of}
-use Rattle.clap.specs.declared.error.Error.{Error}
-use Rattle.clap.specs.declared.error.kind.ErrorKind.TheVariants.{DisplayHelp, DisplayVersion, UnknownArgument, OutOfMemory as NoMemory}
+use Rattle.std.specs.{Borrow.Bor, Prelude.List, Prelude.codes}
+use Rattle.clap.specs.{Values.kind_of, declared.error.Error.Error, declared.error.kind.ErrorKind.TheVariants.DisplayHelp, declared.error.kind.ErrorKind.TheVariants.DisplayVersion, declared.error.kind.ErrorKind.TheVariants.UnknownArgument}
+use Rattle.clap.specs.{declared.error.kind.ErrorKind.TheVariants.OutOfMemory as NoMemory}
 use Rattle.star_common.proofs.Tables.{Gives}
-use Rattle.star_schema.specs.Most.{most_rows}
-use Rattle.star_schema.specs.declared.limits.Limits.{Limits}
-use Rattle.star_words.specs.Faults.{fault_of_kind, words_fault_status, words_fault_text, words_status}
+use Rattle.star_schema.specs.{Most.most_rows, declared.limits.Limits.Limits}
 use Rattle.star_words.specs.Requests.{Asked, HasMostRows, IsWordsFault, Word, asked, bench, check, exec, explain, limit_of, may_ask_help, names_folders, query, quote, reports, sample, session, trial}
-use Rattle.star_words.specs.declared.fault.WordsFault.TheVariants.{EmptyFolder, NoCommand, NotText, OutOfMemory}
-use Rattle.star_words.specs.declared.request.Request.TheVariants.{Answer}
-use Rattle.star_words.specs.declared.request.Task.TheVariants.{Trial}
+use Rattle.star_words.specs.{Faults.fault_of_kind, Faults.words_fault_status, Faults.words_fault_text, Faults.words_status, declared.fault.WordsFault.TheVariants.EmptyFolder, declared.fault.WordsFault.TheVariants.NoCommand, declared.fault.WordsFault.TheVariants.NotText}
+use Rattle.star_words.specs.{declared.fault.WordsFault.TheVariants.OutOfMemory, declared.request.Request.TheVariants.Answer, declared.request.Task.TheVariants.Trial}
 
 -- ---- the arguments of each command, in order
 

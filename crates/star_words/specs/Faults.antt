@@ -1,12 +1,9 @@
 -- What is told of words that ask for nothing, and the exit status.
 use Rattle.std.specs.Prelude.{ℕ, List, Option, Some, None, codes}
-use Rattle.clap.specs.Values.{kind_of}
-use Rattle.clap.specs.declared.error.Error.{Error}
-use Rattle.clap.specs.declared.error.kind.ErrorKind.{ErrorKind}
-use Rattle.clap.specs.declared.error.kind.ErrorKind.TheVariants as kinds
-use Rattle.clap.specs.declared.error.kind.ErrorKind.TheVariants.{DisplayHelp, DisplayVersion}
-use Rattle.star_words.specs.declared.fault.WordsFault.{WordsFault}
+use Rattle.clap.specs.{Values.kind_of, declared.error.Error.Error, declared.error.kind.ErrorKind.ErrorKind, declared.error.kind.ErrorKind.TheVariants.DisplayHelp, declared.error.kind.ErrorKind.TheVariants.DisplayVersion}
 use Rattle.star_words.specs.declared.fault.WordsFault.TheVariants.{Told, NotText, EmptyFolder, NoCommand, OutOfMemory}
+use Rattle.star_words.specs.{declared.fault.WordsFault.WordsFault}
+use Rattle.clap.specs.declared.error.kind.ErrorKind.TheVariants as kinds
 
 -- an error of the parser of the words: it too may want memory
 abbrev pub fault_of_kind : Error → ErrorKind → WordsFault

@@ -1,17 +1,10 @@
 -- What the arguments of a command line ask for, one by one.
 use Rattle.std.specs.Prelude.{◌≡◌, ⊤, ◌&&◌, ◌||◌, ◌==◌, ℕ, Bool, true, false, List, [], ◌∷◌, Option, Some, None, if◌then◌else◌, codes, length, map, nat_le, nat_lt, slice_index}
-use Rattle.std.specs.Char.{digit_value}
-use Rattle.std.specs.List.{list_all}
-use Rattle.std.specs.Option.{option_map}
-use Rattle.std.specs.Str.{bytes_eq}
-use Rattle.std.specs.Str.Parse.{digits_value, without_leading_plus}
+use Rattle.std.specs.{Char.digit_value, List.list_all, Option.option_map, Str.bytes_eq, Str.Parse.digits_value, Str.Parse.without_leading_plus}
 use Rattle.star_schema.specs.Most.{most_rows}
-use Rattle.star_words.specs.Faults.{words_fault_status}
-use Rattle.star_words.specs.declared.fault.WordsFault.{WordsFault}
-use Rattle.star_words.specs.declared.fault.WordsFault.TheVariants.{EmptyFolder, NotText, OutOfMemory}
-use Rattle.star_words.specs.declared.request.Request.{Request}
+use Rattle.star_words.specs.{Faults.words_fault_status, declared.fault.WordsFault.WordsFault, declared.fault.WordsFault.TheVariants.EmptyFolder, declared.fault.WordsFault.TheVariants.NotText, declared.fault.WordsFault.TheVariants.OutOfMemory, declared.request.Request.Request}
+use Rattle.star_words.specs.{declared.request.Task.Task}
 use Rattle.star_words.specs.declared.request.Request.TheVariants as request
-use Rattle.star_words.specs.declared.request.Task.{Task}
 use Rattle.star_words.specs.declared.request.Task.TheVariants as task
 
 abbrev pub Word : Type 0

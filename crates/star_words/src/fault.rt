@@ -2,8 +2,7 @@
 
 ghost use Rattle.std.specs.Prelude.{◌≡◌};
 ghost use Rattle.star_common.specs.Memory.{TellsMemory};
-ghost use Rattle.star_words.specs.Faults.{fault_of_error, words_fault_status, words_fault_text, words_status};
-ghost use Rattle.star_words.specs.declared.fault.WordsFault.TheVariants.{OutOfMemory};
+ghost use Rattle.star_words.specs.{Faults.fault_of_error, Faults.words_fault_status, Faults.words_fault_text, Faults.words_status, declared.fault.WordsFault.TheVariants.OutOfMemory};
 
 use clap::Error;
 use clap::error::ErrorKind;

@@ -1,8 +1,7 @@
 -- The first place of a key is each place that it has, where no two are one.
 use Rattle.std.proofs.Common.{◌≡◌, ◌≢◌, ◌<◌, ◌+◌, ◌↔◌, ℕ, zero, suc, ℤ, Bool, true, false, true≢false, cond, List, [], ◌∷◌, Some, None, Option, length, arith, ap, sym, subst, ◌∙◌, refl, slice_get, ⊎_elim}
-use Rattle.std.specs.Prelude.{◌&&◌, AllPairs, IfSome}
-use Rattle.std.specs.{List.position_from, Ordering.int_eq}
-use Rattle.std.proofs.lemmas.{Bool.cases_lt, Bool.Decides.Decides-int_eq, Cmp.int_eq_equiv, Option.get_or_from_slice_get, Option.same_Some, Option.slice_get_within}
+use Rattle.std.proofs.{lemmas.Bool.cases_lt, lemmas.Bool.Decides.Decides-int_eq, lemmas.Cmp.int_eq_equiv, lemmas.Option.get_or_from_slice_get, lemmas.Option.same_Some, lemmas.Option.slice_get_within}
+use Rattle.std.specs.{Prelude.◌&&◌, Prelude.AllPairs, Prelude.IfSome, List.position_from, Ordering.int_eq}
 use Rattle.star_world.specs.WorldOf.{is_key}
 
 itself : (n : ℤ) → is_key n (n ∷ []) ≡ true

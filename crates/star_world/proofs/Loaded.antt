@@ -1,12 +1,11 @@
 -- The world of sound rows is loaded.
 use Rattle.std.proofs.Common.{◌≡◌, ◌<◌, ◌≤◌, ℕ, ℤ, List, [], ◌∷◌, Some, None, Option, length, arith, ap, ◌∙◌, get_or}
+use Rattle.std.proofs.{lemmas.List.length-map, lemmas.List.Elements.Contains-get_or, lemmas.List.Sums.count_by-le-length, lemmas.Option.slice_get-get_or, lemmas.Option.slice_get_within}
 use Rattle.std.specs.{Prelude.Contains, Prelude.pos, Ordering.is_lt, Ordering.is_le}
-use Rattle.std.proofs.lemmas.{List.length-map, List.Elements.Contains-get_or, List.Sums.count_by-le-length, Option.slice_get-get_or, Option.slice_get_within}
-use Rattle.star_schema.specs.{Bounds.numbers_of, Bounds.numbers_at, Database.Database, Database.rows_in, Dictionary.text_cmp, Loadable.IsSound, Loadable.keys_of, Schema.table_of, Tables.Value, Texts.texts_of, Texts.texts_at, Columns.column_dictionary, Columns.column_numbers, Columns.column_texts}
-use Rattle.star_schema.specs.declared.{column.ColumnId.ColumnId, table.TableId.TableId}
+use Rattle.star_schema.specs.{Bounds.numbers_of, Bounds.numbers_at, Database.Database, Database.rows_in, Dictionary.text_cmp, Loadable.IsSound, Loadable.keys_of, Schema.table_of, Tables.Value, Texts.texts_of, Texts.texts_at, Columns.column_dictionary, Columns.column_numbers}
+use Rattle.star_schema.specs.{Columns.column_texts, declared.column.ColumnId.ColumnId, declared.table.TableId.TableId}
 use Rattle.star_schema.proofs.{Extremes.least_below, Extremes.greatest_above, TextPlaces.code_within}
-use Rattle.star_program.specs.declared.op.Edge.{Edge, TheVariants.Low, TheVariants.High}
-use Rattle.star_program.specs.World.{World, IsLoaded, IsRowNumberOf, edge_of}
+use Rattle.star_program.specs.{declared.op.Edge.Edge, declared.op.Edge.TheVariants.Low, declared.op.Edge.TheVariants.High, World.World, World.IsLoaded, World.IsRowNumberOf, World.edge_of}
 use Rattle.star_world.specs.WorldOf.{world_of}
 use Rattle.star_world.proofs.Found.{IsFound, found_from}
 

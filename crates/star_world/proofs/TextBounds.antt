@@ -1,14 +1,13 @@
 -- A column of texts has no numbers, so that its bounds are 0 and 0.
 use Rattle.std.proofs.Common.{◌≡◌, ℤ, pos, List, [], ◌∷◌, Option, Some, None, refl, sym, ap, ◌∙◌}
+use Rattle.std.proofs.{lemmas.List.Elements.All-contains, lemmas.List.Elements.All-map, lemmas.Option.slice_get-map}
 use Rattle.std.specs.{List.All, Option.option_map, Prelude.slice_get}
-use Rattle.std.proofs.lemmas.{List.Elements.All-contains, List.Elements.All-map, Option.slice_get-map}
-use Rattle.star_schema.specs.{Bounds.greatest, Bounds.least, Bounds.number_in, Bounds.numbers_at, Database.Database, Database.rows_in, Schema.columns_of, Schema.kind_of, Schema.place_of, Schema.table_of, Columns.column_numbers}
 use Rattle.star_schema.specs.Tables.{IsRowOf, Number, Text, Value, kind_of_value}
-use Rattle.star_schema.specs.declared.column.ColumnId.{ColumnId}
-use Rattle.star_schema.specs.declared.column.Kind.TheVariants as kind
+use Rattle.star_schema.specs.{Bounds.greatest, Bounds.least, Bounds.number_in, Bounds.numbers_at, Database.Database, Database.rows_in, Schema.columns_of, Schema.kind_of, Schema.place_of, Schema.table_of, Columns.column_numbers, declared.column.ColumnId.ColumnId}
 use Rattle.star_schema.proofs.{Extremes.least_there, Extremes.greatest_there, Places.at_place}
 use Rattle.star_interval.specs.Range.{only}
 use Rattle.star_world.specs.WorldOf.{world_of}
+use Rattle.star_schema.specs.declared.column.Kind.TheVariants as kind
 
 abbrev IsZero : ℤ → Type 0
 IsZero n = n ≡ pos 0

@@ -1,8 +1,7 @@
 -- What a program can see of some rows, column by column.
 use Rattle.std.specs.Prelude.{◌≡◌, ◌↔◌, ◌<◌, ℕ, ℤ, List, true, false, Some, length, nat_lt, slice_get}
-use Rattle.std.specs.Ordering.{is_le, is_lt}
-use Rattle.star_schema.specs.declared.{column.ColumnId.ColumnId, table.Key.TheVariants.One, table.TableId.TableId}
-use Rattle.star_schema.specs.{Database.Database, Database.rows_in, Dictionary.text_cmp, Schema.key_of, Schema.references, Schema.table_of, Columns.column_numbers, Columns.column_texts}
+use Rattle.std.specs.{Ordering.is_le, Ordering.is_lt}
+use Rattle.star_schema.specs.{declared.column.ColumnId.ColumnId, declared.table.Key.TheVariants.One, declared.table.TableId.TableId, Database.Database, Database.rows_in, Dictionary.text_cmp, Schema.key_of, Schema.references, Schema.table_of, Columns.column_numbers, Columns.column_texts}
 use Rattle.star_program.specs.World.{World, IsRowNumberOf, is_text}
 
 -- a row has this number, or this text, in a column

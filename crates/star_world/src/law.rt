@@ -1,10 +1,8 @@
 //! Laws of the world of a program: functions with empty bodies, whose clauses are the laws.
 
-ghost use Rattle.star_schema.specs.Database.{Database};
-ghost use Rattle.star_schema.specs.Loadable.{IsSound};
+ghost use Rattle.star_schema.specs.{Database.Database, Loadable.IsSound};
 ghost use Rattle.star_program.specs.World.{IsLoaded};
-ghost use Rattle.star_world.specs.RowsSeen.{IsWorldOf};
-ghost use Rattle.star_world.specs.WorldOf.{world_of};
+ghost use Rattle.star_world.specs.{RowsSeen.IsWorldOf, WorldOf.world_of};
 
 /// States that in the world of sound rows each column's bounds hold its numbers, each code of a
 /// column is less than the number of its distinct texts, and each foreign key is found.

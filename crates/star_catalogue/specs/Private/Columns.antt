@@ -1,8 +1,7 @@
 -- A column in memory, as the column that was read.
 use Rattle.star_reader.specs.declared.column.RawColumn.{RawColumn}
+use Rattle.star_catalogue.specs.{declared.columns.Column.Column, declared.columns.Column.TheVariants.Numbers, declared.columns.Column.TheVariants.Texts}
 use Rattle.star_reader.specs.declared.column.RawColumn.TheVariants as read
-use Rattle.star_catalogue.specs.declared.columns.Column.{Column}
-use Rattle.star_catalogue.specs.declared.columns.Column.TheVariants.{Numbers, Texts}
 
 -- the column that was read with these values
 abbrev pub as_read : Column → RawColumn

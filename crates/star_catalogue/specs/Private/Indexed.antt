@@ -1,11 +1,8 @@
 -- The index of a dimension's keys.
 use Rattle.std.specs.Prelude.{ℕ, ℤ, Option, None, position}
-use Rattle.std.specs.Ordering.{int_eq}
-use Rattle.star_catalogue.specs.declared.dimension.DimensionKeys.{DimensionKeys}
-use Rattle.star_catalogue.specs.declared.dimension.DimensionKeys.TheVariants.{Far, Near}
-use Rattle.star_catalogue.specs.declared.dimension.LentKeys.{LentKeys}
-use Rattle.star_catalogue.specs.declared.dimension.LentKeys.TheVariants.{Dense, Hashed, Nowhere}
-use Rattle.star_catalogue.specs.Private.Places.{dense_at}
+use Rattle.std.specs.{Ordering.int_eq}
+use Rattle.star_catalogue.specs.{declared.dimension.DimensionKeys.DimensionKeys, declared.dimension.DimensionKeys.TheVariants.Far, declared.dimension.DimensionKeys.TheVariants.Near, declared.dimension.LentKeys.LentKeys, declared.dimension.LentKeys.TheVariants.Dense}
+use Rattle.star_catalogue.specs.{declared.dimension.LentKeys.TheVariants.Hashed, declared.dimension.LentKeys.TheVariants.Nowhere, Private.Places.dense_at}
 
 -- the row of a key, if there is one
 abbrev pub row_of_key : DimensionKeys → ℤ → Option ℕ

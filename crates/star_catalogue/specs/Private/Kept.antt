@@ -2,9 +2,7 @@
 use Rattle.std.specs.Prelude.{map}
 use Rattle.star_schema.specs.Loadable.{keys_of}
 use Rattle.star_reader.specs.Columns.{AreColumnsOf, Table, first_rows, values}
-use Rattle.star_catalogue.specs.declared.table.LoadedTable.TheInside.{Inside}
-use Rattle.star_catalogue.specs.Private.Columns.{as_read}
-use Rattle.star_catalogue.specs.Private.Keys.{AreKept}
+use Rattle.star_catalogue.specs.{declared.table.LoadedTable.TheInside.Inside, Private.Columns.as_read, Private.Keys.AreKept}
 
 abbrev pub table_view : Inside → Table
 table_view kept =

@@ -1,12 +1,6 @@
 -- The rows that foreign keys refer to.
 use Rattle.std.specs.Prelude.{◌≡◌, ◌∷◌, [], ℕ, ℤ, List, Some, length, map, slice_get, slice_index_or}
-use Rattle.star_schema.specs.declared.column.ColumnId.{ColumnId}
-use Rattle.star_schema.specs.declared.column.TheConstants.{COLUMNS}
-use Rattle.star_schema.specs.declared.table.TableId.{TableId}
-use Rattle.star_schema.specs.Bounds.{numbers_of}
-use Rattle.star_schema.specs.Database.{Database, rows_in}
-use Rattle.star_schema.specs.Loadable.{keys_of}
-use Rattle.star_schema.specs.Schema.{index_of, references, table_of}
+use Rattle.star_schema.specs.{declared.column.ColumnId.ColumnId, declared.column.TheConstants.COLUMNS, declared.table.TableId.TableId, Bounds.numbers_of, Database.Database, Database.rows_in, Loadable.keys_of, Schema.index_of, Schema.references, Schema.table_of}
 use Rattle.star_catalogue.specs.declared.referred.Referred.{Referred}
 
 abbrev pub rows_view : Referred → ColumnId → List ℕ

@@ -1,15 +1,10 @@
 -- What a task asks of an engine.
-use Rattle.std.specs.Prelude.{◌≡◌, ℕ, List}
-use Rattle.star_engine.specs.declared.fault.EngineFault.{EngineFault}
-use Rattle.star_engine.specs.Loads.{IsNoProgram}
-use Rattle.star_engine.specs.Queries.{IsNoQuery}
-use Rattle.star_engine.specs.Questions.{Asks}
-use Rattle.star_engine.specs.QuoteTexts.{IsUnquotedOver, is_program_file}
+use Rattle.std.specs.Prelude.{◌≡◌, ℕ, List, true, false}
+use Rattle.star_engine.specs.{declared.fault.EngineFault.EngineFault, Loads.IsNoProgram, Queries.IsNoQuery, Questions.Asks, QuoteTexts.IsUnquotedOver, QuoteTexts.is_program_file}
 use Rattle.star_cli.specs.declared.answers.Asked.{Asked}
-use Rattle.star_cli.specs.declared.answers.Asked.TheVariants as asked
-use Rattle.star_words.specs.declared.request.Task.{Task}
 use Rattle.star_words.specs.declared.request.Task.TheVariants.{Sample, Check, Bench, Query, Explain, Exec, Quote, Trial}
-use Rattle.std.specs.Prelude.{true, false}
+use Rattle.star_words.specs.{declared.request.Task.Task}
+use Rattle.star_cli.specs.declared.answers.Asked.TheVariants as asked
 
 -- this is asked for a task with this file
 abbrev pub AsksFor : Task → (file : List ℕ) → Asked → Type 0

@@ -1,10 +1,7 @@
 -- Unsigned numbers in words of one width, and the encoding of a packed column.
 use Rattle.std.specs.Prelude.{◌≡◌, ◌<◌, ◌^◌, ℕ, ℤ, List, length, map, pos, ◌+ℤ◌}
 use Rattle.star_interval.specs.declared.Interval.{Interval}
-use Rattle.star_column.specs.Width.{bits_of}
-use Rattle.star_column.specs.Private.Bounds.{AreBounds}
-use Rattle.star_column.specs.declared.words.Words.{Words}
-use Rattle.star_column.specs.declared.words.Words.TheVariants.{Bits8, Bits16, Bits32, Bits64}
+use Rattle.star_column.specs.{Width.bits_of, Private.Bounds.AreBounds, declared.words.Words.Words, declared.words.Words.TheVariants.Bits8, declared.words.Words.TheVariants.Bits16, declared.words.Words.TheVariants.Bits32, declared.words.Words.TheVariants.Bits64}
 
 abbrev pub numbers_in : Words → List ℕ
 numbers_in (Bits8 words) = words.items

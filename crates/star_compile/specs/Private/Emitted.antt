@@ -1,14 +1,12 @@
 -- The code that an emitter has written, and the piece of a program that it writes next.
 use Rattle.std.specs.Prelude.{◌≡◌, ℕ, ◌+◌, ◌≤◌, List, [], ◌∷◌, ◌++◌}
-use Rattle.star_schema.specs.declared.{column.ColumnId.ColumnId, table.TableId.TableId}
+use Rattle.star_schema.specs.{declared.column.ColumnId.ColumnId, declared.table.TableId.TableId}
 use Rattle.star_plan.specs.declared.tree.Join.{Join}
 use Rattle.star_query.specs.Tree.{Measure, count, fold}
-use Rattle.star_program.specs.Code.{Code, Then}
-use Rattle.star_program.specs.declared.op.{Op.TheVariants.Assign, Operation.TheVariants.Find}
-use Rattle.star_program.specs.CodeOfSteps as step
-use Rattle.star_program.specs.declared.body.Step.{Step}
+use Rattle.star_program.specs.{Code.Code, Code.Then, declared.op.Op.TheVariants.Assign, declared.op.Operation.TheVariants.Find, declared.body.Step.Step}
 use Rattle.star_compile_laws.specs.Compiled.{Env, Rest, column_code, expression_code, register_count, with_found}
 use Rattle.star_compile.specs.declared.emitter.Emitter.{Emitter}
+use Rattle.star_program.specs.CodeOfSteps as step
 
 -- some steps, and the code after them
 abbrev pub steps_then : List Step → Code → Code

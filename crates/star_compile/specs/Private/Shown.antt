@@ -1,8 +1,6 @@
 -- A plan that shows other columns of its groups.
 use Rattle.std.specs.Prelude.{List}
-use Rattle.star_schema.specs.declared.group.GroupColumn.{GroupColumn}
-use Rattle.star_schema.specs.declared.group.Shape.{Shape}
-use Rattle.star_schema.specs.declared.group.SortKey.{SortKey}
+use Rattle.star_schema.specs.{declared.group.GroupColumn.GroupColumn, declared.group.Shape.Shape, declared.group.SortKey.SortKey}
 use Rattle.star_plan.specs.Meaning.{Plan}
 
 abbrev pub plan_shown : Plan → Shape → List GroupColumn → List SortKey → Plan

@@ -3,9 +3,7 @@ use Rattle.std.specs.Prelude.{◌≡◌, ℕ, Bool, true, false, List}
 use Rattle.star_schema.specs.Database.{Database}
 use Rattle.star_program.specs.declared.program.Parts.{Parts}
 use Rattle.star_verify.specs.declared.refusal.Refusal.{Refusal}
-use Rattle.star_engine.specs.Bench.{refusal_line}
-use Rattle.star_engine.specs.Executions.{IsProgramTold, IsRefusal}
-use Rattle.star_engine.specs.Noted.{Telling}
+use Rattle.star_engine.specs.{Bench.refusal_line, Executions.IsProgramTold, Executions.IsRefusal, Noted.Telling}
 
 -- the report of its run, or its refusal
 abbrev pub IsRunFound : Database → ℕ → Parts → (fits : Bool) → List ℕ → Type 0

@@ -1,20 +1,13 @@
 -- The laws about the program of a query.
 use Rattle.std.specs.Prelude.{◌≡◌, ◌≤◌, ◌<◌, ◌↔◌, ℕ, List, Some}
-use Rattle.std.specs.Option.{option_map}
-use Rattle.star_schema.specs.Database.{Database, rows_in}
-use Rattle.star_schema.specs.Columns.{bounds_in}
+use Rattle.std.specs.{Option.option_map}
+use Rattle.star_schema.specs.{Database.Database, Database.rows_in, Columns.bounds_in}
 use Rattle.star_plan.specs.Meaning.{Plan}
-use Rattle.star_program.specs.Effects.{State}
-use Rattle.star_program.specs.Run.{Ended, run_of}
+use Rattle.star_program.specs.{Effects.State, Run.Ended, Run.run_of}
 use Rattle.star_safety.specs.Admissible.{Refused, TooCostly, first_refusal}
 use Rattle.star_world.specs.WorldOf.{world_of}
-use Rattle.star_compile_laws.specs.Compiled.{compiled}
-use Rattle.star_compile_laws.specs.Counts.{HasCounted}
-use Rattle.star_compile_laws.specs.Judged.{IsOverflow}
-use Rattle.star_compile_laws.specs.Wide.{turn_wide}
-use Rattle.star_engine.specs.Executions.{IsAcceptedWithin, quote_over}
-use Rattle.star_engine.specs.Queries.{FitsRows, IsPlanOf, fact_rows}
-use Rattle.star_engine.specs.QueryRuns.{PrintsTheReport}
+use Rattle.star_compile_laws.specs.{Compiled.compiled, Counts.HasCounted, Judged.IsOverflow, Wide.turn_wide}
+use Rattle.star_engine.specs.{Executions.IsAcceptedWithin, Executions.quote_over, Queries.FitsRows, Queries.IsPlanOf, Queries.fact_rows, QueryRuns.PrintsTheReport}
 
 -- the laws about the program of a query over the rows of five tables
 pub record IsJudged (most : ℕ) (database : Database) (query : List ℕ) (p : Plan) : Type 0 where

@@ -1,13 +1,7 @@
 -- The result of a question of either kind over five texts.
 use Rattle.std.specs.Prelude.{ℕ, List, Bool, true, false}
 use Rattle.star_schema.specs.Database.{TableTexts}
-use Rattle.star_engine.specs.declared.fault.EngineFault.{EngineFault}
-use Rattle.star_engine.specs.Executions.{IsUntold}
-use Rattle.star_engine.specs.Loads.{HoldsOfRows}
-use Rattle.star_engine.specs.Noted.{Telling}
-use Rattle.star_engine.specs.Queries.{IsUnanswered}
-use Rattle.star_engine.specs.QuoteTexts.{IsQuoteOfKindOver}
-use Rattle.star_engine.specs.Tellings.{IsToldOfKind}
+use Rattle.star_engine.specs.{declared.fault.EngineFault.EngineFault, Executions.IsUntold, Loads.HoldsOfRows, Noted.Telling, Queries.IsUnanswered, QuoteTexts.IsQuoteOfKindOver, Tellings.IsToldOfKind}
 
 -- the note of its quote
 abbrev pub IsQuoteOfTexts : (is_program : Bool) → (rows : ℕ) → TableTexts → (file text : List ℕ) → Type 0

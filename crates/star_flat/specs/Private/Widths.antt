@@ -1,7 +1,6 @@
 -- The widths of signed words.
 use Rattle.std.specs.Prelude.{ℕ}
-use Rattle.star_flat.specs.declared.words.SignedWords.{SignedWords}
-use Rattle.star_flat.specs.declared.words.SignedWords.TheVariants.{Bits8, Bits16, Bits32, Bits64}
+use Rattle.star_flat.specs.{declared.words.SignedWords.SignedWords, declared.words.SignedWords.TheVariants.Bits8, declared.words.SignedWords.TheVariants.Bits16, declared.words.SignedWords.TheVariants.Bits32, declared.words.SignedWords.TheVariants.Bits64}
 
 -- how often words can be replaced by words twice as wide
 abbrev pub widenings : SignedWords → ℕ

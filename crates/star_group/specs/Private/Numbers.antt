@@ -1,13 +1,9 @@
 -- The numbers of rows by their keys, and the room for more of them.
 use Rattle.std.specs.Prelude.{◌≡◌, ℕ, ℤ, ◌+◌, ◌*◌, ◌^◌, ◌<◌, ◌≤◌, List, Option, drop, length, vec_len}
-use Rattle.std.specs.List.{AllByRecursion}
-use Rattle.std.specs.Vec.{vec_capacity}
+use Rattle.std.specs.{List.AllByRecursion, Vec.vec_capacity}
 use Rattle.star_schema.specs.declared.group.Aggregate.{Aggregate}
-use Rattle.star_group.specs.declared.keyed.key.KeyPart.{KeyPart}
-use Rattle.star_group.specs.declared.keyed.KeyedRows.{KeyedRows}
-use Rattle.star_group.specs.declared.keyed.ListedRows.{ListedRows}
+use Rattle.star_group.specs.{declared.keyed.key.KeyPart.KeyPart, declared.keyed.KeyedRows.KeyedRows, declared.keyed.ListedRows.ListedRows, Keyed.all_hidden}
 use Rattle.star_program.specs.Rows.{cut}
-use Rattle.star_group.specs.Keyed.{all_hidden}
 
 abbrev pub listed_keys : ListedRows → List (List KeyPart)
 listed_keys rows = cut rows.width rows.len rows.keys.items

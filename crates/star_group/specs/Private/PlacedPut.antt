@@ -1,15 +1,7 @@
 -- The rows of a batch at places, and the rows of all keys.
 use Rattle.std.specs.Prelude.{◌≡◌, ◌<◌, ℕ, Bool, ℤ, List, Option, Some, length, slice_index_or}
-use Rattle.star_schema.specs.declared.group.Aggregate.{Aggregate}
-use Rattle.star_schema.specs.declared.group.Shape.{Shape}
-use Rattle.star_group.specs.declared.batch.PutBatch.{PutBatch}
-use Rattle.star_group.specs.declared.keyed.key.KeyPart.{KeyPart}
-use Rattle.star_group.specs.declared.placed.span.Span.{Span}
-use Rattle.star_group.specs.Batches.{put_in}
-use Rattle.star_group.specs.ByPlace.{IsPlaced}
-use Rattle.star_group.specs.Places.{cell_place}
-use Rattle.star_group.specs.Base.{group_with}
-use Rattle.star_group.specs.Private.Coarser.{IsRolledUp}
+use Rattle.star_schema.specs.{declared.group.Aggregate.Aggregate, declared.group.Shape.Shape}
+use Rattle.star_group.specs.{declared.batch.PutBatch.PutBatch, declared.keyed.key.KeyPart.KeyPart, declared.placed.span.Span.Span, Batches.put_in, ByPlace.IsPlaced, Places.cell_place, Base.group_with, Private.Coarser.IsRolledUp}
 use Rattle.star_program.specs.Puts.{Update}
 
 -- the rows of a batch have these places

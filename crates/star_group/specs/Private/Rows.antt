@@ -1,15 +1,9 @@
 -- Rows by their keys, and one more row merged into some of them.
 use Rattle.std.specs.Prelude.{◌≡◌, ℕ, Bool, true, false, ℤ, List, [], Option, None, map, slice_index_or, take}
-use Rattle.std.specs.List.{list_any}
-use Rattle.std.specs.Option.{unwrap_or}
-use Rattle.star_schema.specs.declared.group.Aggregate.{Aggregate}
-use Rattle.star_schema.specs.declared.group.Shape.{Shape}
-use Rattle.star_schema.specs.Groups.{is_grouping}
+use Rattle.std.specs.{List.list_any, Option.unwrap_or}
+use Rattle.star_schema.specs.{declared.group.Aggregate.Aggregate, declared.group.Shape.Shape, Groups.is_grouping}
 use Rattle.star_program.specs.declared.key.KeyValue.{KeyValue}
-use Rattle.star_group.specs.declared.keyed.key.KeyPart.{KeyPart}
-use Rattle.star_group.specs.Base.{key_view}
-use Rattle.star_group.specs.OwnKeys.{key_eq}
-use Rattle.star_group.specs.Private.Merged.{IsMergedInto, MergeLeaves, MergeStays}
+use Rattle.star_group.specs.{declared.keyed.key.KeyPart.KeyPart, Base.key_view, OwnKeys.key_eq, Private.Merged.IsMergedInto, Private.Merged.MergeLeaves, Private.Merged.MergeStays}
 
 -- a row over no puts
 abbrev pub IsBlank : List (Option ℤ) → Type 0

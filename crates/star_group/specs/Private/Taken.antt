@@ -1,13 +1,8 @@
 -- What stands at places after one number more for each of some rows.
 use Rattle.std.specs.Prelude.{◌≡◌, ℕ, zero, suc, ◌<◌, false, ℤ, pos, List, [], ◌∷◌, Some, length, slice_index_or, slice_set, take, drop}
-use Rattle.star_schema.specs.declared.group.Aggregate.{Aggregate}
-use Rattle.star_schema.specs.declared.group.Aggregate.TheVariants.{Count}
-use Rattle.star_program.specs.Puts.{leaves}
-use Rattle.star_program.specs.Rows.{cut}
-use Rattle.star_group.specs.declared.batch.PutBatch.{PutBatch}
-use Rattle.star_group.specs.Batches.{put_in}
-use Rattle.star_group.specs.Cells.{step}
-use Rattle.star_group.specs.Stores.{put_number}
+use Rattle.star_schema.specs.{declared.group.Aggregate.Aggregate, declared.group.Aggregate.TheVariants.Count}
+use Rattle.star_program.specs.{Puts.leaves, Rows.cut}
+use Rattle.star_group.specs.{declared.batch.PutBatch.PutBatch, Batches.put_in, Cells.step, Stores.put_number}
 
 -- the items after the first rows, where each row changes the item at its place
 unfoldable pub after_rows : {A : Type 0} → A → (ℕ → A → A) → List ℕ → List A → ℕ → List A

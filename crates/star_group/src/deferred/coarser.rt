@@ -1,15 +1,11 @@
 // The rows in which keys are ALL, made from those in which fewer are.
 
 ghost use Rattle.std.specs.Prelude.{◌≡◌, ◌≤◌, ◌<◌, ◌+◌, ◌++◌, true, List, length, take, IfOk, OnOk};
-ghost use Rattle.star_schema.specs.Groups as groups;
-ghost use Rattle.star_group.specs.Base.{group_with, key_view, row_found};
-ghost use Rattle.star_group.specs.Entries.{entries_of, listed_entries};
-ghost use Rattle.star_group.specs.Private.Coarser as spec;
 ghost use Rattle.star_group.specs.Private.Coarser.{IsMergedWhere, IsRolledUp, IsRolledUpWithRoom, NoneCoarser, RollsUp};
-ghost use Rattle.star_group.specs.Private.Merged.{RowsStay};
-ghost use Rattle.star_group.specs.Private.Numbers.{AreAsWide, FitsIn, IsNarrow};
-ghost use Rattle.star_group.specs.StoreRows.{AreRows};
+ghost use Rattle.star_group.specs.{Base.group_with, Base.key_view, Base.row_found, Entries.entries_of, Entries.listed_entries, Private.Merged.RowsStay, Private.Numbers.AreAsWide, Private.Numbers.FitsIn, Private.Numbers.IsNarrow, StoreRows.AreRows};
 ghost use Rattle.star_program.specs.Puts.{Update};
+ghost use Rattle.star_schema.specs.Groups as groups;
+ghost use Rattle.star_group.specs.Private.Coarser as spec;
 
 use crate::GroupRows;
 use crate::cell::Held;

@@ -1,8 +1,7 @@
 // A deferred store is a store of groups.
 
 ghost use Rattle.std.specs.Prelude.{◌≡◌, ◌∷◌, List, length, OnErr, OnOk};
-ghost use Rattle.star_group.specs.Base.{AreInBits};
-ghost use Rattle.star_group.specs.Deferred.{group_view, Has};
+ghost use Rattle.star_group.specs.{Base.AreInBits, Deferred.group_view, Deferred.Has};
 ghost use Rattle.star_program.specs.Puts.{Update};
 
 use super::DeferredStore;

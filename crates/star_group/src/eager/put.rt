@@ -2,12 +2,7 @@
 
 ghost use Rattle.std.specs.Prelude.{◌≡◌, ◌≤◌, ◌⊎◌, length, IfErr, OnErr, OnOk};
 ghost use Rattle.star_common.specs.Memory.{UnlessMemory};
-ghost use Rattle.star_group.specs.Base.{row_found};
-ghost use Rattle.star_group.specs.Entries.{entries_of};
-ghost use Rattle.star_group.specs.OwnKeys.{is_of_put};
-ghost use Rattle.star_group.specs.Private.Merged.{IsMerged, MergeLeaves, MergeStays};
-ghost use Rattle.star_group.specs.Private.Numbers.{AreAsWide, FitsIn};
-ghost use Rattle.star_group.specs.Private.Rows.{PutsRows, SomeLeaves};
+ghost use Rattle.star_group.specs.{Base.row_found, Entries.entries_of, OwnKeys.is_of_put, Private.Merged.IsMerged, Private.Merged.MergeLeaves, Private.Merged.MergeStays, Private.Numbers.AreAsWide, Private.Numbers.FitsIn, Private.Rows.PutsRows, Private.Rows.SomeLeaves};
 
 use super::row_keys::fill_row_keys;
 use crate::KeyValue;

@@ -1,13 +1,10 @@
 // The keys of rows by their keys.
 
 ghost use Rattle.std.specs.Prelude.{◌≡◌, ◌≤◌, ◌<◌, Some, None, length, slice_set, take};
-ghost use Rattle.std.specs.List.{list_all};
-ghost use Rattle.std.specs.Option.{is_some};
+ghost use Rattle.std.specs.{List.list_all, Option.is_some};
 ghost use Rattle.star_schema.specs.declared.group.Shape.TheVariants.{Rollup};
+ghost use Rattle.star_group.specs.{OwnKeys.padded, Base.key_view, Base.key_value_view, Keyed.filled};
 ghost use Rattle.star_schema.specs.Groups as spec;
-ghost use Rattle.star_group.specs.OwnKeys.{padded};
-ghost use Rattle.star_group.specs.Base.{key_view, key_value_view};
-ghost use Rattle.star_group.specs.Keyed.{filled};
 
 use crate::KeyValue;
 use crate::group_row::{ALL, Key};

@@ -1,9 +1,7 @@
 // Rows with their keys, one after another, with nothing to find them by.
 
 ghost use Rattle.std.specs.Prelude.{◌≡◌, ◌<◌, ◌+◌, ◌++◌, ◌∷◌, ℕ, [], None, length, slice_index_or, take, IsOk, OnErr, OnOk};
-ghost use Rattle.star_group.specs.Base.{key_view};
-ghost use Rattle.star_group.specs.Entries.{listed_entries};
-ghost use Rattle.star_group.specs.Private.Numbers.{HasRowSpace, IsNarrow, listed_keys};
+ghost use Rattle.star_group.specs.{Base.key_view, Entries.listed_entries, Private.Numbers.HasRowSpace, Private.Numbers.IsNarrow, Private.Numbers.listed_keys};
 
 use super::ListedRows;
 use super::key::{KeyPart, OrderedKey, in_six_places, value_in};

@@ -1,12 +1,9 @@
 // Rows by their keys: making, finding and changing them.
 
 ghost use Rattle.std.specs.Prelude.{◌≡◌, ◌≤◌, ◌+◌, ◌++◌, ◌∷◌, ℕ, [], length, max, take, IfOk, IsOk, MatchOption, OnErr, OnOk};
-ghost use Rattle.std.specs.Option.{option_copied};
-ghost use Rattle.star_group.specs.Base.{key_view, row_found};
-ghost use Rattle.star_group.specs.Entries.{entries_of};
-ghost use Rattle.star_group.specs.Private.Merged.{IsMergedAt, RowsStay};
+ghost use Rattle.std.specs.{Option.option_copied};
 ghost use Rattle.star_group.specs.Private.Numbers.{AreAsWide, FitsIn, HasSpace, IsNarrow, keys_in};
-ghost use Rattle.star_group.specs.Private.Tries.{IsMissing};
+ghost use Rattle.star_group.specs.{Base.key_view, Base.row_found, Entries.entries_of, Private.Merged.IsMergedAt, Private.Merged.RowsStay, Private.Tries.IsMissing};
 
 use super::cells::merge_at;
 use super::key::OrderedKey;

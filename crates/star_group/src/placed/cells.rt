@@ -2,13 +2,9 @@
 
 ghost use Rattle.std.specs.Prelude.{◌≡◌, ◌≤◌, ◌<◌, ◌+◌, ◌*◌, ◌∷◌, ℕ, All, List, None, [], false, length, map, pos, slice_index_or, slice_set, true, Some};
 ghost use Rattle.star_interval.specs.Range.{is_i64};
-ghost use Rattle.star_program.specs.Faults.{value_count};
-ghost use Rattle.star_program.specs.Puts.{aligned, leaves};
-ghost use Rattle.star_program.specs.Rows.{cut};
-ghost use Rattle.star_group.specs.Batches.{IsPutBatch, put_in, word_in};
-ghost use Rattle.star_group.specs.Cells.{step};
-ghost use Rattle.star_group.specs.Stores.{put_number};
+ghost use Rattle.star_program.specs.{Faults.value_count, Puts.aligned, Puts.leaves, Rows.cut};
 ghost use Rattle.star_group.specs.Private.Taken.{AreCellsTaken, AreWithin, CanTake, CanTakeAll, after_rows, batch_lanes, column_after, lanes_of};
+ghost use Rattle.star_group.specs.{Batches.IsPutBatch, Batches.put_in, Batches.word_in, Cells.step, Stores.put_number};
 
 use crate::batch::PutBatch;
 use crate::cell::{Held, Row};

@@ -1,13 +1,9 @@
 // The total of all puts, from the cells of the group ids and the overflow store's total.
 
 ghost use Rattle.std.specs.Prelude.{◌≡◌, ◌≤◌, ℕ, List, Some, length};
-ghost use Rattle.star_group.specs.Base.{HasAggregates, key_view};
-ghost use Rattle.star_group.specs.OwnKeys.{padded};
+ghost use Rattle.star_group.specs.{Base.HasAggregates, Base.key_view, OwnKeys.padded, Private.Numbers.IsNarrow, Placed.Has, Placed.group_view};
+ghost use Rattle.star_program.specs.{Puts.Update, declared.key.KeyValue.KeyValue as Value};
 ghost use Rattle.star_group.specs.Places as spec;
-ghost use Rattle.star_group.specs.Private.Numbers.{IsNarrow};
-ghost use Rattle.star_program.specs.Puts.{Update};
-ghost use Rattle.star_group.specs.Placed.{Has, group_view};
-ghost use Rattle.star_program.specs.declared.key.KeyValue.{KeyValue as Value};
 
 use super::PlacedStore;
 use super::cells::row_at;

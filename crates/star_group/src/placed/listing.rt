@@ -1,10 +1,8 @@
 // The rows of all keys: those of the overflow store, and those of the group ids.
 
 ghost use Rattle.std.specs.Prelude.{◌≡◌, ◌≤◌, ◌*◌, OnOk, length};
+ghost use Rattle.star_group.specs.{Private.Coarser.AreOnce, Entries.listed_entries, Private.PlacedPut.IsListed};
 ghost use Rattle.star_group.specs.Places as spec;
-ghost use Rattle.star_group.specs.Private.Coarser.{AreOnce};
-ghost use Rattle.star_group.specs.Entries.{listed_entries};
-ghost use Rattle.star_group.specs.Private.PlacedPut.{IsListed};
 
 use super::cells::row_at;
 use super::filling::key_at;

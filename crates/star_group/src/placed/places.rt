@@ -2,9 +2,8 @@
 
 ghost use Rattle.std.specs.Prelude.{◌≡◌, ◌≤◌, ◌<◌, ◌+◌, ◌*◌, ◌^◌, ◌-ℤ◌, ℕ, IfSome, List, None, Some, false, length, pos, slice_index_or, take, true, MatchOption};
 ghost use Rattle.star_program.specs.declared.key.KeyValue.{KeyValue as Value};
-ghost use Rattle.star_group.specs.Batches.{IsPutBatch, put_in};
+ghost use Rattle.star_group.specs.{Batches.IsPutBatch, Batches.put_in, Places.above, Places.places, Places.place_up_to};
 ghost use Rattle.star_group.specs.Places as spec;
-ghost use Rattle.star_group.specs.Places.{above, places, place_up_to};
 
 use super::span::Span;
 use crate::KeyValue;

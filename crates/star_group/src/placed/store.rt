@@ -1,11 +1,8 @@
 // Array aggregation is a store of groups.
 
 ghost use Rattle.std.specs.Prelude.{◌≡◌, ◌≤◌, ◌<◌, ℕ, List, [], IfOk, OnErr, OnOk, length};
-ghost use Rattle.star_group.specs.Batches.{HasRoomForRows, IsPutBatch, puts_after, put_in};
-ghost use Rattle.star_group.specs.Placed.{group_view, Has};
-ghost use Rattle.star_group.specs.Private.PlacedPut.{AreAtPlaces};
+ghost use Rattle.star_group.specs.{Batches.HasRoomForRows, Batches.IsPutBatch, Batches.puts_after, Batches.put_in, Placed.group_view, Placed.Has, Private.PlacedPut.AreAtPlaces, Stores.group_declared};
 ghost use Rattle.star_program.specs.Puts.{Update};
-ghost use Rattle.star_group.specs.Stores.{group_declared};
 
 use super::PlacedStore;
 use super::cells::{are_narrow, lanes_are_narrow, mark, take_lanes, take_put};

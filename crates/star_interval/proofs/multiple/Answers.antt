@@ -1,8 +1,7 @@
 -- Both factors widen to themselves, and their product fits.
 use Rattle.std.proofs.Common.{◌≡◌, ℤ, pos, negsuc, ◌≤◌, ◌^◌, ◌-◌, to_z, of_z, FitsSigned, w64, arith, rules, lit<}
-use Rattle.std.specs.Prelude.{unsigned_abs}
-use Rattle.std.specs.Int.{w128}
-use Rattle.std.proofs.lemmas.Int.{to_z-of_z, fits_signed_mul}
+use Rattle.std.proofs.{lemmas.Int.to_z-of_z, lemmas.Int.fits_signed_mul}
+use Rattle.std.specs.{Prelude.unsigned_abs, Int.w128}
 use Rattle.star_interval.proofs.multiple.Goals as goal
 
 size_le : (x : ℤ) → FitsSigned w64 x → unsigned_abs x ≤ 2 ^ 63

@@ -1,16 +1,10 @@
 -- Rows of groups added up: rows with equal keys become one.
 use Rattle.std.specs.Prelude.{◌≡◌, ◌++◌, ℕ, ℤ, List, [], ◌∷◌, All, Bool, false, Option, None, filter, map, replicate, reverse, if◌then◌else◌}
-use Rattle.std.specs.List.{list_any}
-use Rattle.std.specs.declared.cmp.Ordering.{Ordering}
-use Rattle.star_schema.specs.declared.group.Aggregate.{Aggregate}
-use Rattle.star_schema.specs.declared.group.Shape.{Shape}
-use Rattle.star_schema.specs.Groups.{GroupRow, is_grouping, totals_of}
-use Rattle.star_schema.specs.Tables.{Value}
-use Rattle.star_schema.specs.Order.{value_cmp}
+use Rattle.std.specs.{List.list_any, declared.cmp.Ordering.Ordering}
+use Rattle.star_schema.specs.{declared.group.Aggregate.Aggregate, declared.group.Shape.Shape, Groups.GroupRow, Groups.is_grouping, Groups.totals_of, Tables.Value, Order.value_cmp}
 use Rattle.star_merge.specs.declared.merging.Merging.{Merging}
-use Rattle.star_merge_laws.specs.Merging.{merged_totals, total_over}
+use Rattle.star_merge_laws.specs.{Merging.merged_totals, Merging.total_over, Regrouping.all_added, Regrouping.are_same}
 use Rattle.star_program.specs.Puts.{masks}
-use Rattle.star_merge_laws.specs.Regrouping.{all_added, are_same}
 
 -- aggregates over no rows
 abbrev pub over_nothing : List Aggregate → List (Option ℤ)

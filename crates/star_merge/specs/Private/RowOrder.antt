@@ -1,18 +1,10 @@
 -- The order by which merged groups are sorted. It orders all rows, with NULL before the numbers; if
 -- rows have the same NULLs, it is the order of a report.
 use Rattle.std.specs.Prelude.{List, [], ◌∷◌, Bool, None, map, slice_index_or}
-use Rattle.std.specs.Cmp.Lexicographic.{slice_cmp}
-use Rattle.std.specs.Option.{is_some, option_cmp}
-use Rattle.std.specs.Ordering.{int_cmp, ordering_then}
-use Rattle.std.specs.declared.cmp.Ordering.{Ordering}
-use Rattle.star_schema.specs.declared.group.GroupColumn.{GroupColumn}
+use Rattle.std.specs.{Cmp.Lexicographic.slice_cmp, Option.is_some, Option.option_cmp, Ordering.int_cmp, Ordering.ordering_then, declared.cmp.Ordering.Ordering}
+use Rattle.star_schema.specs.{declared.group.GroupColumn.GroupColumn, declared.group.Direction.Direction, declared.group.Direction.TheVariants.Ascending, declared.group.Direction.TheVariants.Descending, declared.group.SortKey.SortKey, Groups.GroupRow, Order.key_cmp, Order.value_cmp}
+use Rattle.star_schema.specs.{Tables.Value}
 use Rattle.star_schema.specs.declared.group.GroupColumn.TheVariants as column
-use Rattle.star_schema.specs.declared.group.Direction.{Direction}
-use Rattle.star_schema.specs.declared.group.Direction.TheVariants.{Ascending, Descending}
-use Rattle.star_schema.specs.declared.group.SortKey.{SortKey}
-use Rattle.star_schema.specs.Groups.{GroupRow}
-use Rattle.star_schema.specs.Order.{key_cmp, value_cmp}
-use Rattle.star_schema.specs.Tables.{Value}
 
 abbrev pub column_order : GroupColumn → GroupRow Value → GroupRow Value → Ordering
 column_order (column.Key place) a b =

@@ -1,26 +1,10 @@
 -- Rows whose keys can be shown as texts, and their cells.
 use Rattle.std.specs.Prelude.{◌≡◌, List, [], ◌∷◌, Option, Some, None, map}
-use Rattle.std.specs.List.{AllByRecursion}
-use Rattle.star_schema.specs.Database.{Database}
-use Rattle.star_schema.specs.declared.group.SortKey.{SortKey}
-use Rattle.star_schema.specs.Groups.{AreGroups, GroupRow as Row}
-use Rattle.star_schema.specs.Order.{AreInOrder}
-use Rattle.star_schema.specs.Tables.{Value}
-use Rattle.star_program.specs.declared.group.GroupDecl.{GroupDecl}
-use Rattle.star_program.specs.declared.group.GroupKey.{GroupKey}
-use Rattle.star_program.specs.declared.key.KeyValue.{KeyValue}
-use Rattle.star_program.specs.declared.outcome.Cell.{Cell}
-use Rattle.star_program.specs.declared.program.Parts.{Parts}
-use Rattle.star_program.specs.declared.program.Show.{Show}
-use Rattle.star_program.specs.Faults.{group_at}
-use Rattle.star_program.specs.Keys.{key_value_cmp}
-use Rattle.star_program.specs.Outcome.{AreReportRows, decoded_row, shown_cells}
-use Rattle.star_program.specs.RowCells.{cell_of}
-use Rattle.star_program.specs.Puts.{Update}
-use Rattle.star_program.specs.World.{World}
-use Rattle.star_group.specs.declared.group_row.GroupRow.{GroupRow}
-use Rattle.star_group.specs.StoreRows.{AreRows, row_view}
-use Rattle.star_group.specs.Stores.{Group, group_declared}
+use Rattle.std.specs.{List.AllByRecursion}
+use Rattle.star_schema.specs.{Database.Database, declared.group.SortKey.SortKey, Groups.AreGroups, Groups.GroupRow as Row, Order.AreInOrder, Tables.Value}
+use Rattle.star_program.specs.{declared.group.GroupDecl.GroupDecl, declared.group.GroupKey.GroupKey, declared.key.KeyValue.KeyValue, declared.outcome.Cell.Cell, declared.program.Parts.Parts, declared.program.Show.Show, Faults.group_at, Keys.key_value_cmp, Outcome.AreReportRows}
+use Rattle.star_program.specs.{Outcome.decoded_row, Outcome.shown_cells, RowCells.cell_of, Puts.Update, World.World}
+use Rattle.star_group.specs.{declared.group_row.GroupRow.GroupRow, StoreRows.AreRows, StoreRows.row_view, Stores.Group, Stores.group_declared}
 use Rattle.star_outcome.specs.SoundKeys.{AreSoundKeys, IsSoundKey}
 
 -- a key of a row: ALL, or as declared

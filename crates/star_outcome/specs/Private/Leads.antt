@@ -1,20 +1,12 @@
 -- What a row has in the two columns by which it is compared first, as numbers of 64 bits.
 use Rattle.std.specs.Prelude.{ℕ, ℤ, pos, negsuc, ◌+ℤ◌, ◌-ℤ◌, Bool, ◌||◌, not, int_lt, List, [], ◌∷◌, Option, Some, None, slice_index_or, if◌then◌else◌}
-use Rattle.std.specs.Int.{int_min, int_max}
-use Rattle.std.specs.Ordering.{int_cmp, int_eq, ordering_then}
-use Rattle.std.specs.declared.cmp.Ordering.{Ordering}
-use Rattle.star_schema.specs.declared.group.GroupColumn.{GroupColumn}
-use Rattle.star_schema.specs.declared.group.GroupColumn.TheVariants as column
-use Rattle.star_schema.specs.declared.group.Direction.{Direction}
-use Rattle.star_schema.specs.declared.group.Direction.TheVariants.{Ascending, Descending}
-use Rattle.star_schema.specs.declared.group.SortKey.{SortKey}
-use Rattle.star_schema.specs.Groups.{GroupRow as Row}
+use Rattle.std.specs.{Int.int_min, Int.int_max, Ordering.int_cmp, Ordering.int_eq, Ordering.ordering_then, declared.cmp.Ordering.Ordering}
+use Rattle.star_schema.specs.{declared.group.GroupColumn.GroupColumn, declared.group.Direction.Direction, declared.group.Direction.TheVariants.Ascending, declared.group.Direction.TheVariants.Descending, declared.group.SortKey.SortKey, Groups.GroupRow as Row}
 use Rattle.star_program.specs.declared.key.KeyValue.{KeyValue}
+use Rattle.star_group.specs.{declared.group_row.GroupRow.GroupRow, StoreRows.row_at, StoreRows.row_view}
+use Rattle.star_outcome.specs.{Private.RowOrder.row_order, declared.outcome.leads.Led.Led}
+use Rattle.star_schema.specs.declared.group.GroupColumn.TheVariants as column
 use Rattle.star_program.specs.declared.key.KeyValue.TheVariants as key
-use Rattle.star_group.specs.declared.group_row.GroupRow.{GroupRow}
-use Rattle.star_group.specs.StoreRows.{row_at, row_view}
-use Rattle.star_outcome.specs.Private.RowOrder.{row_order}
-use Rattle.star_outcome.specs.declared.outcome.leads.Led.{Led}
 
 -- NULL comes first, then numbers, codes, and ALL last; numbers beyond an end have the lead of the end
 abbrev pub null_lead : ℤ

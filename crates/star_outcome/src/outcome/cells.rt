@@ -1,18 +1,14 @@
 // The cells of a report: rows with texts for codes, cut to the show lines.
 
 ghost use Rattle.std.specs.Prelude.{◌≡◌, ◌<◌, ◌++◌, IfOk, OnOk, All, length, map, true};
-ghost use Rattle.std.specs.List.{flat_map};
-ghost use Rattle.std.specs.Option.{option_map};
-ghost use Rattle.star_schema.specs.declared.column.Kind.TheVariants as kind;
-ghost use Rattle.star_schema.specs.Schema.{kind_of};
+ghost use Rattle.std.specs.{List.flat_map, Option.option_map};
+ghost use Rattle.star_schema.specs.{Schema.kind_of, Columns.column_dictionary};
 ghost use Rattle.star_group.specs.StoreRows.{row_at, row_view};
-ghost use Rattle.star_program.specs.RowCells as row_cells;
-ghost use Rattle.star_program.specs.Outcome.{decoded, decoded_row};
-ghost use Rattle.star_program.specs.RowCells.{cell_of};
-ghost use Rattle.star_program.specs.ShowLines.{has_column};
+ghost use Rattle.star_program.specs.{Outcome.decoded, Outcome.decoded_row, RowCells.cell_of, ShowLines.has_column};
 ghost use Rattle.star_outcome.specs.Private.Decoded.{AreDecodable, IsDecodable, row_cells};
 ghost use Rattle.star_world.specs.WorldOf.{world_of};
-ghost use Rattle.star_schema.specs.Columns.{column_dictionary};
+ghost use Rattle.star_schema.specs.declared.column.Kind.TheVariants as kind;
+ghost use Rattle.star_program.specs.RowCells as row_cells;
 
 use super::ahead::Ahead;
 use star_catalogue::Catalogue;

@@ -1,11 +1,10 @@
 // Rows by their numbers, each with what it has in the two columns by which it is compared first, so
 // that most comparisons of a sort read no row.
 
-ghost use Rattle.std.specs.Prelude.{◌≡◌, IfOk, length, map};
-ghost use Rattle.std.specs.List.{range_with_len};
+ghost use Rattle.std.specs.{Prelude.◌≡◌, Prelude.IfOk, Prelude.length, Prelude.map, List.range_with_len};
 ghost use Rattle.star_group.specs.StoreRows.{row_at, row_view};
-ghost use Rattle.star_outcome.specs.Private.Leads as spec;
 ghost use Rattle.star_outcome.specs.Private.Leads.{leads_cmp, led_at};
+ghost use Rattle.star_outcome.specs.Private.Leads as spec;
 
 use star_group::{GroupRows, KeyValue};
 use star_schema::{Direction, GroupColumn, SortKey};

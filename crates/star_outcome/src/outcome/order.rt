@@ -1,16 +1,12 @@
 // The order of a group's rows.
 
 ghost use Rattle.std.specs.Prelude.{◌≡◌, ◌≤◌, List, IfOk, length, map};
-ghost use Rattle.std.specs.List.{AllByRecursion};
+ghost use Rattle.std.specs.{List.AllByRecursion};
 ghost use Rattle.star_schema.specs.Order.{key_cmp};
-ghost use Rattle.star_group.specs.StoreRows.{AreRows, row_at, row_view};
-ghost use Rattle.star_group.specs.Stores.{Group};
-ghost use Rattle.star_program.specs.Keys.{key_value_cmp};
-ghost use Rattle.star_program.specs.Puts.{Update};
-ghost use Rattle.star_outcome.specs.Private.Decoded.{AreSortedGroups};
-ghost use Rattle.star_outcome.specs.Private.Leads.{led_cmp};
+ghost use Rattle.star_group.specs.{StoreRows.AreRows, StoreRows.row_at, StoreRows.row_view, Stores.Group};
+ghost use Rattle.star_program.specs.{Keys.key_value_cmp, Puts.Update};
+ghost use Rattle.star_outcome.specs.{Private.Decoded.AreSortedGroups, Private.Leads.led_cmp, Private.RowOrder.column_order, Private.RowOrder.row_order, Private.RowOrder.sort_order};
 ghost use Rattle.star_outcome.specs.Private.RowOrder as spec;
-ghost use Rattle.star_outcome.specs.Private.RowOrder.{column_order, row_order, sort_order};
 
 use super::leads::{Led, all_led, compare_leads, numbers_of};
 use star_group::{GroupRows, KeyValue};

@@ -1,13 +1,11 @@
 -- What the calls of this crate answer.
 use Rattle.std.specs.Prelude.{◌≡◌, ◌+◌, ◌<◌, ℕ, List, [], get_or, length, map, Option, None, Some, Result, Ok, Err, IfOk, Vec}
-use Rattle.std.specs.Global.{Global}
+use Rattle.std.specs.{Global.Global}
 use Rattle.star_common.specs.Memory.{UnlessMemory}
 use Rattle.star_schema.specs.declared.column.ColumnId.{ColumnId}
-use Rattle.star_plan.specs.declared.fault.PlanFault.{PlanFault, TheVariants.OutOfMemory}
-use Rattle.star_query.specs.declared.tree.Comparison.{Comparison}
+use Rattle.star_plan.specs.{declared.fault.PlanFault.PlanFault, declared.fault.PlanFault.TheVariants.OutOfMemory, Meaning.RowCondition, Naming.name_of_aggregate, Views.row_condition_view}
+use Rattle.star_query.specs.{declared.tree.Comparison.Comparison, Tree.Item, Tree.aggregate, Tree.plain}
 use Rattle.star_query.specs.declared.tree.Condition as of_query
-use Rattle.star_query.specs.Tree.{Item, aggregate, plain}
-use Rattle.star_plan.specs.{Meaning.RowCondition, Naming.name_of_aggregate, Views.row_condition_view}
 
 -- the answer tells the fault that there is, or want of memory
 abbrev pub Tells : {X : Type 0} → Option PlanFault → Result X PlanFault → Type 0

@@ -2,15 +2,14 @@
 use Rattle.std.specs.Prelude.{ℕ, ◌+◌, ◌||◌, ◌&&◌, ◌++◌, true, List, length, map, Option, Some, None, if◌then◌else◌}
 use Rattle.std.specs.{List.flat_map, Option.option_or}
 use Rattle.star_common.specs.First.{first_answer}
-use Rattle.star_schema.specs.declared.{column.ColumnId.ColumnId, column.Kind.Kind, group.GroupColumn.GroupColumn}
-use Rattle.star_schema.specs.declared.group.GroupColumn.TheVariants as group
-use Rattle.star_query.specs.Leaves.{of_tests}
-use Rattle.star_schema.specs.Tables.{Value, kind_of_value}
+use Rattle.star_schema.specs.{declared.column.ColumnId.ColumnId, declared.column.Kind.Kind, declared.group.GroupColumn.GroupColumn, Tables.Value, Tables.kind_of_value}
 use Rattle.star_query.specs.Tree.{Aggregate, Condition, Item, Measure, Name, SortKey, Test, aggregate, plain}
-use Rattle.star_plan.specs.declared.fault.PlanFault.{PlanFault, TheVariants.DuplicateAlias}
-use Rattle.star_plan.specs.{First.first_beside, Joins.Pair, Names.has_name, Names.is_of, Naming.aggregate_names, Naming.has_text, Naming.key_column, Naming.name_of_aggregate, Naming.name_place, Uses.Use, Uses.item_uses, Uses.test_uses, Uses.use_when}
-use Rattle.star_plan.specs.Resolved.{measures_of, option_all, resolved_measure}
+use Rattle.star_query.specs.{Leaves.of_tests}
+use Rattle.star_plan.specs.Naming.{aggregate_names, has_text, key_column, name_of_aggregate, name_place}
 use Rattle.star_plan.specs.Faults.{aggregates_fault, fact_fault, from_table_fault, group_fault, item_fault, key_fault, missing_fault, pair_fault, scope_fault, use_kind_fault}
+use Rattle.star_plan.specs.{declared.fault.PlanFault.PlanFault, declared.fault.PlanFault.TheVariants.DuplicateAlias, First.first_beside, Joins.Pair, Names.has_name, Names.is_of, Uses.Use, Uses.item_uses, Uses.test_uses, Uses.use_when, Resolved.measures_of, Resolved.option_all}
+use Rattle.star_plan.specs.{Resolved.resolved_measure}
+use Rattle.star_schema.specs.declared.group.GroupColumn.TheVariants as group
 
 -- ---- the columns that a query names
 

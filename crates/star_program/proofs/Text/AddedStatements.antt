@@ -1,13 +1,12 @@
 -- What a draft says and counts, with a statement more.
 use Rattle.std.proofs.Common.{◌≡◌, ◌≤◌, ◌+◌, ◌-◌, ◌∙◌, ◌∷◌, ◌++◌, [], ℕ, List, append_assoc, append-nil, length, map, arith, ap, refl, sym, subst}
-use Rattle.std.proofs.lemmas.List.{length_push, map_push, Elements.All-push}
+use Rattle.std.proofs.{lemmas.List.length_push, lemmas.List.map_push, lemmas.List.Elements.All-push}
 use Rattle.star_program.specs.Code.{Code, Stop, Then, Each, code_size, scan_depth}
 use Rattle.star_program.specs.Private.Drafts.{AreSmallGroups, Counts, IsBody, IsClosed, begun, closed, code_says, groups_say, opens_say, whole_draft}
-use Rattle.star_program.specs.{Private.Followed.followed, Limits.IsSmall}
-use Rattle.star_program.specs.declared.{group.GroupDecl.GroupDecl, op.Op.Op, program.Show.Show, spelling.draft.Draft.Draft, spelling.draft.OpenScan.OpenScan, spelling.statement.Statement.Statement}
-use Rattle.star_program.specs.declared.spelling.statement.Statement.TheVariants as says
-use Rattle.star_schema.specs.declared.{group.SortKey.SortKey, table.TableId.TableId}
+use Rattle.star_program.specs.{Private.Followed.followed, Limits.IsSmall, declared.group.GroupDecl.GroupDecl, declared.op.Op.Op, declared.program.Show.Show, declared.spelling.draft.Draft.Draft, declared.spelling.draft.OpenScan.OpenScan, declared.spelling.statement.Statement.Statement}
+use Rattle.star_schema.specs.{declared.group.SortKey.SortKey, declared.table.TableId.TableId}
 use Rattle.star_program.proofs.Text.Depths.{both_within, left_within, right_within}
+use Rattle.star_program.specs.declared.spelling.statement.Statement.TheVariants as says
 
 -- ---- a code and another after it
 

@@ -1,10 +1,8 @@
 -- How large a step and the steps after it are, and how deep their scans stand one in another.
 use Rattle.std.proofs.Common.{◌≡◌, ◌≤◌, ◌+◌, ℕ, List, Some, drop, arith}
-use Rattle.std.specs.Prelude.{nat_lt, if◌then◌else◌}
-use Rattle.std.specs.List.{slice_get}
+use Rattle.std.specs.{Prelude.nat_lt, Prelude.if◌then◌else◌, List.slice_get}
 use Rattle.star_common.proofs.Lists.{drop_at_place}
-use Rattle.star_program.specs.{Code.Code, Code.code_size, Code.scan_depth, CodeOfSteps.before, CodeOfSteps.code_of_steps, Private.Followed.code_of_step}
-use Rattle.star_program.specs.declared.body.Step.{Step, TheVariants.Act, TheVariants.Scan}
+use Rattle.star_program.specs.{Code.Code, Code.code_size, Code.scan_depth, CodeOfSteps.before, CodeOfSteps.code_of_steps, Private.Followed.code_of_step, declared.body.Step.Step, declared.body.Step.TheVariants.Act, declared.body.Step.TheVariants.Scan}
 
 at_least : (a b : ℕ) → b ≤ (if nat_lt a b then b else a)
 at_least a b = grind arith

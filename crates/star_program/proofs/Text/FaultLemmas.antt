@@ -1,10 +1,9 @@
 -- The first fault, line by line.
 use Rattle.std.specs.Prelude.{nat_le}
 use Rattle.std.proofs.Common.{◌≡◌, ◌+◌, ◌&&◌, ◌∷◌, [], ℕ, true, false, List, Some, Ok, Err, refl, lit≤}
-use Rattle.std.proofs.lemmas.Bool.{and_parts, leb-true}
-use Rattle.star_program.specs.{Text.Lines.is_blank_line, Text.Lines.lines_of, Private.Within.IsWithinLargest}
+use Rattle.std.proofs.{lemmas.Bool.and_parts, lemmas.Bool.leb-true}
 use Rattle.star_program.specs.Text.FirstFaults.{advance, end_in, is_within, lines_fault, program_text_fault, start}
-use Rattle.star_program.specs.declared.spelling.{fault.TextFault.TextFault, place.Place.Place, place.Stage.Stage}
+use Rattle.star_program.specs.{Text.Lines.is_blank_line, Text.Lines.lines_of, Private.Within.IsWithinLargest, declared.spelling.fault.TextFault.TextFault, declared.spelling.place.Place.Place, declared.spelling.place.Stage.Stage}
 
 -- a place by its parts
 abbrev pub place : Stage → ℕ → ℕ → ℕ → ℕ → ℕ → Place

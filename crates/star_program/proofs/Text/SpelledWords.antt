@@ -1,26 +1,25 @@
 -- The words of a written line, and what each is read as.
 use Rattle.std.specs.Prelude.{decimal, filter, nat_le, nat_lt, not, ℤ, pos, negsuc}
-use Rattle.std.proofs.Common.{◌≡◌, ◌==◌, ◌&&◌, ◌||◌, ◌<◌, ◌≤◌, ◌^◌, ◌∙◌, ◌∷◌, ◌++◌, [], ℕ, suc, Bool, true, false, List, Some, None, append_assoc, append-nil, length, arith, ap, refl, sym, inl, inr, lit<, lit≤}
 use Rattle.std.specs.{Cmp.Lexicographic.bytes_decides, Char.is_ascii_digit, Fmt.signed_decimal, List.flat_map, List.list_all, Option.option_map, Str.Parse.AllDigits, Str.Parse.starts_with_minus}
+use Rattle.std.proofs.Common.{◌≡◌, ◌==◌, ◌&&◌, ◌||◌, ◌<◌, ◌≤◌, ◌^◌, ◌∙◌, ◌∷◌, ◌++◌, [], ℕ, suc, Bool, true, false, List, Some, None, append_assoc, append-nil, length, arith, ap, refl, sym, inl, inr, lit<, lit≤}
 use Rattle.std.proofs.lemmas.Bool.{and_parts, cases_Bool, eqb-false, eqb-true, le-leb, leb-true, ltb-true, ne_eqb}
-use Rattle.std.proofs.lemmas.{Fmt.decimal_is_IsNumeral, Fmt.length-decimal-le, List.Folds.list_all-append, Str.Parse.digit_at}
+use Rattle.std.proofs.{lemmas.Fmt.decimal_is_IsNumeral, lemmas.Fmt.length-decimal-le, lemmas.List.Folds.list_all-append, lemmas.Str.Parse.digit_at}
 use Rattle.star_interval.specs.Range.{is_i64}
-use Rattle.star_schema.specs.{Records.is_filled, Records.with_first, Schema.column_name, Schema.column_of as schema_column, Schema.table_name, Words.aggregate_name, Words.direction_name, Words.shape_name}
+use Rattle.star_schema.specs.{Records.is_filled, Records.with_first, Schema.column_name, Schema.column_of as schema_column, Schema.table_name, Words.aggregate_name, Words.direction_name, Words.shape_name, declared.column.ColumnId.ColumnId, declared.column.ColumnId.TheVariants.DDatekey}
+use Rattle.star_schema.specs.{declared.table.TableId.TableId, declared.table.TableId.TheVariants.Date, declared.group.Aggregate.Aggregate, declared.group.Direction.Direction, declared.group.Shape.Shape}
 use Rattle.star_common.specs.{Printable.is_printable, Numerals.numeral_of, Quotes.doubled, Quotes.quoted}
-use Rattle.star_schema.specs.declared.{column.ColumnId.ColumnId, column.ColumnId.TheVariants.DDatekey, table.TableId.TableId, table.TableId.TheVariants.Date, group.Aggregate.Aggregate, group.Direction.Direction, group.Shape.Shape}
+use Rattle.star_schema.proofs.NamesApart.{column_by_name, table_by_name}
+use Rattle.star_program.specs.Text.Keywords.{aggregate_of_word, column_of_word, direction_of, keyword_name, keyword_of, mnemonic_name, mnemonic_of, same, shape_of_word, table_of_word}
+use Rattle.star_program.specs.Text.Numerals.{constant_of, count_of, is_show_name, is_name_byte, register_of}
+use Rattle.star_program.specs.{Text.Lines.pieces_of, Text.Lines.words_of, Text.Said.quoted_text_of, Text.Said.unquoted, Text.Spellable.IsPrinted, Text.Spellable.HasFourDigits, declared.spelling.keyword.Mnemonic.Mnemonic}
+use Rattle.star_program.proofs.Text.WordLemmas.{filtered_first, no_pieces, piece_ends, piece_on, piece_quoted, words_are, filled_whole}
+use Rattle.star_program.proofs.{Text.Quotes.plain_byte, Text.Quotes.two_quotes}
 use Rattle.star_schema.specs.declared.group.Aggregate.TheVariants as aggregate
 use Rattle.star_schema.specs.declared.group.Direction.TheVariants as direction
 use Rattle.star_schema.specs.declared.group.Shape.TheVariants as shape
-use Rattle.star_schema.proofs.NamesApart.{column_by_name, table_by_name}
-use Rattle.star_program.specs.Text.Keywords.{aggregate_of_word, column_of_word, direction_of, keyword_name, keyword_of, mnemonic_name, mnemonic_of, same, shape_of_word, table_of_word}
-use Rattle.star_program.specs.Text.{Lines.pieces_of, Lines.words_of, Said.quoted_text_of, Said.unquoted, Spellable.IsPrinted, Spellable.HasFourDigits}
-use Rattle.star_program.specs.Text.Numerals.{constant_of, count_of, is_show_name, is_name_byte, register_of}
 use Rattle.star_program.specs.declared.op.Edge.TheVariants as edge
 use Rattle.star_program.specs.declared.op.Operator.TheVariants as operator
-use Rattle.star_program.specs.declared.spelling.keyword.Mnemonic.{Mnemonic}
 use Rattle.star_program.specs.declared.spelling.keyword.Mnemonic.TheVariants as mnemonic
-use Rattle.star_program.proofs.Text.Quotes.{plain_byte, two_quotes}
-use Rattle.star_program.proofs.Text.WordLemmas.{filtered_first, no_pieces, piece_ends, piece_on, piece_quoted, words_are, filled_whole}
 
 -- ---- words
 

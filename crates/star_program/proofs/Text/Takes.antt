@@ -1,7 +1,6 @@
 -- A draft takes each statement, but for an end where no scan is open.
 use Rattle.std.proofs.Common.{◌≡◌, ◌<◌, ◌∷◌, ◌++◌, [], List, length, arith, ap, refl}
-use Rattle.star_program.specs.{Code.Stop, Code.Then, Code.Each, Private.Drafts.IsAdded, Private.Followed.followed}
-use Rattle.star_program.specs.declared.spelling.{draft.Draft.Draft, draft.OpenScan.OpenScan, statement.Statement.Statement}
+use Rattle.star_program.specs.{Code.Stop, Code.Then, Code.Each, Private.Drafts.IsAdded, Private.Followed.followed, declared.spelling.draft.Draft.Draft, declared.spelling.draft.OpenScan.OpenScan, declared.spelling.statement.Statement.Statement}
 use Rattle.star_program.specs.declared.spelling.statement.Statement.TheVariants as says
 
 last_split : {X : Type 0} (xs : List X) → 0 < length xs

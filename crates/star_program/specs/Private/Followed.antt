@@ -1,6 +1,5 @@
 -- A step by itself as code, and code with other code after it.
-use Rattle.star_program.specs.{Code.Code, Code.Stop, Code.Then, Code.Each, CodeOfSteps.before}
-use Rattle.star_program.specs.declared.body.Step.{Step}
+use Rattle.star_program.specs.{Code.Code, Code.Stop, Code.Then, Code.Each, CodeOfSteps.before, declared.body.Step.Step}
 
 abbrev pub code_of_step : Step → Code
 code_of_step step = before step Stop

@@ -1,8 +1,7 @@
 -- The result of reading a line's words.
 use Rattle.std.specs.Prelude.{ℕ, ◌==◌, ◌&&◌, ◌≡◌, Bool, false, List, [], ◌∷◌, Option, Some, None, Result, MatchResult}
 use Rattle.star_common.specs.Memory.{UnlessMemory}
-use Rattle.star_program.specs.Text.Lines.{is_blank_line}
-use Rattle.star_program.specs.declared.spelling.fault.LineFault.{LineFault, TheVariants.OutOfMemory, TheVariants.Unreadable}
+use Rattle.star_program.specs.{Text.Lines.is_blank_line, declared.spelling.fault.LineFault.LineFault, declared.spelling.fault.LineFault.TheVariants.OutOfMemory, declared.spelling.fault.LineFault.TheVariants.Unreadable}
 
 -- memory ran out, or there is nothing to read
 abbrev pub IsMissed : {A : Type 0} → LineFault → Option A → Type 0

@@ -2,8 +2,7 @@
 use Rattle.std.specs.Prelude.{◌≤◌, List, [], ◌∷◌}
 use Rattle.std.proofs.Common.{arith}
 use denote.Param.Weighed.{most}
-use Rattle.star_program.specs.{Code.code_size, CodeOfSteps.code_of_steps}
-use Rattle.star_program.specs.declared.body.{Step.Step, Step.TheVariants.Act, Step.TheVariants.Scan, Body.TheDeep.deep-Step}
+use Rattle.star_program.specs.{Code.code_size, CodeOfSteps.code_of_steps, declared.body.Step.Step, declared.body.Step.TheVariants.Act, declared.body.Step.TheVariants.Scan, declared.body.Body.TheDeep.deep-Step}
 
 pub most_le-code_size : (steps : List Step) → most deep-Step steps ≤ code_size (code_of_steps steps)
 most_le-code_size [] = omega arith

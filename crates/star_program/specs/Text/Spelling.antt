@@ -1,7 +1,6 @@
 -- Which program a text spells (this project's text of programs).
 use Rattle.std.specs.Prelude.{◌≡◌, ℕ, List, Some, Result, MatchResult, map}
-use Rattle.star_program.specs.Text.{Lines.lines_of, Said.said_in, Statements.lines_of_program}
-use Rattle.star_program.specs.declared.{program.Parts.Parts, spelling.fault.TextFault.TextFault, spelling.statement.Statement.Statement}
+use Rattle.star_program.specs.{Text.Lines.lines_of, Text.Said.said_in, Text.Statements.lines_of_program, declared.program.Parts.Parts, declared.spelling.fault.TextFault.TextFault, declared.spelling.statement.Statement.Statement}
 use Rattle.star_program.specs.declared.spelling.fault.TextFault.TheVariants as fault
 
 -- the statements of a program's lines, in order

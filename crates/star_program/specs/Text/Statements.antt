@@ -1,11 +1,10 @@
 -- The statements of a program, one for each line, with the nesting depth of scans.
 use Rattle.std.specs.Prelude.{ℕ, ◌+◌, List, [], ◌∷◌, ◌++◌, map}
-use Rattle.std.specs.List.{enumerate_from}
-use Rattle.star_program.specs.Code.{Code, Stop, Then, Each}
-use Rattle.star_program.specs.declared.{program.Parts.Parts, spelling.statement.Statement.Statement, group.GroupDecl.GroupDecl, program.Show.Show}
+use Rattle.std.specs.{List.enumerate_from}
 use Rattle.star_program.specs.declared.spelling.statement.Statement.TheVariants.{Header, Registers, Group, Act, Scan, End, Report}
-use Rattle.star_program.specs.declared.spelling.statement.Statement.TheVariants as says
+use Rattle.star_program.specs.{Code.Code, Code.Stop, Code.Then, Code.Each, declared.program.Parts.Parts, declared.spelling.statement.Statement.Statement, declared.group.GroupDecl.GroupDecl, declared.program.Show.Show}
 use Rattle.star_schema.specs.declared.group.SortKey.{SortKey}
+use Rattle.star_program.specs.declared.spelling.statement.Statement.TheVariants as says
 
 -- a statement, and the number of enclosing scans
 pub record Line : Type 0 where

@@ -1,11 +1,8 @@
 // Writing the lines of a body.
 
 ghost use Rattle.std.specs.Prelude.{◌≡◌, ◌≤◌, ◌+◌, ◌++◌, OnOk};
-ghost use Rattle.std.specs.List.{flat_map};
-ghost use Rattle.star_program.specs.Code.{scan_depth};
-ghost use Rattle.star_program.specs.Private.Followed.{code_of_step};
-ghost use Rattle.star_program.specs.Text.Statements.{lines_of_code};
-ghost use Rattle.star_program.specs.Text.Written.{written_line};
+ghost use Rattle.std.specs.{List.flat_map};
+ghost use Rattle.star_program.specs.{Code.scan_depth, Private.Followed.code_of_step, Text.Statements.lines_of_code, Text.Written.written_line};
 
 use crate::body::{Body, Step};
 use crate::spelling::program_lines::{push_end_line, push_op_line, push_scan_line};

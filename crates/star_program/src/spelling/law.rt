@@ -1,11 +1,7 @@
 // Laws about the texts of programs.
 
 ghost use Rattle.std.specs.Prelude.{◌≡◌, ◌↔◌, ℕ, List, None};
-ghost use Rattle.star_program.specs.declared.program.Parts.{Parts};
-ghost use Rattle.star_program.specs.Limits.{IsWithinLimits};
-ghost use Rattle.star_program.specs.Text.FirstFaults.{program_text_fault};
-ghost use Rattle.star_program.specs.Text.Spellable.{OnlySpellable, Written, WrittenBack};
-ghost use Rattle.star_program.specs.Text.Spelling.{OneProgram, Spells};
+ghost use Rattle.star_program.specs.{declared.program.Parts.Parts, Limits.IsWithinLimits, Text.FirstFaults.program_text_fault, Text.Spellable.OnlySpellable, Text.Spellable.Written, Text.Spellable.WrittenBack, Text.Spelling.OneProgram, Text.Spelling.Spells};
 
 /// States that no text spells two programs.
 pub fn no_text_spells_two_programs()

@@ -1,11 +1,10 @@
 // Lists of words, and quoted texts.
 
 ghost use Rattle.std.specs.Prelude.{◌≡◌, ◌∷◌, ◌<◌, ℕ, List, Option, Some, None, [], IfSome, MatchOption, MatchResult, length, if◌then◌else◌};
-ghost use Rattle.std.specs.Option.{option_map};
+ghost use Rattle.std.specs.{Option.option_map};
+ghost use Rattle.star_program.specs.{Text.Lines.words_of, Text.Numerals.register_of};
 ghost use Rattle.star_program.specs.Private.Reading as reading;
 ghost use Rattle.star_program.specs.Text.Keywords as words;
-ghost use Rattle.star_program.specs.Text.Lines.{words_of};
-ghost use Rattle.star_program.specs.Text.Numerals.{register_of};
 ghost use Rattle.star_program.specs.Text.Said as spec;
 
 use crate::group::GroupKey;

@@ -1,8 +1,7 @@
 // The words of numbers, registers and names.
 
 ghost use Rattle.std.specs.Prelude.{◌≡◌, ◌<◌, ◌≤◌, ◌^◌, Some, IfSome, neg_ℤ, pos};
-ghost use Rattle.std.specs.Option.{option_map};
-ghost use Rattle.std.specs.List.{list_all};
+ghost use Rattle.std.specs.{Option.option_map, List.list_all};
 ghost use Rattle.star_common.specs.Numerals.{numeral_of};
 ghost use Rattle.star_program.specs.Text.Numerals as spec;
 

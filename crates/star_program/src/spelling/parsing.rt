@@ -1,11 +1,8 @@
 // Reading a program from its text.
 
 ghost use Rattle.std.specs.Prelude.{◌≡◌, None, MatchResult, false};
+ghost use Rattle.star_program.specs.{Limits.IsWithinLimits, Text.Lines.is_blank_line as blank, Text.FirstFaults.IsFirstTextFault, Text.Spelling.Spells};
 ghost use Rattle.star_program.specs.Private.Drafts as spec;
-ghost use Rattle.star_program.specs.Limits.{IsWithinLimits};
-ghost use Rattle.star_program.specs.Text.Lines.{is_blank_line as blank};
-ghost use Rattle.star_program.specs.Text.FirstFaults.{IsFirstTextFault};
-ghost use Rattle.star_program.specs.Text.Spelling.{Spells};
 
 use crate::program::Parts;
 use crate::spelling::draft::Draft;

@@ -2,9 +2,7 @@
 
 ghost use Rattle.std.specs.Prelude.{◌≡◌, Ok, Err, Some, MatchResult};
 ghost use Rattle.star_common.specs.Memory.{UnlessMemory};
-ghost use Rattle.star_program.specs.Private.Within.{IsWithinLargest};
-ghost use Rattle.star_program.specs.Text.Lines.{words_of};
-ghost use Rattle.star_program.specs.Text.Said.{said};
+ghost use Rattle.star_program.specs.{Private.Within.IsWithinLargest, Text.Lines.words_of, Text.Said.said};
 ghost use Rattle.star_program.specs.Text.FirstFaults as spec;
 ghost use Rattle.star_program.specs.declared.spelling.fault.TextFault.TheVariants as faults;
 

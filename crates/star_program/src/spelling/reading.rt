@@ -1,10 +1,9 @@
 // Reading a statement from a line, word by word.
 
 ghost use Rattle.std.specs.Prelude.{◌≡◌, ◌≢◌, ◌∷◌, [], None, Some, MatchOption, MatchResult, length};
-ghost use Rattle.std.specs.Option.{option_copied, option_map};
-ghost use Rattle.star_program.specs.Private.Reading.{Reads};
+ghost use Rattle.std.specs.{Option.option_copied, Option.option_map};
+ghost use Rattle.star_program.specs.{Private.Reading.Reads, Text.Lines.words_of};
 ghost use Rattle.star_program.specs.Text.Keywords as words;
-ghost use Rattle.star_program.specs.Text.Lines.{words_of};
 ghost use Rattle.star_program.specs.Text.Numerals as numerals;
 ghost use Rattle.star_program.specs.Text.Said as spec;
 ghost use Rattle.star_program.specs.declared.op.Op.TheVariants as op;

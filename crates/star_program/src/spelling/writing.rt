@@ -1,8 +1,7 @@
 // Writing the statements of a program.
 
 ghost use Rattle.std.specs.Prelude.{◌≡◌, ◌++◌, ℕ, List, OnOk, codes, decimal};
-ghost use Rattle.std.specs.Fmt.{signed_decimal};
-ghost use Rattle.std.specs.List.{flat_map};
+ghost use Rattle.std.specs.{Fmt.signed_decimal, List.flat_map};
 ghost use Rattle.star_schema.specs.Schema.{column_name, table_name};
 ghost use Rattle.star_common.specs.Quotes.{quoted};
 ghost use Rattle.star_program.specs.Text.Written as spec;

@@ -1,15 +1,13 @@
 -- Lists with commas, by the machine.
 use Rattle.std.specs.Prelude.{◌≡◌, List, [], ◌∷◌, ◌++◌, map, Option, Some, None, Result, Ok, Err}
-use Rattle.std.proofs.Common.{sym, ap, ◌∙◌, refl}
-use Rattle.std.proofs.lemmas.List.{map-append}
-use Rattle.std.specs.declared.{alloc.Global.Global, vec.Vec.Vec}
-use Rattle.star_query.specs.declared.token.Sign.TheVariants as s
-use Rattle.star_query.specs.declared.fault.ParseError.{ParseError}
-use Rattle.star_query.specs.declared.fault.ParseError.TheVariants as errors
-use Rattle.star_query.specs.{Symbols.sign, Views.item_view, Views.name_view, Views.sort_key_view, Private.Reads.EndsBad, Private.Reads.ReadsPhrase, Private.Reads.Spot, Private.Reads.verdict}
+use Rattle.std.specs.{declared.alloc.Global.Global, declared.vec.Vec.Vec}
+use Rattle.std.proofs.{Common.sym, Common.ap, Common.◌∙◌, Common.refl, lemmas.List.map-append}
 use Rattle.star_query.specs.Private.Phrases.{Several, one, more, first, Hiding, item_tree, key_tree, listed}
 use Rattle.star_query.specs.Private.Machine.{Filtered, Grouped, ParserState, Verdict, columns_had, column_wanted, extended, item_wanted, items_had, key_wanted, keys_had, next_step, table_wanted, tables_had, to}
 use Rattle.star_query.specs.Private.Clauses.{Anywhere, ReadsColumn, ReadsColumns, ReadsItem, ReadsItems, ReadsKey, ReadsKeyList, ReadsTable, ReadsTables}
+use Rattle.star_query.specs.{declared.fault.ParseError.ParseError, Symbols.sign, Views.item_view, Views.name_view, Views.sort_key_view, Private.Reads.EndsBad, Private.Reads.ReadsPhrase, Private.Reads.Spot, Private.Reads.verdict}
+use Rattle.star_query.specs.declared.token.Sign.TheVariants as s
+use Rattle.star_query.specs.declared.fault.ParseError.TheVariants as errors
 
 -- the machine goes from the one spot to the other by a comma
 abbrev pub PassesComma : Spot → Spot → Type 0

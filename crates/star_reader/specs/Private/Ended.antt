@@ -1,14 +1,7 @@
 -- What the end of an open line leaves.
 use Rattle.std.specs.Prelude.{◌≡◌, ◌≤◌, ◌+◌, ℕ, List, [], None, false, map}
-use Rattle.star_schema.specs.declared.table.TableId.{TableId}
-use Rattle.star_schema.specs.Records.{records_of}
-use Rattle.star_schema.specs.Schema.{kinds_of}
-use Rattle.star_reader.specs.declared.column.RawColumn.{RawColumn}
-use Rattle.star_reader.specs.declared.progress.Progress.{Progress}
-use Rattle.star_reader.specs.Columns.{first_rows, values}
-use Rattle.star_reader.specs.Partway.{left_fault}
-use Rattle.star_reader.specs.Carried.{StandsFor}
-use Rattle.star_reader.specs.Private.Steps.{HasRows}
+use Rattle.star_schema.specs.{declared.table.TableId.TableId, Records.records_of, Schema.kinds_of}
+use Rattle.star_reader.specs.{declared.column.RawColumn.RawColumn, declared.progress.Progress.Progress, Columns.first_rows, Columns.values, Partway.left_fault, Carried.StandsFor, Private.Steps.HasRows}
 
 -- an open line of these bytes has ended, with no fault: its row, if it has one, stands in the columns
 pub record HasEnded (table : TableId) (most : ℕ) (old : Progress) (bytes : List ℕ)

@@ -1,7 +1,6 @@
 -- What is true of every reader of a table in pieces.
 use Rattle.std.specs.Prelude.{◌≤◌, ℕ, List, MatchOption, length}
-use Rattle.star_reader.specs.declared.table_reader.TableReader.TheInside.{Inside}
-use Rattle.star_reader.specs.Partway.{IsPartway, Reading}
+use Rattle.star_reader.specs.{declared.table_reader.TableReader.TheInside.Inside, Partway.IsPartway, Partway.Reading}
 
 abbrev pub reading_of : Inside → Reading
 reading_of kept =

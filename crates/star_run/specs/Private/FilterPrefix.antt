@@ -1,14 +1,7 @@
 -- The leading filters of a body: the keeps among its first instructions, as long as these only write registers. A turn ends early where the flag of one of them is false.
 use Rattle.std.specs.Prelude.{ℕ, zero, suc, ◌+◌, Bool, true, false, ◌&&◌, Option, Some, None, if◌then◌else◌}
-use Rattle.star_program.specs.declared.op.Op.{Op}
-use Rattle.star_program.specs.declared.op.Op.TheVariants.{Assign, Keep}
-use Rattle.star_program.specs.declared.op.Operation.{Operation}
-use Rattle.star_program.specs.declared.op.Operation.TheVariants.{Find, Read}
-use Rattle.star_program.specs.declared.program.Parts.{Parts}
-use Rattle.star_program.specs.Code.{Code, Then}
-use Rattle.star_program.specs.Effects.{State, empty_state, next_registers}
-use Rattle.star_program.specs.Values.{Registers, flag_read}
-use Rattle.star_program.specs.World.{World}
+use Rattle.star_program.specs.{declared.op.Op.Op, declared.op.Op.TheVariants.Assign, declared.op.Op.TheVariants.Keep, declared.op.Operation.Operation, declared.op.Operation.TheVariants.Find, declared.op.Operation.TheVariants.Read, declared.program.Parts.Parts, Code.Code, Code.Then}
+use Rattle.star_program.specs.{Effects.State, Effects.empty_state, Effects.next_registers, Values.Registers, Values.flag_read, World.World}
 
 -- ---- a turn
 

@@ -1,12 +1,10 @@
 -- The first refusal of a program, found by one pass over its code.
 use Rattle.std.specs.Prelude.{ℕ, ◌+◌, Bool, false, ◌||◌, Option, None}
-use Rattle.std.specs.Option.{option_or}
-use Rattle.star_program.specs.declared.program.Parts.{Parts}
+use Rattle.std.specs.{Option.option_or}
 use Rattle.star_program.specs.Code.{Code, Stop, Then, Each, code_size}
-use Rattle.star_program.specs.World.{World}
+use Rattle.star_program.specs.{declared.program.Parts.Parts, World.World}
 use Rattle.star_safety.specs.Contexts.{Context, after_op, in_scan, after_scan, at_end}
-use Rattle.star_safety.specs.declared.reason.Reason.{Reason}
-use Rattle.star_safety.specs.{Refusals.op_reason, Refusals.scan_reason, Standing.op_puts_to, Standing.at_place}
+use Rattle.star_safety.specs.{declared.reason.Reason.Reason, Refusals.op_reason, Refusals.scan_reason, Standing.op_puts_to, Standing.at_place}
 
 -- the code puts to a group
 abbrev pub code_puts_to : ℕ → Code → Bool

@@ -1,7 +1,6 @@
 -- The code's entry of a column, compared with the schema's.
 use Rattle.std.specs.Prelude.{◌≡◌}
-use Rattle.star_schema.specs.declared.column.Column.{Column as Kept}
-use Rattle.star_schema.specs.Schema.{Column}
+use Rattle.star_schema.specs.{declared.column.Column.Column as Kept, Schema.Column}
 
 pub record Describes (kept : Kept) (column : Column) : Type 0 where
   pub name : kept.name.now ≡ column.name

@@ -1,12 +1,8 @@
 -- The steps of a report that is kept and told.
 use Rattle.std.specs.Prelude.{◌≡◌, ◌⊎◌, ℕ, List, Bool, false, Result, Ok, Err}
-use Rattle.star_engine.specs.declared.fault.EngineFault.{EngineFault}
-use Rattle.star_engine.specs.Answered.{Change, HasGained, HasGainedPart, IsUntouched}
-use Rattle.star_engine.specs.Noted.{Telling}
-use Rattle.star_service.specs.Reports.{refused_line, told_line}
-use Rattle.star_service.specs.Shelves.{HasFailedAt, HasKept, HasKeptNone, Shelving}
-use Rattle.star_service.specs.declared.reports.Halt.{Halt}
-use Rattle.star_service.specs.declared.reports.Halt.TheVariants.{OutOfMemory, Unkept, Unwritten}
+use Rattle.star_engine.specs.{declared.fault.EngineFault.EngineFault, Answered.Change, Answered.HasGained, Answered.HasGainedPart, Answered.IsUntouched, Noted.Telling}
+use Rattle.star_service.specs.{Reports.refused_line, Reports.told_line, Shelves.HasFailedAt, Shelves.HasKept, Shelves.HasKeptNone, Shelves.Shelving, declared.reports.Halt.Halt, declared.reports.Halt.TheVariants.OutOfMemory, declared.reports.Halt.TheVariants.Unkept}
+use Rattle.star_service.specs.{declared.reports.Halt.TheVariants.Unwritten}
 
 -- a line was written, or its first bytes
 abbrev pub IsLineWritten : {S : Type 0} → Change S → List ℕ → Result (Unit {0}) Halt → Type 0

@@ -1,13 +1,8 @@
 -- What a turn of a session does: it reads a statement and answers it.
 use Rattle.std.specs.Prelude.{◌≡◌, ◌⊎◌, ℕ, List, Bool, true, false, Option, Result, Ok, Err}
-use Rattle.star_engine.specs.Answered.{Change, IsUntouched}
-use Rattle.star_engine.specs.Loads.{Loaded}
-use Rattle.star_statements.specs.Sources.{IsPastCounting, IsStatementRead}
-use Rattle.star_statements.specs.declared.sources.ReadFault.TheVariants.{Failed as ReadFailed, OutOfMemory as ReadMemory}
-use Rattle.star_service.specs.Lines.{IsTextTold}
-use Rattle.star_service.specs.Sessions.{IsRound, prompt_of}
-use Rattle.star_service.specs.declared.sessions.Stop.{Stop}
-use Rattle.star_service.specs.declared.sessions.Stop.TheVariants.{Unread, Unwritten}
+use Rattle.star_engine.specs.{Answered.Change, Answered.IsUntouched, Loads.Loaded}
+use Rattle.star_statements.specs.{Sources.IsPastCounting, Sources.IsStatementRead, declared.sources.ReadFault.TheVariants.Failed as ReadFailed, declared.sources.ReadFault.TheVariants.OutOfMemory as ReadMemory}
+use Rattle.star_service.specs.{Lines.IsTextTold, Sessions.IsRound, Sessions.prompt_of, declared.sessions.Stop.Stop, declared.sessions.Stop.TheVariants.Unread, declared.sessions.Stop.TheVariants.Unwritten}
 
 -- a statement was read, and answered
 pub record IsStatementAnswered {S E : Type 0} (loaded : Loaded) (is_terminal : Bool) (old new : Option (List ℕ))

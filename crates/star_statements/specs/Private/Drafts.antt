@@ -1,9 +1,8 @@
 -- A statement that is being read.
 use Rattle.std.specs.Prelude.{◌≡◌, ◌==◌, ◌&&◌, ◌||◌, ◌++◌, ℕ, List, [], ◌∷◌, Bool, true, false, Option, if◌then◌else◌, length, nat_lt, take}
-use Rattle.std.specs.Io.KnownBytes.{Consumes}
-use Rattle.star_statements.specs.Blanks.{without_blanks}
+use Rattle.std.specs.{Io.KnownBytes.Consumes}
+use Rattle.star_statements.specs.{Blanks.without_blanks, Statements.joined_to_first, Statements.statements_of}
 use Rattle.star_common.specs.WhiteSpace.{is_blank}
-use Rattle.star_statements.specs.Statements.{joined_to_first, statements_of}
 
 -- the retained text of a statement: leading blanks are dropped, and at most one byte above the
 -- maximum length is retained

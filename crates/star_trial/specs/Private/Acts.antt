@@ -1,22 +1,13 @@
 -- What one instruction did.
 use Rattle.std.specs.Prelude.{◌≡◌, ◌≤◌, ◌<◌, ◌+◌, ◌^◌, ℕ, List, Option, length, Result, MatchResult, OnOk}
 use Rattle.star_schema.specs.Database.{Database}
-use Rattle.star_program.specs.declared.program.Parts.{Parts}
 use Rattle.star_program.specs.Effects.{State, Effect, GoesOn, EndsTurn, Traps}
-use Rattle.star_program.specs.Values.{Registers, with_entry}
-use Rattle.star_outcome.specs.declared.flow.Flow.{Flow}
-use Rattle.star_outcome.specs.declared.flow.Flow.TheVariants as flow
-use Rattle.star_trial.specs.declared.fault.Stop.{Stop}
-use Rattle.star_trial.specs.declared.fault.Stop.TheVariants as stop
-use Rattle.star_program.specs.declared.op.Op.{Op}
-use Rattle.star_program.specs.declared.op.Operation.{Operation}
-use Rattle.star_program.specs.declared.value.Value.{Value}
-use Rattle.star_program.specs.Private.Doing.{assigns, does}
-use Rattle.star_trial.specs.declared.machine.Machine.{Machine}
-use Rattle.star_trial.specs.Private.Runs.{HasDone, Run}
-use Rattle.star_trial.specs.Private.Views.{registers_view}
-use Rattle.star_outcome.specs.Sound.{AreSound, IsSoundValue}
+use Rattle.star_program.specs.{declared.program.Parts.Parts, Values.Registers, Values.with_entry, declared.op.Op.Op, declared.op.Operation.Operation, declared.value.Value.Value, Private.Doing.assigns, Private.Doing.does}
+use Rattle.star_outcome.specs.{declared.flow.Flow.Flow, Sound.AreSound, Sound.IsSoundValue}
+use Rattle.star_trial.specs.{declared.fault.Stop.Stop, declared.machine.Machine.Machine, Private.Runs.HasDone, Private.Runs.Run, Private.Views.registers_view}
 use Rattle.star_world.specs.WorldOf.{world_of}
+use Rattle.star_outcome.specs.declared.flow.Flow.TheVariants as flow
+use Rattle.star_trial.specs.declared.fault.Stop.TheVariants as stop
 
 -- an effect that sets a register
 pub record Sets (database : Database) (parts : Parts) (registers : Registers) (run : Run)

@@ -1,13 +1,8 @@
 -- What a put into the stores of groups answers.
 use Rattle.std.specs.Prelude.{◌≡◌, ℕ, true, false, List, Result, MatchResult}
 use Rattle.star_common.specs.Memory.{UnlessMemory}
-use Rattle.star_group.specs.declared.eager.EagerStore.{EagerStore}
-use Rattle.star_group.specs.declared.rows.PutFault.{PutFault}
-use Rattle.star_group.specs.declared.rows.PutFault.TheVariants.{OutOfMemory}
-use Rattle.star_program.specs.declared.program.Parts.{Parts}
-use Rattle.star_program.specs.Effects.{with_update}
-use Rattle.star_program.specs.Faults.{group_at}
-use Rattle.star_program.specs.Puts.{Update, overflows}
+use Rattle.star_group.specs.{declared.eager.EagerStore.EagerStore, declared.rows.PutFault.PutFault, declared.rows.PutFault.TheVariants.OutOfMemory}
+use Rattle.star_program.specs.{declared.program.Parts.Parts, Effects.with_update, Faults.group_at, Puts.Update, Puts.overflows}
 use Rattle.star_trial.specs.Private.Runs.{AreStores}
 
 -- one more update of a group; or memory was refused, or the update would overflow

@@ -1,11 +1,8 @@
 -- A run over eager stores, beside what the definitions say that it has done.
 use Rattle.std.specs.Prelude.{ℕ, List}
 use Rattle.star_schema.specs.Database.{Database}
-use Rattle.star_group.specs.declared.eager.EagerStore.{EagerStore}
-use Rattle.star_group.specs.Eager.{group_view, Has}
-use Rattle.star_program.specs.declared.program.Parts.{Parts}
-use Rattle.star_program.specs.Effects.{State}
-use Rattle.star_program.specs.Puts.{Update}
+use Rattle.star_group.specs.{declared.eager.EagerStore.EagerStore, Eager.group_view, Eager.Has}
+use Rattle.star_program.specs.{declared.program.Parts.Parts, Effects.State, Puts.Update}
 use Rattle.star_outcome.specs.declared.work.Work.{Work}
 use Rattle.star_outcome.specs.Done as done
 

@@ -1,7 +1,6 @@
 -- What the machine keeps, in the words of the definitions.
 use Rattle.std.specs.Prelude.{List, Option, None, slice_index_or}
-use Rattle.star_program.specs.declared.value.Value.{Value}
-use Rattle.star_program.specs.Values.{Registers}
+use Rattle.star_program.specs.{declared.value.Value.Value, Values.Registers}
 
 -- what stands in the registers, by their numbers
 abbrev pub registers_view : List (Option Value) → Registers

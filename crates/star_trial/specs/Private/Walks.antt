@@ -1,24 +1,13 @@
 -- How a walk ends, in the words of the definitions.
 use Rattle.std.specs.Prelude.{◌≡◌, ◌≤◌, ◌+◌, ◌*◌, ℕ, Bool, true, List, Option, length, nat_lt, Result, MatchResult}
 use Rattle.star_schema.specs.Database.{Database, rows_in}
-use Rattle.star_program.specs.declared.program.Parts.{Parts}
-use Rattle.star_program.specs.Code.{Code}
-use Rattle.star_program.specs.Effects.{State}
 use Rattle.star_program.specs.Run.{End, Ended, begin, meaning, scans, turns}
-use Rattle.star_program.specs.Values.{Registers, with_entry}
-use Rattle.star_program.specs.declared.value.Value.TheVariants.{Row}
-use Rattle.star_program.specs.declared.value.Value.{Value}
-use Rattle.star_trial.specs.declared.fault.Stop.{Stop}
-use Rattle.star_trial.specs.declared.fault.Stop.TheVariants as stop
-use Rattle.star_trial.specs.declared.fault.TrialFault.{TrialFault}
-use Rattle.star_trial.specs.declared.fault.TrialFault.TheVariants as fault
-use Rattle.star_trial.specs.declared.machine.Machine.{Machine}
-use Rattle.star_trial.specs.declared.machine.Scanned.{Scanned}
-use Rattle.star_trial.specs.Private.Runs.{HasDone, Run}
-use Rattle.star_trial.specs.Private.Views.{registers_view}
+use Rattle.star_program.specs.{declared.program.Parts.Parts, Code.Code, Effects.State, Values.Registers, Values.with_entry, declared.value.Value.TheVariants.Row, declared.value.Value.Value}
+use Rattle.star_trial.specs.{declared.fault.Stop.Stop, declared.fault.TrialFault.TrialFault, declared.machine.Machine.Machine, declared.machine.Scanned.Scanned, Private.Runs.HasDone, Private.Runs.Run, Private.Views.registers_view, Trials.IsFaultOfEnd}
 use Rattle.star_outcome.specs.Sound.{AreSound}
-use Rattle.star_trial.specs.Trials.{IsFaultOfEnd}
 use Rattle.star_world.specs.WorldOf.{world_of}
+use Rattle.star_trial.specs.declared.fault.Stop.TheVariants as stop
+use Rattle.star_trial.specs.declared.fault.TrialFault.TheVariants as fault
 
 pub record Finishes (database : Database) (parts : Parts) (run : Run) (end : End) : Type 0 where
   pub s : State

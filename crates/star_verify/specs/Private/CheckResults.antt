@@ -1,28 +1,13 @@
 -- The result of the check of an instruction, and the state for the next.
 use Rattle.std.specs.Prelude.{◌≡◌, ◌*◌, ◌+◌, ◌≤◌, ◌^◌, ℕ, Bool, length, Option, Some, None, Result, MatchResult}
-use Rattle.std.specs.Option.{option_or}
+use Rattle.std.specs.{Option.option_or}
 use Rattle.star_common.specs.Memory.{UnlessMemory}
 use Rattle.star_schema.specs.declared.table.TableId.{TableId}
-use Rattle.star_program.specs.declared.program.Parts.{Parts}
-use Rattle.star_program.specs.Code.{Code}
-use Rattle.star_program.specs.World.{World}
-use Rattle.star_safety.specs.Contexts.{Context, at_end, at_first, in_scan}
-use Rattle.star_safety.specs.Admissible.{first_refusal}
-use Rattle.star_safety.specs.Private.Forward.{first_reason}
-use Rattle.star_safety.specs.Quote.{quote}
-use Rattle.star_safety.specs.declared.reason.Reason.{Reason}
-use Rattle.star_safety.specs.Refusals.{scan_reason}
-use Rattle.star_safety.specs.Standing.{at_place}
-use Rattle.star_verify.specs.declared.check.Accepted.{Accepted}
-use Rattle.star_verify.specs.declared.instructions.VerifierState.{VerifierState}
-use Rattle.star_verify.specs.declared.instructions.Position.{Position}
-use Rattle.star_verify.specs.declared.refusal.Refusal.{Refusal}
-use Rattle.star_verify.specs.declared.refusal.Refusal.TheVariants as told
-use Rattle.star_verify.specs.declared.input.CheckInput.{CheckInput}
-use Rattle.star_verify.specs.Facts.{AreFacts}
+use Rattle.star_program.specs.{declared.program.Parts.Parts, Code.Code, World.World}
+use Rattle.star_safety.specs.{Contexts.Context, Contexts.at_end, Contexts.at_first, Contexts.in_scan, Admissible.first_refusal, Private.Forward.first_reason, Quote.quote, declared.reason.Reason.Reason, Refusals.scan_reason, Standing.at_place}
 use Rattle.star_verify.specs.Private.Kept.{AreMarked, AreTalliesFew, HasKeyShares, HasShares, flag_at}
-use Rattle.star_verify.specs.Private.Views.{known_in}
-use Rattle.star_verify.specs.Views.{refusal_view}
+use Rattle.star_verify.specs.{declared.check.Accepted.Accepted, declared.instructions.VerifierState.VerifierState, declared.instructions.Position.Position, declared.refusal.Refusal.Refusal, declared.input.CheckInput.CheckInput, Facts.AreFacts, Private.Views.known_in, Views.refusal_view}
+use Rattle.star_verify.specs.declared.refusal.Refusal.TheVariants as told
 
 -- this reason at this instruction, or out of memory
 abbrev pub IsFirst : Refusal → Option (ℕ × Reason) → Type 0

@@ -2,14 +2,10 @@
 use Rattle.std.specs.Prelude.{◌≡◌, ◌+◌, ◌*◌, ◌<◌, ◌≤◌, ◌^◌, ℕ, Bool, false, List, length, map, pos, slice_index_or, Option, Some}
 use Rattle.star_schema.specs.declared.group.Aggregate.{Aggregate}
 use Rattle.star_interval.specs.Range.{only}
-use Rattle.star_program.specs.declared.program.Parts.{Parts}
-use Rattle.star_program.specs.Faults.{group_at}
-use Rattle.star_program.specs.Puts.{aligned}
+use Rattle.star_program.specs.{declared.program.Parts.Parts, Faults.group_at, Puts.aligned}
 use Rattle.star_safety.specs.Contexts.{Context}
+use Rattle.star_verify.specs.{declared.tally.Tally.Tally, Private.Bounded.IsBounded, Private.Made.AreTallies, Private.Made.IsTallyAt}
 use Rattle.star_safety.specs.Ranges as ranges
-use Rattle.star_verify.specs.declared.tally.Tally.{Tally}
-use Rattle.star_verify.specs.Private.Bounded.{IsBounded}
-use Rattle.star_verify.specs.Private.Made.{AreTallies, IsTallyAt}
 
 abbrev pub flag_at : List Bool → ℕ → Bool
 flag_at flags n = slice_index_or flags n false

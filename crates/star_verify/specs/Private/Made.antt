@@ -2,15 +2,9 @@
 use Rattle.std.specs.Prelude.{◌≡◌, ◌+◌, ◌<◌, ℕ, List, length, slice_index_or, Option, Some, None, Result, MatchResult}
 use Rattle.star_schema.specs.declared.group.Aggregate.{Aggregate}
 use Rattle.star_program.specs.World.{World}
+use Rattle.star_safety.specs.{declared.reason.Reason.Reason, declared.reason.Reason.TheVariants.Overflow, Refusals.reached, Tallies.Share}
+use Rattle.star_verify.specs.{declared.known.Beyond.Beyond, declared.known.Known.Known, declared.tally.Tally.Tally, Private.Views.IsTally, Private.Views.known_view, Private.Views.reach_view}
 use Rattle.star_safety.specs.Ranges as ranges
-use Rattle.star_safety.specs.declared.reason.Reason.{Reason}
-use Rattle.star_safety.specs.declared.reason.Reason.TheVariants.{Overflow}
-use Rattle.star_safety.specs.Refusals.{reached}
-use Rattle.star_safety.specs.Tallies.{Share}
-use Rattle.star_verify.specs.declared.known.Beyond.{Beyond}
-use Rattle.star_verify.specs.declared.known.Known.{Known}
-use Rattle.star_verify.specs.declared.tally.Tally.{Tally}
-use Rattle.star_verify.specs.Private.Views.{IsTally, known_view, reach_view}
 
 abbrev pub beyond_view : World → Beyond → Reason
 beyond_view w beyond =

@@ -1,10 +1,7 @@
 -- The rows of a report, by grouping, while its keys are shown or hidden one after another.
 use Rattle.std.specs.Prelude.{◌≡◌, ◌⊎◌, ◌≤◌, ◌+◌, ◌*◌, ◌-◌, ◌^◌, ℕ, zero, suc, Bool, true, false, ◌&&◌, not, nat_le, List, ◌∷◌, filter, Option, None, if◌then◌else◌}
-use Rattle.std.specs.List.{list_all, sum_by}
-use Rattle.std.specs.Option.{is_none}
-use Rattle.star_schema.specs.declared.group.Shape.{Shape}
-use Rattle.star_schema.specs.declared.group.Shape.TheVariants.{Plain, Cube}
-use Rattle.star_schema.specs.Groups.{is_grouping}
+use Rattle.std.specs.{List.list_all, List.sum_by, Option.is_none}
+use Rattle.star_schema.specs.{declared.group.Shape.Shape, declared.group.Shape.TheVariants.Plain, declared.group.Shape.TheVariants.Cube, Groups.is_grouping}
 use Rattle.star_program.specs.Puts.{masks}
 use Rattle.star_safety.specs.MostRows.{lists_of}
 

@@ -1,22 +1,11 @@
 -- The check of the steps of a body: the result of one step, and its progress.
 use Rattle.std.specs.Prelude.{◌≡◌, ◌+◌, ◌≤◌, ◌^◌, ℕ, Bool, List, Option}
 use Rattle.star_schema.specs.Sizes.{size_of}
-use Rattle.star_program.specs.declared.body.Step.{Step}
-use Rattle.star_program.specs.declared.body.Step.TheVariants.{Act, Scan}
-use Rattle.star_program.specs.declared.program.Parts.{Parts}
-use Rattle.star_program.specs.Code.{Code, Each, code_size}
-use Rattle.star_program.specs.CodeOfSteps.{code_of_steps}
-use Rattle.star_program.specs.World.{World}
+use Rattle.star_program.specs.{declared.body.Step.Step, declared.body.Step.TheVariants.Act, declared.body.Step.TheVariants.Scan, declared.program.Parts.Parts, Code.Code, Code.Each, Code.code_size, CodeOfSteps.code_of_steps, World.World}
 use Rattle.star_safety.specs.Contexts.{Context, after_op, after_scan, at_end, in_scan}
-use Rattle.star_safety.specs.Private.Forward.{first_reason, open_with}
-use Rattle.star_safety.specs.Quote.{turns_met}
-use Rattle.star_safety.specs.declared.reason.Reason.{Reason}
-use Rattle.star_safety.specs.Refusals.{op_reason}
-use Rattle.star_safety.specs.Standing.{at_place}
-use Rattle.star_verify.specs.declared.instructions.VerifierState.{VerifierState}
-use Rattle.star_verify.specs.declared.instructions.Position.{Position}
-use Rattle.star_verify.specs.declared.input.CheckInput.{CheckInput}
+use Rattle.star_safety.specs.{Private.Forward.first_reason, Private.Forward.open_with, Quote.turns_met, declared.reason.Reason.Reason, Refusals.op_reason, Standing.at_place}
 use Rattle.star_verify.specs.Private.CheckResults.{InEachContext, IsPositionOf, IsReady, KeepsContext, scan_first}
+use Rattle.star_verify.specs.{declared.instructions.VerifierState.VerifierState, declared.instructions.Position.Position, declared.input.CheckInput.CheckInput}
 
 -- ---- a step
 

@@ -1,16 +1,12 @@
 -- The verifier state as definitions see it.
 use Rattle.std.specs.Prelude.{◌≡◌, nat_eq, List, slice_index_or, Option, None}
-use Rattle.std.specs.Option.{option_map}
-use Rattle.std.specs.Int.{bit_at}
+use Rattle.std.specs.{Option.option_map, Int.bit_at}
 use Rattle.star_schema.specs.Schema.{index_of}
 use Rattle.star_interval.specs.Interval.{range_of, wide_range_of}
 use Rattle.star_program.specs.declared.value.Kind.{Kind}
-use Rattle.star_safety.specs.Ranges as ranges
 use Rattle.star_safety.specs.Tallies.{Share, sum_range, most_of, hull_of, reach_of}
-use Rattle.star_verify.specs.declared.reach.Reach.{Reach}
-use Rattle.star_verify.specs.declared.register.Register.{Register}
-use Rattle.star_verify.specs.declared.tally.Tally.{Tally}
-use Rattle.star_verify.specs.declared.known.Known.{Known}
+use Rattle.star_verify.specs.{declared.reach.Reach.Reach, declared.register.Register.Register, declared.tally.Tally.Tally, declared.known.Known.Known}
+use Rattle.star_safety.specs.Ranges as ranges
 use Rattle.star_verify.specs.declared.known.Known.TheVariants as known
 
 -- a column's bit is 1

@@ -1,15 +1,10 @@
 -- How the arguments of a command are separated, and what is made of them.
-use Rattle.std.specs.Borrow.{Bor}
-use Rattle.std.specs.Option.{option_map}
 use Rattle.std.specs.Prelude.{◌≡◌, ⊤, ◌++◌, Bool, true, ℕ, List, [], ◌∷◌, Option, IfSome, if◌then◌else◌, map}
-use Rattle.star_schema.specs.Most.{most_rows}
-use Rattle.star_schema.specs.declared.limits.Limits.{Limits}
-use Rattle.star_words.specs.Faults.{words_fault_status}
+use Rattle.std.specs.{Borrow.Bor, Option.option_map}
+use Rattle.star_schema.specs.{Most.most_rows, declared.limits.Limits.Limits}
 use Rattle.star_words.specs.Requests.{Asked, HasMostRows, Word, operands, options, request_asked}
-use Rattle.star_words.specs.declared.fault.WordsFault.{WordsFault}
-use Rattle.star_words.specs.declared.fault.WordsFault.TheVariants.{EmptyFolder, NotText, OutOfMemory, Told}
-use Rattle.star_words.specs.declared.request.Arguments.{Arguments}
-use Rattle.star_words.specs.declared.request.Request.{Request}
+use Rattle.star_words.specs.{Faults.words_fault_status, declared.fault.WordsFault.WordsFault, declared.fault.WordsFault.TheVariants.EmptyFolder, declared.fault.WordsFault.TheVariants.NotText, declared.fault.WordsFault.TheVariants.OutOfMemory, declared.fault.WordsFault.TheVariants.Told}
+use Rattle.star_words.specs.{declared.request.Arguments.Arguments, declared.request.Request.Request}
 
 abbrev pub texts : List (Bor Word) → List Word
 texts = map (λ word. word.now)

@@ -1,17 +1,8 @@
 use Rattle.std.proofs.Common.{◌≡◌, ◌≢◌, ◌∙◌, ◌<◌, ◌-ℤ◌, ◌≤ℤ◌, ℕ, List, pos, FitsSigned, Some, w64, get_or, length, set, sym, ap, inr, arith, rules, to_z-of_z, length-set}
-use Rattle.std.specs.Int.RustNames.{unsigned_abs}
-use Rattle.std.specs.List.{slice_get}
-use Rattle.std.specs.Option.{option_map}
-use Rattle.std.specs.Ordering.{int_eq}
-use Rattle.std.proofs.lemmas.Bool.Decides.{nat_tests}
-use Rattle.std.proofs.lemmas.Cmp.{int_eq_equiv}
-use Rattle.std.proofs.lemmas.Int.{ints}
-use Rattle.std.proofs.lemmas.List.Elements.{All-get_or}
-use Rattle.std.proofs.lemmas.Option.{slice_get-get_or}
-use Rattle.star_catalogue.specs.declared.fault.LoadFault.TheVariants.{DuplicateKey}
-use Rattle.star_catalogue.specs.Private.Places.{dense_at}
-use Rattle.star_catalogue.proofs.Dense.{free, none_yet, put, taken}
-use Rattle.star_catalogue.proofs.Repeats.{all_inserted, inserted_before, inserted_more, nothing_inserted}
+use Rattle.std.proofs.{lemmas.Bool.Decides.nat_tests, lemmas.Cmp.int_eq_equiv, lemmas.Int.ints, lemmas.List.Elements.All-get_or, lemmas.Option.slice_get-get_or}
+use Rattle.std.specs.{Int.RustNames.unsigned_abs, List.slice_get, Option.option_map, Ordering.int_eq}
+use Rattle.star_catalogue.specs.{declared.fault.LoadFault.TheVariants.DuplicateKey, Private.Places.dense_at}
+use Rattle.star_catalogue.proofs.{Dense.free, Dense.none_yet, Dense.put, Dense.taken, Repeats.all_inserted, Repeats.inserted_before, Repeats.inserted_more, Repeats.nothing_inserted}
 use Rattle.star_catalogue.proofs.dimension.rows_from.Goals as goal
 
 pub loop-place-init : goal.loop-place-init

@@ -1,13 +1,8 @@
 use Rattle.std.proofs.Common.{◌≡◌, ◌∙◌, ◌<◌, ◌++◌, ◌∷◌, [], Bool, pos, true, false, not, FitsSigned, w64, get_or, length, take, refl, sym, ap, inr, rules, to_z-of_z}
-use Rattle.std.specs.List.{list_any}
-use Rattle.std.specs.Option.{option_map}
-use Rattle.std.specs.Ordering.{int_eq}
-use Rattle.std.proofs.lemmas.Cmp.{int_eq_equiv}
-use Rattle.std.proofs.lemmas.List.{take_all}
-use Rattle.std.proofs.lemmas.Option.{slice_get-get_or}
+use Rattle.std.proofs.{lemmas.Cmp.int_eq_equiv, lemmas.List.take_all, lemmas.Option.slice_get-get_or}
+use Rattle.std.specs.{List.list_any, Option.option_map, Ordering.int_eq}
 use Rattle.star_catalogue.specs.declared.fault.LoadFault.TheVariants.{DuplicateKey}
-use Rattle.star_catalogue.proofs.Copies.{copied_more}
-use Rattle.star_catalogue.proofs.Repeats.{new_more, none_yet_repeats, repeats_first}
+use Rattle.star_catalogue.proofs.{Copies.copied_more, Repeats.new_more, Repeats.none_yet_repeats, Repeats.repeats_first}
 use Rattle.star_catalogue.proofs.far_keys.indexed.Goals as goal
 
 was_there : (b : Bool) → false ≡ not b → b ≡ true

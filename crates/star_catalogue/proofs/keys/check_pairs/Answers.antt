@@ -1,6 +1,5 @@
-use Rattle.std.proofs.Common.{arith}
+use Rattle.std.proofs.{Common.arith, lemmas.Slice.Zip.length-zip}
 use Rattle.std.specs.List.{zip}
-use Rattle.std.proofs.lemmas.Slice.Zip.{length-zip}
 use Rattle.star_reader.proofs.PassedOn.{passed_on}
 use Rattle.star_catalogue.proofs.Apart.{pairs_apart}
 use Rattle.star_catalogue.proofs.keys.check_pairs.Goals as goal

@@ -1,7 +1,6 @@
 use Rattle.std.proofs.Common.{◌≤◌, ◌∙◌, arith, length, rules}
+use Rattle.std.proofs.{lemmas.List.take_all, lemmas.Slice.Zip.length-zip}
 use Rattle.std.specs.List.{zip}
-use Rattle.std.proofs.lemmas.List.{take_all}
-use Rattle.std.proofs.lemmas.Slice.Zip.{length-zip}
 use Rattle.star_catalogue.proofs.Copies.{copied_more}
 use Rattle.star_catalogue.proofs.keys.pairs_of.Goals as goal
 

@@ -1,12 +1,9 @@
 use Rattle.std.proofs.Common.{◌≡◌, ◌∙◌, ◌<◌, true, false, cond, Option, Some, None, ℕ, length, slice_get, refl, sym, ap, inr, arith}
-use Rattle.std.specs.BTreeMap.{get, is_at}
-use Rattle.std.specs.Map.{lookup}
-use Rattle.std.specs.Option.{is_some, option_map}
-use Rattle.std.proofs.lemmas.Option.{slice_get_read}
+use Rattle.std.proofs.{lemmas.Option.slice_get_read}
+use Rattle.std.specs.{BTreeMap.get, BTreeMap.is_at, Map.lookup, Option.is_some, Option.option_map}
 use Rattle.star_catalogue.specs.declared.fault.LoadFault.TheVariants.{DuplicateKey}
-use Rattle.star_catalogue.proofs.Repeats.{all_inserted, inserted_before, inserted_more, nothing_inserted}
+use Rattle.star_catalogue.proofs.{Repeats.all_inserted, Repeats.inserted_before, Repeats.inserted_more, Repeats.nothing_inserted, keys.places_of.Goals.After-index-keys-place}
 use Rattle.star_catalogue.proofs.keys.places_of.Goals as goal
-use Rattle.star_catalogue.proofs.keys.places_of.Goals.{After-index-keys-place}
 
 some_of : (o : Option ℕ) → is_some o ≡ true → (n : ℕ) × (o ≡ Some n)
 some_of None e = cc

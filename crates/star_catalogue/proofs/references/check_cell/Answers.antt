@@ -1,14 +1,9 @@
 use Rattle.std.proofs.Common.{◌≡◌, ◌+◌, [], get_or, FitsSigned, Some, slice_get, sym, w64, to_z-of_z, refl, rules}
-use Rattle.star_schema.specs.declared.table.TableId.TheVariants.{Lineorder}
-use Rattle.star_schema.specs.Bounds.{numbers_of}
-use Rattle.star_schema.specs.Database.{rows_in}
-use Rattle.star_schema.specs.Loadable.{number_at}
-use Rattle.star_schema.specs.Schema.{place_of, table_of}
+use Rattle.star_schema.specs.{declared.table.TableId.TheVariants.Lineorder, Bounds.numbers_of, Database.rows_in, Loadable.number_at, Schema.place_of, Schema.table_of}
 use Rattle.star_schema.proofs.KeyColumns.{IsNumberOf, foreign_key}
 use Rattle.star_reader.proofs.RowPlaces.{length-numbers_at}
-use Rattle.star_catalogue.proofs.Refers.{cell_absent, cell_known, number_of_row}
+use Rattle.star_catalogue.proofs.{Refers.cell_absent, Refers.cell_known, Refers.number_of_row, references.check_cell.Goals.After-at-number, references.check_cell.Goals.In-Some}
 use Rattle.star_catalogue.proofs.references.check_cell.Goals as goal
-use Rattle.star_catalogue.proofs.references.check_cell.Goals.{After-at-number, In-Some}
 
 -- a column that refers to a table is one of numbers of lineorder
 key : (c : In-Some) → IsNumberOf Lineorder c.args.column

@@ -1,10 +1,6 @@
 use Rattle.std.proofs.Common.{◌≡◌, ◌+◌, ◌≤◌, ℕ, List, [], get_or, length, ◌∙◌, arith}
-use Rattle.std.proofs.lemmas.Result.{err_from_is_err_and}
-use Rattle.star_schema.specs.declared.column.ColumnId.{ColumnId}
-use Rattle.star_schema.specs.declared.column.ColumnId.TheVariants.{DDatekey}
-use Rattle.star_schema.specs.declared.table.TableId.TheVariants.{Lineorder}
-use Rattle.star_schema.specs.Database.{rows_in}
-use Rattle.star_schema.specs.Loadable.{foreign_keys}
+use Rattle.std.proofs.{lemmas.Result.err_from_is_err_and}
+use Rattle.star_schema.specs.{declared.column.ColumnId.ColumnId, declared.column.ColumnId.TheVariants.DDatekey, declared.table.TableId.TheVariants.Lineorder, Database.rows_in, Loadable.foreign_keys}
 use Rattle.star_catalogue.specs.Load.{foreign_key_fault}
 use Rattle.star_catalogue.proofs.Refers.{after_all, listed_at, row_here, row_on}
 use Rattle.star_catalogue.proofs.references.check_row.Goals as goal

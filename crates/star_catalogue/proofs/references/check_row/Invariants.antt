@@ -1,8 +1,6 @@
 use Rattle.std.proofs.Common.{◌≡◌, ◌+◌, [], drop, get_or}
-use Rattle.star_schema.specs.declared.table.TableId.TheVariants.{Lineorder}
-use Rattle.star_schema.specs.Database.{rows_in}
+use Rattle.star_schema.specs.{declared.table.TableId.TheVariants.Lineorder, Database.rows_in, Loadable.foreign_keys}
 use Rattle.star_common.specs.First.{first_answer}
-use Rattle.star_schema.specs.Loadable.{foreign_keys}
 use Rattle.star_catalogue.specs.Load.{foreign_key_fault, row_fault}
 use Rattle.star_catalogue.proofs.references.check_row.Given as goal
 

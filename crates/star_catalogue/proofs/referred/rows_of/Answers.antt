@@ -1,5 +1,4 @@
-use Rattle.std.proofs.Common.{◌∙◌, sym}
-use Rattle.std.proofs.lemmas.Result.{IfOk-weaker}
+use Rattle.std.proofs.{Common.◌∙◌, Common.sym, lemmas.Result.IfOk-weaker}
 use Rattle.star_schema.proofs.KeyColumns.{foreign_key}
 use Rattle.star_catalogue.proofs.ReferredRows.{of_table}
 use Rattle.star_catalogue.proofs.referred.rows_of.Goals as goal

@@ -1,12 +1,7 @@
 use Rattle.std.proofs.Common.{refl}
-use Rattle.star_schema.specs.Loadable.{database_of}
-use Rattle.star_schema.specs.Most.{most_rows, most_visits}
-use Rattle.star_engine.specs.Answered.{change}
-use Rattle.star_engine.specs.QuoteTexts.{IsQuoteTextOver, IsUnquoted, is_program_file}
-use Rattle.star_engine.specs.Trials.{IsBoundedReport, IsNoTrial, IsNoTrialOver}
-use Rattle.star_engine.proofs.Loaded.{answered_over}
-use Rattle.star_engine.proofs.TellingLemmas.{noted_of_texts}
-use Rattle.star_engine.proofs.Trials.{no_trial_over}
+use Rattle.star_schema.specs.{Loadable.database_of, Most.most_rows, Most.most_visits}
+use Rattle.star_engine.specs.{Answered.change, QuoteTexts.IsQuoteTextOver, QuoteTexts.IsUnquoted, QuoteTexts.is_program_file, Trials.IsBoundedReport, Trials.IsNoTrial, Trials.IsNoTrialOver}
+use Rattle.star_engine.proofs.{Loaded.answered_over, TellingLemmas.noted_of_texts, Trials.no_trial_over}
 use Rattle.star_cli.proofs.Giving.{answer_given, bench_given, benched, both_given, list_given, listed, nothing_given, quote_given, trial_given}
 use Rattle.star_cli.proofs.answers.ask.Goals as goal
 

@@ -1,6 +1,5 @@
 use Rattle.std.proofs.Common.{refl}
-use Rattle.star_engine.specs.Answered.{change}
-use Rattle.star_engine.specs.Queries.{IsExplained, IsNoQuery}
+use Rattle.star_engine.specs.{Answered.change, Queries.IsExplained, Queries.IsNoQuery}
 use Rattle.star_engine.proofs.ByClauses.{is_answered}
 use Rattle.star_cli.proofs.answers.explain.Goals as goal
 

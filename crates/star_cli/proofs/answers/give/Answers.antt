@@ -1,8 +1,6 @@
-use Rattle.std.proofs.Common.{refl}
-use Rattle.std.proofs.lemmas.Result.{err_from_is_err_and}
+use Rattle.std.proofs.{Common.refl, lemmas.Result.err_from_is_err_and}
 use Rattle.star_schema.specs.Most.{most_rows}
-use Rattle.star_engine.specs.Answered.{change}
-use Rattle.star_engine.specs.Loads.{IsUnloaded}
+use Rattle.star_engine.specs.{Answered.change, Loads.IsUnloaded}
 use Rattle.star_cli.specs.Private.Asking.{IsNotAsked}
 use Rattle.star_cli.proofs.Giving.{given_up, never_asked, not_asked, not_loaded}
 use Rattle.star_cli.proofs.answers.give.Goals as goal

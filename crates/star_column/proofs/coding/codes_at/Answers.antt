@@ -1,6 +1,4 @@
-use Rattle.std.proofs.Common.{◌≡◌, ◌∙◌, rules}
-use Rattle.std.proofs.lemmas.List.{map-id}
-use Rattle.std.proofs.lemmas.Result.{IfOk-weaker}
+use Rattle.std.proofs.{Common.◌≡◌, Common.◌∙◌, Common.rules, lemmas.List.map-id, lemmas.Result.IfOk-weaker}
 use Rattle.star_flat.specs.Words.{less}
 use Rattle.star_column.proofs.Repeats.{words_read, words_within}
 use Rattle.star_column.proofs.coding.codes_at.Goals as goal

@@ -1,7 +1,6 @@
 -- One number more is tested.
 use Rattle.std.proofs.Common.{cond, ap, ◌∙◌, arith}
-use Rattle.star_column.proofs.BitLists.{byte_cond}
-use Rattle.star_column.proofs.Lowest.{kept_fits, kept_more}
+use Rattle.star_column.proofs.{BitLists.byte_cond, Lowest.kept_fits, Lowest.kept_more}
 use Rattle.star_column.proofs.mask.keep_few.Goals as goal
 
 pub overflow_add-kept : goal.overflow_add-kept

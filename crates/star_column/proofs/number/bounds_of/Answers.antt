@@ -1,8 +1,7 @@
 use Rattle.std.proofs.Common.{◌≡◌, [], ap, ◌∙◌, FitsSigned, w64, to_z-of_z, rules}
 use Rattle.star_schema.specs.Bounds.{least, greatest}
-use Rattle.star_column.proofs.Extremes.{greatest_word, least_word}
+use Rattle.star_column.proofs.{Extremes.greatest_word, Extremes.least_word, number.bounds_of.Goals.in_default-via-in-Some+in_default, number.bounds_of.Goals.in_default-via-in_default}
 use Rattle.star_column.proofs.number.bounds_of.Goals as goal
-use Rattle.star_column.proofs.number.bounds_of.Goals.{in_default-via-in-Some+in_default, in_default-via-in_default}
 
 pub returns-in_default : goal.returns-in_default
 unfolding least greatest

@@ -1,6 +1,5 @@
-use Rattle.std.proofs.Common.{get_or, map, rules, sym}
+use Rattle.std.proofs.{Common.get_or, Common.map, Common.rules, Common.sym, lemmas.Option.get_or_from_slice_get}
 use Rattle.std.specs.Prelude.{slice_index_or}
-use Rattle.std.proofs.lemmas.Option.{get_or_from_slice_get}
 use Rattle.star_column.proofs.Views.{one_gathered}
 use Rattle.star_column.proofs.view.gather_narrow.Goals as goal
 

@@ -1,6 +1,5 @@
 use Rattle.std.proofs.Common.{◌∙◌, Some, ap, arith, map, sym}
-use Rattle.std.proofs.lemmas.List.{length-map}
-use Rattle.std.proofs.lemmas.Option.{get_or_from_slice_get}
+use Rattle.std.proofs.{lemmas.List.length-map, lemmas.Option.get_or_from_slice_get}
 use Rattle.star_column.proofs.Views.{number_there}
 use Rattle.star_column.proofs.view.narrow_at.Goals as goal
 

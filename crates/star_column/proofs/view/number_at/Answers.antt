@@ -1,7 +1,6 @@
 use Rattle.std.proofs.Common.{◌∙◌, FitsSigned, Some, ap, map, rules, sym, to_z-of_z, w64}
 use Rattle.star_interval.specs.Interval.{range_of}
-use Rattle.star_column.proofs.Differences.{packed_at}
-use Rattle.star_column.proofs.Views.{lent_holds, number_there}
+use Rattle.star_column.proofs.{Differences.packed_at, Views.lent_holds, Views.number_there}
 use Rattle.star_column.proofs.view.number_at.Goals as goal
 
 pub number_above-requires : goal.number_above-requires

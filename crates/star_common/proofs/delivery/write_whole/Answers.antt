@@ -1,6 +1,5 @@
 use Rattle.std.proofs.Common.{◌≡◌, ◌<◌, ◌∙◌, ◌-◌, false, ap, arith, drop, inl, inr, length, refl, take, rules}
-use Rattle.std.proofs.lemmas.Bool.{cases_Bool}
-use Rattle.std.proofs.lemmas.List.{length-drop}
+use Rattle.std.proofs.{lemmas.Bool.cases_Bool, lemmas.List.length-drop}
 use Rattle.star_common.proofs.Sends.{rest_of, sends_more}
 use Rattle.star_common.proofs.delivery.write_whole.Goals as goal
 

@@ -1,6 +1,5 @@
 use Rattle.std.proofs.Common.{◌<◌, ◌≤◌, ◌++◌, ◌∙◌, List, ap, arith, length, refl, sym}
-use Rattle.star_schema.specs.declared.group.GroupColumn.{GroupColumn}
-use Rattle.star_schema.specs.declared.group.GroupColumn.TheVariants.{Aggregate, Key}
+use Rattle.star_schema.specs.{declared.group.GroupColumn.GroupColumn, declared.group.GroupColumn.TheVariants.Aggregate, declared.group.GroupColumn.TheVariants.Key}
 use Rattle.star_merge_laws.specs.Plain.{columns_at}
 use Rattle.star_compile.proofs.Plain.{all_columns, measured_columns, one_column}
 use Rattle.star_compile.proofs.declarations.plain_columns.Goals as goal

@@ -1,7 +1,5 @@
 use Rattle.std.proofs.Common.{◌≡◌, ◌∙◌, false}
-use Rattle.star_engine.specs.Queries.{IsNoQuery}
-use Rattle.star_engine.specs.Questions.{Asks}
-use Rattle.star_engine.specs.Thirteen.{query_text}
+use Rattle.star_engine.specs.{Queries.IsNoQuery, Questions.Asks, Thirteen.query_text}
 use Rattle.star_engine.proofs.QueryFaults.{matched_or_memory}
 use Rattle.star_engine.proofs.benchmark.question_of.Goals as goal
 

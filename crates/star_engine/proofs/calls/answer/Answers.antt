@@ -1,12 +1,7 @@
-use Rattle.std.proofs.Common.{refl}
-use Rattle.std.proofs.lemmas.Result.{err_from_is_err_and}
+use Rattle.std.proofs.{Common.refl, lemmas.Result.err_from_is_err_and}
 use Rattle.star_catalogue.specs.Load.{texts_view}
-use Rattle.star_engine.specs.Answered.{change}
-use Rattle.star_engine.specs.Loads.{IsUnloaded}
-use Rattle.star_engine.specs.QuoteTexts.{IsNoneOfKind}
-use Rattle.star_engine.specs.Private.TextSteps.{IsQuoteOfTexts, IsToldOfTexts, IsUntoldOfTexts}
-use Rattle.star_engine.proofs.Noting.{noted_stopped}
-use Rattle.star_engine.proofs.TellingLemmas.{never_refused, none, noted_of_texts, unloaded}
+use Rattle.star_engine.specs.{Answered.change, Loads.IsUnloaded, QuoteTexts.IsNoneOfKind, Private.TextSteps.IsQuoteOfTexts, Private.TextSteps.IsToldOfTexts, Private.TextSteps.IsUntoldOfTexts}
+use Rattle.star_engine.proofs.{Noting.noted_stopped, TellingLemmas.never_refused, TellingLemmas.none, TellingLemmas.noted_of_texts, TellingLemmas.unloaded}
 use Rattle.star_engine.proofs.calls.answer.Goals as goal
 
 pub returns-in_err-question : goal.returns-in_err-question

@@ -1,9 +1,8 @@
 use Rattle.star_catalogue.specs.Load.{texts_view}
-use Rattle.star_engine.specs.Answered.{change}
+use Rattle.star_engine.specs.{Answered.change, Executions.IsFileReport, Executions.IsQuoteOf, Executions.IsToldOf, Executions.IsUntold}
 use Rattle.std.specs.Prelude.{true}
-use Rattle.star_engine.specs.Executions.{IsFileReport, IsQuoteOf, IsToldOf, IsUntold}
 use Rattle.star_engine.proofs.ByClauses.{has_reported, has_told, is_telling_broken_off, is_telling_refused, is_telling_untold}
-use Rattle.star_engine.proofs.Reported.{file_report}
+use Rattle.star_engine.proofs.{Reported.file_report}
 use Rattle.star_engine.proofs.calls.answer_program.Goals as goal
 
 pub returns : goal.returns

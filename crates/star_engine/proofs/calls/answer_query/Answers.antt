@@ -1,9 +1,8 @@
 use Rattle.star_catalogue.specs.Load.{texts_view}
-use Rattle.star_engine.specs.Answered.{change}
+use Rattle.star_engine.specs.{Answered.change, Queries.IsQueryQuote, Queries.IsQueryTold, Queries.IsReportOf, Queries.IsUnanswered}
 use Rattle.std.specs.Prelude.{false}
-use Rattle.star_engine.specs.Queries.{IsQueryQuote, IsQueryTold, IsReportOf, IsUnanswered}
 use Rattle.star_engine.proofs.ByClauses.{has_reported, has_told, is_telling_broken_off, is_telling_refused, is_telling_untold}
-use Rattle.star_engine.proofs.Reported.{query_report}
+use Rattle.star_engine.proofs.{Reported.query_report}
 use Rattle.star_engine.proofs.calls.answer_query.Goals as goal
 
 pub returns : goal.returns

@@ -1,10 +1,7 @@
 use Rattle.std.proofs.Common.{◌∙◌}
 use Rattle.star_compile_laws.specs.Compiled.{compiled}
-use Rattle.star_engine.specs.Answered.{change}
-use Rattle.star_engine.specs.Queries.{IsExplained, IsNoQuery}
-use Rattle.star_engine.proofs.Answering.{written}
-use Rattle.star_engine.proofs.ByClauses.{has_written, is_broken_off, is_refused, is_untouched}
-use Rattle.star_engine.proofs.ProgramTexts.{program_text_some}
+use Rattle.star_engine.specs.{Answered.change, Queries.IsExplained, Queries.IsNoQuery}
+use Rattle.star_engine.proofs.{Answering.written, ByClauses.has_written, ByClauses.is_broken_off, ByClauses.is_refused, ByClauses.is_untouched, ProgramTexts.program_text_some}
 use Rattle.star_engine.proofs.calls.explain_query.Goals as goal
 
 pub write_text-requires : goal.write_text-requires

@@ -1,15 +1,8 @@
-use Rattle.std.proofs.Common.{refl}
-use Rattle.std.proofs.lemmas.Result.{err_from_is_err_and}
+use Rattle.std.proofs.{Common.refl, lemmas.Result.err_from_is_err_and}
 use Rattle.star_schema.specs.Loadable.{database_of}
 use Rattle.star_catalogue.specs.Load.{texts_view}
-use Rattle.star_engine.specs.Answered.{IsAnswered, change}
-use Rattle.star_engine.specs.Loads.{IsUnloaded}
-use Rattle.star_engine.specs.QuoteTexts.{IsQuoteText, IsQuoteTextOver, IsUnquoted, is_program_file}
-use Rattle.star_engine.proofs.QueryFaults.{or_memory}
-use Rattle.star_engine.proofs.TellingLemmas.{unquoted_tables}
-use Rattle.star_engine.proofs.Answering.{stopped}
-use Rattle.star_engine.proofs.ByClauses.{has_written, is_broken_off, is_refused, is_untouched}
-use Rattle.star_engine.proofs.Loaded.{answered_over}
+use Rattle.star_engine.specs.{Answered.IsAnswered, Answered.change, Loads.IsUnloaded, QuoteTexts.IsQuoteText, QuoteTexts.IsQuoteTextOver, QuoteTexts.IsUnquoted, QuoteTexts.is_program_file}
+use Rattle.star_engine.proofs.{QueryFaults.or_memory, TellingLemmas.unquoted_tables, Answering.stopped, ByClauses.has_written, ByClauses.is_broken_off, ByClauses.is_refused, ByClauses.is_untouched, Loaded.answered_over}
 use Rattle.star_engine.proofs.calls.quote_text.Goals as goal
 
 pub returns-in_err-engine : goal.returns-in_err-engine

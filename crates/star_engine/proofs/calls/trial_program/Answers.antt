@@ -1,15 +1,8 @@
-use Rattle.std.proofs.Common.{refl}
-use Rattle.std.proofs.lemmas.Result.{err_from_is_err_and}
+use Rattle.std.proofs.{Common.refl, lemmas.Result.err_from_is_err_and}
 use Rattle.star_schema.specs.Loadable.{database_of}
 use Rattle.star_catalogue.specs.Load.{texts_view}
-use Rattle.star_engine.specs.Answered.{IsAnswered, change}
-use Rattle.star_engine.specs.Loads.{IsUnloaded}
-use Rattle.star_engine.specs.Trials.{IsBoundedReport, IsNoTrial, IsNoTrialOver, IsTrialReport}
-use Rattle.star_engine.proofs.QueryFaults.{or_memory}
-use Rattle.star_engine.proofs.Trials.{no_trial_over, no_trial_unloaded}
-use Rattle.star_engine.proofs.Answering.{stopped}
-use Rattle.star_engine.proofs.ByClauses.{has_written, is_broken_off, is_refused, is_untouched}
-use Rattle.star_engine.proofs.Loaded.{answered_over}
+use Rattle.star_engine.specs.{Answered.IsAnswered, Answered.change, Loads.IsUnloaded, Trials.IsBoundedReport, Trials.IsNoTrial, Trials.IsNoTrialOver, Trials.IsTrialReport}
+use Rattle.star_engine.proofs.{QueryFaults.or_memory, Trials.no_trial_over, Trials.no_trial_unloaded, Answering.stopped, ByClauses.has_written, ByClauses.is_broken_off, ByClauses.is_refused, ByClauses.is_untouched, Loaded.answered_over}
 use Rattle.star_engine.proofs.calls.trial_program.Goals as goal
 
 pub returns-in_err-engine : goal.returns-in_err-engine

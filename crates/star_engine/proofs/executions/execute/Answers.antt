@@ -1,11 +1,7 @@
 use Rattle.std.proofs.Common.{◌∙◌, Err, ap, refl, sym}
-use Rattle.std.proofs.lemmas.Result.{err_from_is_err_and}
-use Rattle.star_engine.specs.Answered.{change}
-use Rattle.star_engine.specs.Executions.{IsQuote, IsProgramTold, quote_over}
-use Rattle.star_engine.specs.Private.Steps.{IsNotVerified}
-use Rattle.star_engine.specs.Tellings.{telling_of}
-use Rattle.star_engine.proofs.Executing.{note_has_bytes, quote_some, report_has_bytes}
-use Rattle.star_engine.proofs.Noting.{delivered, note_broken}
+use Rattle.std.proofs.{lemmas.Result.err_from_is_err_and}
+use Rattle.star_engine.specs.{Answered.change, Executions.IsQuote, Executions.IsProgramTold, Executions.quote_over, Private.Steps.IsNotVerified, Tellings.telling_of}
+use Rattle.star_engine.proofs.{Executing.note_has_bytes, Executing.quote_some, Executing.report_has_bytes, Noting.delivered, Noting.note_broken}
 use Rattle.star_engine.proofs.executions.execute.Goals as goal
 
 pub write_note-requires : goal.write_note-requires

@@ -1,6 +1,5 @@
-use Rattle.std.proofs.Common.{refl}
+use Rattle.std.proofs.{Common.refl, lemmas.Result.err_from_is_err_and}
 use Rattle.std.specs.Prelude.{string_bytes}
-use Rattle.std.proofs.lemmas.Result.{err_from_is_err_and}
 use Rattle.star_engine.specs.Answered.{change}
 use Rattle.star_engine.proofs.Noting.{report_broken}
 use Rattle.star_engine.proofs.executions.write_told.Goals as goal

@@ -1,9 +1,5 @@
-use Rattle.std.proofs.Common.{[], List, ℕ, string_bytes}
-use Rattle.std.proofs.lemmas.Option.{slice_get-get_or}
-use Rattle.star_schema.specs.declared.table.TableId.{TableId}
-use Rattle.star_schema.specs.declared.table.TableId.TheVariants.{Date}
-use Rattle.star_schema.specs.declared.table.TheConstants.{TABLES}
-use Rattle.star_schema.specs.Database.{rows_in}
+use Rattle.std.proofs.{Common.[], Common.List, Common.ℕ, Common.string_bytes, lemmas.Option.slice_get-get_or}
+use Rattle.star_schema.specs.{declared.table.TableId.TableId, declared.table.TableId.TheVariants.Date, declared.table.TheConstants.TABLES, Database.rows_in}
 use Rattle.star_engine.specs.Listing.{listing_of, table_text}
 use Rattle.star_report.proofs.Parts.{all_parts, one_more}
 use Rattle.star_engine.proofs.listing.list_tables.Goals as goal

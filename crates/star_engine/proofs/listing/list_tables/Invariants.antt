@@ -1,6 +1,5 @@
 use Rattle.std.proofs.Common.{[], string_bytes}
-use Rattle.star_schema.specs.Database.{rows_in}
-use Rattle.star_schema.specs.declared.table.TheConstants.{TABLES}
+use Rattle.star_schema.specs.{Database.rows_in, declared.table.TheConstants.TABLES}
 use Rattle.star_engine.specs.Listing.{table_text}
 use Rattle.star_report.proofs.Parts.{HasGrown}
 use Rattle.star_engine.proofs.listing.list_tables.Given as goal

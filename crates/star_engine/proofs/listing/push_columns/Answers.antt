@@ -1,7 +1,5 @@
 use Rattle.std.proofs.Common.{◌≤◌, List, ℕ, arith, length, string_bytes}
-use Rattle.star_schema.specs.declared.column.ColumnId.{ColumnId}
-use Rattle.star_schema.specs.Database.{rows_in}
-use Rattle.star_schema.specs.Schema.{columns_of, kind_of}
+use Rattle.star_schema.specs.{declared.column.ColumnId.ColumnId, Database.rows_in, Schema.columns_of, Schema.kind_of}
 use Rattle.star_engine.specs.Listing.{column_text}
 use Rattle.star_report.proofs.Parts.{all_parts, one_more}
 use Rattle.star_engine.proofs.listing.push_columns.Goals as goal

@@ -1,6 +1,5 @@
 use Rattle.std.proofs.Common.{string_bytes}
-use Rattle.star_schema.specs.Database.{rows_in}
-use Rattle.star_schema.specs.Schema.{columns_of, kind_of}
+use Rattle.star_schema.specs.{Database.rows_in, Schema.columns_of, Schema.kind_of}
 use Rattle.star_engine.specs.Listing.{column_text}
 use Rattle.star_report.proofs.Parts.{HasGrown}
 use Rattle.star_engine.proofs.listing.push_columns.Given as goal

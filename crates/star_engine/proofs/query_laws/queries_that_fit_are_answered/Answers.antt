@@ -1,14 +1,11 @@
 -- From the laws of compiled programs and of admission, for the plans of texts.
 use Rattle.std.proofs.Common.{◌≡◌, true, arith}
 use Rattle.star_schema.specs.Database.{rows_in}
-use Rattle.star_safety.specs.Laws.{IsAccepted}
-use Rattle.star_safety.specs.Quote.{quote}
+use Rattle.star_safety.specs.{Laws.IsAccepted, Quote.quote}
 use Rattle.star_world.specs.WorldOf.{world_of}
 use Rattle.star_compile_laws.specs.Compiled.{compiled}
 use Rattle.star_engine.specs.Queries.{fact_rows}
-use Rattle.star_engine.proofs.FittingTexts.{text_fits}
-use Rattle.star_engine.proofs.PlansOfQueries.{plan_sound, plan_spelled, plan_within}
-use Rattle.star_engine.proofs.QueryRuns.{ends_reported}
+use Rattle.star_engine.proofs.{FittingTexts.text_fits, PlansOfQueries.plan_sound, PlansOfQueries.plan_spelled, PlansOfQueries.plan_within, QueryRuns.ends_reported}
 use Rattle.star_engine.proofs.query_laws.queries_that_fit_are_answered.Goals as goal
 
 pub returns-clause-accepted : goal.returns-clause-accepted

@@ -1,9 +1,7 @@
 use Rattle.std.proofs.Common.{◌≡◌, ◌<◌, length, get_or, take, sym, arith, length-set, slice_get}
-use Rattle.std.proofs.lemmas.List.{take_all}
-use Rattle.std.proofs.lemmas.List.Elements.{All-same}
+use Rattle.std.proofs.{lemmas.List.take_all, lemmas.List.Elements.All-same}
 use Rattle.star_flat.specs.declared.ordered.Numbered.{Numbered}
-use Rattle.star_flat.proofs.CodesKept.{lead_more, number_within}
-use Rattle.star_flat.proofs.Enumerated.{nothing}
+use Rattle.star_flat.proofs.{CodesKept.lead_more, CodesKept.number_within, Enumerated.nothing}
 use Rattle.star_flat.proofs.coding.code_ordered.Goals as goal
 
 pub loop-place-preserved : goal.loop-place-preserved

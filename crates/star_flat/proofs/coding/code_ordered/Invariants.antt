@@ -1,6 +1,5 @@
 use Rattle.std.proofs.Common.{◌≡◌, ◌≤◌, length, take}
-use Rattle.star_flat.specs.Private.Codes.{LeadTo, different}
-use Rattle.star_flat.specs.Private.Order.{numbered_texts}
+use Rattle.star_flat.specs.{Private.Codes.LeadTo, Private.Codes.different, Private.Order.numbered_texts}
 use Rattle.star_flat.proofs.coding.code_ordered.Given as goal
 
 abbrev pub invariant-loop-place : goal.invariant-loop-place

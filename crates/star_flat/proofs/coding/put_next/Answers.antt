@@ -1,11 +1,7 @@
 use Rattle.std.proofs.Common.{◌≡◌, ◌∙◌, ◌+◌, get_or, take, sym, arith, true≢false}
-use Rattle.star_flat.specs.Private.Codes.{different}
-use Rattle.star_flat.specs.Private.Order.{numbered_texts, text_at}
-use Rattle.star_flat.proofs.CodesKept.{code_here, put_again, put_new, some_put}
-use Rattle.star_flat.proofs.Enumerated.{nothing}
-use Rattle.star_flat.proofs.Pushed.{pushed_before}
+use Rattle.star_flat.specs.{Private.Codes.different, Private.Order.numbered_texts, Private.Order.text_at}
+use Rattle.star_flat.proofs.{CodesKept.code_here, CodesKept.put_again, CodesKept.put_new, CodesKept.some_put, Enumerated.nothing, Pushed.pushed_before, coding.put_next.Goals.then-not-repeats+in_ok-put_text, coding.put_next.Goals.else-not-repeats}
 use Rattle.star_flat.proofs.coding.put_next.Goals as goal
-use Rattle.star_flat.proofs.coding.put_next.Goals.{then-not-repeats+in_ok-put_text, else-not-repeats}
 
 pub returns-clause-put : goal.returns-clause-put
 returns-clause-put c =

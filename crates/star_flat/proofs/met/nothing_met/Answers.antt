@@ -1,5 +1,4 @@
-use Rattle.std.proofs.Common.{arith}
-use Rattle.std.proofs.lemmas.List.Elements.{All-replicate}
+use Rattle.std.proofs.{Common.arith, lemmas.List.Elements.All-replicate}
 use Rattle.star_flat.specs.Private.Met.{IsMet}
 use Rattle.star_flat.proofs.met.nothing_met.Goals as goal
 

@@ -1,10 +1,7 @@
 use Rattle.std.specs.Ordering.{is_lt}
-use Rattle.std.proofs.Common.{ap, rules}
-use Rattle.std.proofs.lemmas.Fn.{always_returns_same}
-use Rattle.std.proofs.lemmas.List.Sorted.{ranks_by}
+use Rattle.std.proofs.{Common.ap, Common.rules, lemmas.Fn.always_returns_same, lemmas.List.Sorted.ranks_by}
 use Rattle.star_flat.specs.Private.Order.{by_key}
-use Rattle.star_flat.proofs.InOrder.{AreInOrder-sorted}
-use Rattle.star_flat.proofs.Keys.{key_total}
+use Rattle.star_flat.proofs.{InOrder.AreInOrder-sorted, Keys.key_total}
 use Rattle.star_flat.proofs.ordered.by_fronts.Goals as goal
 
 pub returns : goal.returns

@@ -1,7 +1,5 @@
 use Rattle.std.proofs.Common.{◌<◌, ◌≤◌, ◌^◌, sym, arith}
-use Rattle.std.proofs.lemmas.List.Elements.{All-from_get_or}
-use Rattle.std.proofs.Math.Nat.{pow-le-pow_right}
-use Rattle.std.proofs.lemmas.Grind.{pow_more}
+use Rattle.std.proofs.{lemmas.List.Elements.All-from_get_or, Math.Nat.pow-le-pow_right, lemmas.Grind.pow_more}
 use Rattle.star_flat.proofs.Keys.{byte_fits, digits_more, digits_none}
 use Rattle.star_flat.proofs.ordered.first_of.Goals as goal
 

@@ -1,5 +1,4 @@
-use Rattle.std.proofs.Common.{◌<◌, ⊎_elim, arith, length}
-use Rattle.std.proofs.lemmas.Bool.{cases_lt}
+use Rattle.std.proofs.{Common.◌<◌, Common.⊎_elim, Common.arith, Common.length, lemmas.Bool.cases_lt}
 use Rattle.star_flat.proofs.Keys.{digits_more}
 use Rattle.star_flat.proofs.ordered.second_of.Goals as goal
 

@@ -1,7 +1,5 @@
-use Rattle.std.proofs.Common.{arith}
-use Rattle.std.proofs.lemmas.List.Elements.{All-push}
-use Rattle.star_flat.specs.declared.ordered.Whole.{Whole}
-use Rattle.star_flat.specs.Private.Order.{IsWhole}
+use Rattle.std.proofs.{Common.arith, lemmas.List.Elements.All-push}
+use Rattle.star_flat.specs.{declared.ordered.Whole.Whole, Private.Order.IsWhole}
 use Rattle.star_flat.proofs.Enumerated.{more_numbers}
 use Rattle.star_flat.proofs.ordered.wholes.Goals as goal
 

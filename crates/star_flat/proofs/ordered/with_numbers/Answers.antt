@@ -1,7 +1,5 @@
-use Rattle.std.proofs.Common.{arith}
-use Rattle.std.proofs.lemmas.List.Elements.{All-push}
-use Rattle.star_flat.specs.declared.ordered.Numbered.{Numbered}
-use Rattle.star_flat.specs.Private.Order.{IsKeyed}
+use Rattle.std.proofs.{Common.arith, lemmas.List.Elements.All-push}
+use Rattle.star_flat.specs.{declared.ordered.Numbered.Numbered, Private.Order.IsKeyed}
 use Rattle.star_flat.proofs.Enumerated.{more_numbers}
 use Rattle.star_flat.proofs.ordered.with_numbers.Goals as goal
 

@@ -1,7 +1,6 @@
 use Rattle.std.proofs.Common.{◌++◌, ◌∷◌, [], take, ap, sym, ◌∙◌}
+use Rattle.std.proofs.{lemmas.List.length-map, lemmas.List.take-map, Math.Seq.take-append_seam}
 use Rattle.std.specs.Int.RustNames.{unsigned_abs}
-use Rattle.std.proofs.lemmas.List.{length-map, take-map}
-use Rattle.std.proofs.Math.Seq.{take-append_seam}
 use Rattle.star_flat.specs.Repeated.{places_in}
 use Rattle.star_flat.proofs.repeated.keep.Goals as goal
 

@@ -1,9 +1,8 @@
 use Rattle.std.proofs.Common.{◌≡◌, ◌≤◌, sym, ap, ◌∙◌, length, arith, slice_range, Some, get_or}
-use Rattle.std.proofs.lemmas.Option.{get_or_from_slice_get, slice_get_within}
+use Rattle.std.proofs.{lemmas.Option.get_or_from_slice_get, lemmas.Option.slice_get_within}
 use Rattle.star_flat.specs.Private.Cut.{text_start}
-use Rattle.star_flat.proofs.CutLemmas.{text_there, begins_before, ends_within}
+use Rattle.star_flat.proofs.{CutLemmas.text_there, CutLemmas.begins_before, CutLemmas.ends_within, texts.text_at.Goals.After-range_at-start}
 use Rattle.star_flat.proofs.texts.text_at.Goals as goal
-use Rattle.star_flat.proofs.texts.text_at.Goals.{After-range_at-start}
 
 -- the end that is read is the one at the place, and lies between the text's beginning and the last
 ends : (c : After-range_at-start)

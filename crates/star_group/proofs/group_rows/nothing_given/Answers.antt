@@ -1,5 +1,4 @@
-use Rattle.star_group.proofs.Common.{listed_entries}
-use Rattle.star_group.proofs.GivenRows.{nothing_row}
+use Rattle.star_group.proofs.{Common.listed_entries, GivenRows.nothing_row}
 use Rattle.star_group.proofs.group_rows.nothing_given.Goals as goal
 
 pub returns : goal.returns

@@ -1,7 +1,6 @@
 -- The bounds at either end of this interval are those of two corners.
 use Rattle.std.proofs.Common.{◌≡◌, ◌∙◌, ◌*ℤ◌, rules}
-use Rattle.star_interval.specs.Range.{only, hull}
-use Rattle.star_interval.specs.Interval.{wide_range_of}
+use Rattle.star_interval.specs.{Range.only, Range.hull, Interval.wide_range_of}
 use Rattle.star_interval.proofs.Interval.mul_wide.Goals as goal
 
 pub returns : goal.returns

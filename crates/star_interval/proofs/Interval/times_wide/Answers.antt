@@ -1,9 +1,7 @@
 -- The range of the ends taken n times is the least that holds all multiples.
 use Rattle.std.proofs.Common.{rules}
-use Rattle.star_interval.specs.Range.{multiple_range}
-use Rattle.star_interval.specs.Interval.{range_of}
-use Rattle.star_interval.proofs.Ranges.{range_same, least_same}
-use Rattle.star_interval.proofs.Products.{least_multiples}
+use Rattle.star_interval.specs.{Range.multiple_range, Interval.range_of}
+use Rattle.star_interval.proofs.{Ranges.range_same, Ranges.least_same, Products.least_multiples}
 use Rattle.star_interval.proofs.Interval.times_wide.Goals as goal
 
 pub returns-clause-least : goal.returns-clause-least

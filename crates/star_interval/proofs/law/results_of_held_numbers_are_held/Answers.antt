@@ -1,8 +1,6 @@
 -- Each clause is a lemma.
 use Rattle.std.proofs.Common.{pos}
-use Rattle.star_interval.proofs.Ranges.{hulls_held, hulls_held_with}
-use Rattle.star_interval.proofs.Sums.{sums_held, differences_held}
-use Rattle.star_interval.proofs.Products.{products_held, multiples_held}
+use Rattle.star_interval.proofs.{Ranges.hulls_held, Ranges.hulls_held_with, Sums.sums_held, Sums.differences_held, Products.products_held, Products.multiples_held}
 use Rattle.star_interval.proofs.law.results_of_held_numbers_are_held.Goals as goal
 
 pub returns-clause-sums : goal.returns-clause-sums

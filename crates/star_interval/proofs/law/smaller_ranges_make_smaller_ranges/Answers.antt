@@ -1,8 +1,6 @@
 -- Each clause is a lemma.
 use Rattle.std.proofs.Common.{pos}
-use Rattle.star_interval.proofs.Ranges.{hulls_within, hulls_within_with}
-use Rattle.star_interval.proofs.Sums.{sums_within, differences_within}
-use Rattle.star_interval.proofs.Products.{products_within, multiples_within}
+use Rattle.star_interval.proofs.{Ranges.hulls_within, Ranges.hulls_within_with, Sums.sums_within, Sums.differences_within, Products.products_within, Products.multiples_within}
 use Rattle.star_interval.proofs.law.smaller_ranges_make_smaller_ranges.Goals as goal
 
 pub returns-clause-sums : goal.returns-clause-sums

@@ -1,16 +1,11 @@
 -- The run ends within the quote, and so does what a trial answers of it.
 use Rattle.std.proofs.Common.{◌≡◌, ◌≤◌, ℕ, arith, refl, subst}
 use Rattle.std.specs.Prelude.{MatchResult, Result, Ok, Err}
-use Rattle.star_program.specs.declared.outcome.Outcome.{Outcome}
-use Rattle.star_program.specs.declared.program.Parts.{Parts}
-use Rattle.star_safety.specs.Laws.{EndsWithin}
-use Rattle.star_safety.specs.Quote.{quote}
-use Rattle.star_program.specs.Run.{bounded_run_of}
-use Rattle.star_program.specs.World.{World}
-use Rattle.star_trial.specs.declared.fault.TrialFault.{TrialFault}
-use Rattle.star_trial.specs.declared.fault.TrialFault.TheVariants as fault
-use Rattle.star_trial.specs.Trials.{IsTrial}
+use Rattle.star_program.specs.{declared.outcome.Outcome.Outcome, declared.program.Parts.Parts, Run.bounded_run_of, World.World}
+use Rattle.star_safety.specs.{Laws.EndsWithin, Quote.quote}
+use Rattle.star_trial.specs.{declared.fault.TrialFault.TrialFault, Trials.IsTrial}
 use Rattle.star_world.specs.WorldOf.{world_of}
+use Rattle.star_trial.specs.declared.fault.TrialFault.TheVariants as fault
 use Rattle.star_machine.proofs.law.admissible_programs_end.Goals as goal
 
 within : (w : World) (parts : Parts) (most quoted : ℕ) (result : Result Outcome TrialFault)

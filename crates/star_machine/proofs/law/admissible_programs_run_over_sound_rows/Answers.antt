@@ -1,7 +1,6 @@
 -- Sound rows are a loaded world, over which the program is accepted.
 use Rattle.star_schema.specs.Database.{Database}
-use Rattle.star_program.specs.declared.program.Parts.{Parts}
-use Rattle.star_program.specs.World.{IsLoaded}
+use Rattle.star_program.specs.{declared.program.Parts.Parts, World.IsLoaded}
 use Rattle.star_world.specs.WorldOf.{world_of}
 use Rattle.star_safety.specs.Laws.{IsAccepted}
 use Rattle.star_machine.specs.Accepted.{IsAcceptedOver}

@@ -1,6 +1,5 @@
 use Rattle.std.proofs.Common.{◌≡◌, ◌<◌, ℕ, get_or, length}
-use Rattle.star_interval.specs.Interval.{range_of}
-use Rattle.star_interval.specs.declared.Interval.{Interval}
+use Rattle.star_interval.specs.{Interval.range_of, declared.Interval.Interval}
 use Rattle.star_merge_laws.specs.Facts.{hull_of_rows}
 use Rattle.star_merge.proofs.bounds.join_bounds.Given as goal
 

@@ -1,7 +1,6 @@
 use Rattle.std.proofs.Common.{◌≡◌, ◌∙◌, ◌++◌, [], ◌∷◌, None, arith, map, true}
+use Rattle.std.proofs.{lemmas.Grind.common_steps, lemmas.Result.on_ok_weaker}
 use Rattle.std.specs.Option.{is_some}
-use Rattle.std.proofs.lemmas.Grind.{common_steps}
-use Rattle.std.proofs.lemmas.Result.{on_ok_weaker}
 use Rattle.star_merge.specs.Cells.{key_of}
 use Rattle.star_merge.proofs.Steps.{pushed_groupings}
 use Rattle.star_merge.proofs.groupings.+push_groupings.Goals as goal

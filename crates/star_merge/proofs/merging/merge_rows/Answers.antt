@@ -1,8 +1,7 @@
 use Rattle.std.proofs.Common.{◌∙◌, ap, map, subst, sym, take}
-use Rattle.std.proofs.lemmas.List.{take_all}
+use Rattle.std.proofs.{lemmas.List.take_all}
 use Rattle.std.specs.List.{flat_map}
-use Rattle.star_merge.specs.Cells.{group_of}
-use Rattle.star_merge.specs.Private.Adding.{HasMerged}
+use Rattle.star_merge.specs.{Cells.group_of, Private.Adding.HasMerged}
 use Rattle.star_merge.proofs.Steps.{flat_more}
 use Rattle.star_merge.proofs.merging.merge_rows.Goals as goal
 

@@ -1,7 +1,6 @@
 use Rattle.std.proofs.Common.{map, take}
 use Rattle.std.specs.List.{flat_map}
-use Rattle.star_merge.specs.Cells.{group_of}
-use Rattle.star_merge.specs.Private.Adding.{HasMerged}
+use Rattle.star_merge.specs.{Cells.group_of, Private.Adding.HasMerged}
 use Rattle.star_merge.proofs.merging.merge_rows.Given as goal
 
 abbrev pub invariant-loop-rows : goal.invariant-loop-rows

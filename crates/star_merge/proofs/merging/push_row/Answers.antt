@@ -1,5 +1,4 @@
-use Rattle.std.proofs.Common.{◌∙◌, ◌++◌, ap}
-use Rattle.std.proofs.lemmas.Result.{on_ok_weaker}
+use Rattle.std.proofs.{Common.◌∙◌, Common.◌++◌, Common.ap, lemmas.Result.on_ok_weaker}
 use Rattle.star_merge.proofs.Steps.{row_groupings}
 use Rattle.star_merge.proofs.merging.push_row.Goals as goal
 

@@ -1,6 +1,5 @@
-use Rattle.std.proofs.Common.{◌≡◌}
+use Rattle.std.proofs.{Common.◌≡◌, lemmas.Result.IfOk-weaker}
 use Rattle.std.specs.Prelude.{reverse}
-use Rattle.std.proofs.lemmas.Result.{IfOk-weaker}
 use Rattle.star_schema.specs.Order.{value_cmp}
 use Rattle.star_merge.specs.Private.Adding.{AreSums, together}
 use Rattle.star_merge.proofs.Steps.{sums_of_moved}

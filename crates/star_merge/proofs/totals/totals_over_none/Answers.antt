@@ -1,5 +1,4 @@
-use Rattle.std.proofs.Common.{arith}
-use Rattle.std.proofs.lemmas.Grind.{common_steps}
+use Rattle.std.proofs.{Common.arith, lemmas.Grind.common_steps}
 use Rattle.star_merge.proofs.Steps.{nothing_is}
 use Rattle.star_merge.proofs.totals.totals_over_none.Goals as goal
 

@@ -1,6 +1,5 @@
 use Rattle.star_schema.specs.Order.{value_cmp}
-use Rattle.star_merge_laws.proofs.Values.{value_decides}
-use Rattle.star_merge_laws.proofs.Regrouping.{added_up}
+use Rattle.star_merge_laws.proofs.{Values.value_decides, Regrouping.added_up}
 use Rattle.star_merge_laws.proofs.answers.added_groups_are_merged.Goals as goal
 
 pub returns : goal.returns

@@ -1,5 +1,4 @@
-use Rattle.star_merge_laws.proofs.MergedAnswers.{plain_partial}
-use Rattle.star_merge_laws.proofs.PartialFacts.{plain_sound}
+use Rattle.star_merge_laws.proofs.{MergedAnswers.plain_partial, PartialFacts.plain_sound}
 use Rattle.star_merge_laws.proofs.answers.plain_answers_are_partials.Goals as goal
 
 pub returns-clause-sound : goal.returns-clause-sound

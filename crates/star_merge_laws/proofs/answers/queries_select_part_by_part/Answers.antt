@@ -1,5 +1,4 @@
-use Rattle.star_merge_laws.proofs.MergedAnswers.{selected_parts}
-use Rattle.star_merge_laws.proofs.Rows.{selected_of_parts}
+use Rattle.star_merge_laws.proofs.{MergedAnswers.selected_parts, Rows.selected_of_parts}
 use Rattle.star_merge_laws.proofs.answers.queries_select_part_by_part.Goals as goal
 
 pub returns-clause-plan : goal.returns-clause-plan

@@ -1,6 +1,5 @@
 use Rattle.star_schema.specs.Order.{value_cmp}
-use Rattle.star_merge_laws.proofs.Merging.{merged_groups}
-use Rattle.star_merge_laws.proofs.Values.{value_decides}
+use Rattle.star_merge_laws.proofs.{Merging.merged_groups, Values.value_decides}
 use Rattle.star_merge_laws.proofs.parts.groups_are_made_of_those_of_parts.Goals as goal
 
 pub returns : goal.returns

@@ -1,11 +1,6 @@
-use Rattle.std.proofs.Common.{◌∙◌, sym, [], arith}
-use Rattle.std.proofs.lemmas.Option.{slice_get-get_or}
-use Rattle.star_schema.specs.Database.{rows_in}
-use Rattle.star_schema.specs.Schema.{table_of}
-use Rattle.star_schema.specs.Dictionary.{dictionary_of}
-use Rattle.star_schema.proofs.Dictionaries.{IsDictionary-dictionary_of}
-use Rattle.star_schema.proofs.TextPlaces.{low_in-place}
-use Rattle.star_schema.specs.Columns.{column_texts}
+use Rattle.std.proofs.{Common.◌∙◌, Common.sym, Common.[], Common.arith, lemmas.Option.slice_get-get_or}
+use Rattle.star_schema.specs.{Database.rows_in, Schema.table_of, Dictionary.dictionary_of, Columns.column_texts}
+use Rattle.star_schema.proofs.{Dictionaries.IsDictionary-dictionary_of, TextPlaces.low_in-place}
 use Rattle.star_world.proofs.Loaded.{texts_len}
 use Rattle.star_outcome.proofs.lookups.code.Goals as goal
 

@@ -1,11 +1,6 @@
-use Rattle.std.proofs.Common.{[], List, ℕ, string_bytes}
-use Rattle.std.proofs.lemmas.Option.{slice_get-get_or}
-use Rattle.star_schema.specs.declared.table.TableId.{TableId}
-use Rattle.star_schema.specs.declared.table.TableId.TheVariants.{Date}
-use Rattle.star_schema.specs.declared.table.TheConstants.{TABLES}
-use Rattle.star_schema.specs.Sizes.{size_of}
-use Rattle.star_partial.specs.Contents.{bounds_at}
-use Rattle.star_partial.specs.Listing.{listing_text, table_text}
+use Rattle.std.proofs.{Common.[], Common.List, Common.ℕ, Common.string_bytes, lemmas.Option.slice_get-get_or}
+use Rattle.star_schema.specs.{declared.table.TableId.TableId, declared.table.TableId.TheVariants.Date, declared.table.TheConstants.TABLES, Sizes.size_of}
+use Rattle.star_partial.specs.{Contents.bounds_at, Listing.listing_text, Listing.table_text}
 use Rattle.star_report.proofs.Parts.{all_parts, one_more}
 use Rattle.star_partial.proofs.listing.list_tables.Goals as goal
 

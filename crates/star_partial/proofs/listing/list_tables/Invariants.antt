@@ -1,8 +1,6 @@
 use Rattle.std.proofs.Common.{[], string_bytes}
-use Rattle.star_schema.specs.declared.table.TheConstants.{TABLES}
-use Rattle.star_schema.specs.Sizes.{size_of}
-use Rattle.star_partial.specs.Contents.{bounds_at}
-use Rattle.star_partial.specs.Listing.{table_text}
+use Rattle.star_schema.specs.{declared.table.TheConstants.TABLES, Sizes.size_of}
+use Rattle.star_partial.specs.{Contents.bounds_at, Listing.table_text}
 use Rattle.star_report.proofs.Parts.{HasGrown}
 use Rattle.star_partial.proofs.listing.list_tables.Given as goal
 

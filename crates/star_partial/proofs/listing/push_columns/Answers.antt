@@ -1,8 +1,6 @@
 use Rattle.std.proofs.Common.{◌≤◌, List, ℕ, arith, length, string_bytes}
-use Rattle.star_schema.specs.declared.column.ColumnId.{ColumnId}
-use Rattle.star_schema.specs.Schema.{columns_of, kind_of}
-use Rattle.star_partial.specs.Contents.{bounds_at}
-use Rattle.star_partial.specs.Listing.{column_text}
+use Rattle.star_schema.specs.{declared.column.ColumnId.ColumnId, Schema.columns_of, Schema.kind_of}
+use Rattle.star_partial.specs.{Contents.bounds_at, Listing.column_text}
 use Rattle.star_report.proofs.Parts.{all_parts, one_more}
 use Rattle.star_partial.proofs.listing.push_columns.Goals as goal
 

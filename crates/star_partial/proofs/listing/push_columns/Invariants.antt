@@ -1,7 +1,6 @@
 use Rattle.std.proofs.Common.{string_bytes}
 use Rattle.star_schema.specs.Schema.{columns_of, kind_of}
-use Rattle.star_partial.specs.Contents.{bounds_at}
-use Rattle.star_partial.specs.Listing.{column_text}
+use Rattle.star_partial.specs.{Contents.bounds_at, Listing.column_text}
 use Rattle.star_report.proofs.Parts.{HasGrown}
 use Rattle.star_partial.proofs.listing.push_columns.Given as goal
 

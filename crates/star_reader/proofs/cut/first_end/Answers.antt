@@ -1,8 +1,7 @@
 use Rattle.std.proofs.Common.{◌≤◌, ◌∙◌, arith, get_or, length, sym}
-use Rattle.std.proofs.lemmas.List.{take_all}
+use Rattle.std.proofs.{lemmas.List.take_all}
 use Rattle.star_reader.specs.Carried.{is_inner}
-use Rattle.star_reader.proofs.CutPlaces.{other_inner}
-use Rattle.star_reader.proofs.Fronts.{one_more}
+use Rattle.star_reader.proofs.{CutPlaces.other_inner, Fronts.one_more}
 use Rattle.star_reader.proofs.cut.first_end.Goals as goal
 
 pub returns-then-is_end : goal.returns-then-is_end

@@ -1,8 +1,6 @@
 -- The digits so far and their number.
 use Rattle.std.proofs.Common.{◌≡◌, ◌<◌, ◌^◌, take, true}
-use Rattle.std.specs.Char.{is_ascii_digit}
-use Rattle.std.specs.List.{list_all}
-use Rattle.std.specs.Str.Parse.{digits_value}
+use Rattle.std.specs.{Char.is_ascii_digit, List.list_all, Str.Parse.digits_value}
 use Rattle.star_reader.proofs.front.short_front.Given as goal
 
 abbrev pub invariant-loop-count : goal.invariant-loop-count

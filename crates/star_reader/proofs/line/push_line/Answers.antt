@@ -1,13 +1,11 @@
 use Rattle.std.proofs.Common.{◌≡◌, Some, arith, get_or, map, set}
+use Rattle.std.proofs.{lemmas.List.length-map, lemmas.Option.slice_get-get_or}
 use Rattle.std.specs.List.{slice_get}
-use Rattle.std.proofs.lemmas.List.{length-map}
-use Rattle.std.proofs.lemmas.Option.{slice_get-get_or}
-use Rattle.star_reader.specs.declared.column.RawColumn.{RawColumn}
-use Rattle.star_reader.specs.Columns.{raw_kind}
+use Rattle.star_reader.specs.{declared.column.RawColumn.RawColumn, Columns.raw_kind}
+use Rattle.star_reader.proofs.line.push_line.Goals.{After-index-columns-place}
 use Rattle.star_reader.proofs.LineSteps as steps
 use Rattle.star_reader.proofs.Pushes as pushes
 use Rattle.star_reader.proofs.line.push_line.Goals as goal
-use Rattle.star_reader.proofs.line.push_line.Goals.{After-index-columns-place}
 
 pub loop-place-init : goal.loop-place-init
 loop-place-init c = steps.start c.args.line.now (map raw_kind c.args.columns.now) c.args.columns.now

@@ -1,6 +1,5 @@
 use Rattle.std.proofs.Common.{map}
-use Rattle.star_reader.specs.Columns.{raw_kind}
-use Rattle.star_reader.specs.Private.Steps.{HasPushedTo}
+use Rattle.star_reader.specs.{Columns.raw_kind, Private.Steps.HasPushedTo}
 use Rattle.star_reader.proofs.line.push_line.Given as goal
 
 abbrev pub invariant-loop-place : goal.invariant-loop-place

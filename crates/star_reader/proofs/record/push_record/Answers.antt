@@ -1,17 +1,12 @@
 use Rattle.std.proofs.Common.{◌≡◌, ◌≤◌, ◌∙◌, Some, get_or, length, map, ℕ, List, inr, sym, arith}
+use Rattle.std.proofs.{lemmas.List.length-map, lemmas.Option.slice_get-get_or}
 use Rattle.std.specs.List.{slice_get}
-use Rattle.std.proofs.lemmas.List.{length-map}
-use Rattle.std.proofs.lemmas.Option.{slice_get-get_or}
 use Rattle.csv.specs.Records.{fields_of as fields_read}
-use Rattle.star_schema.specs.declared.column.Kind.{Kind}
-use Rattle.star_schema.specs.Tables.{cells_of}
+use Rattle.star_schema.specs.{declared.column.Kind.Kind, Tables.cells_of}
 use Rattle.star_reader.specs.Columns.{raw_kind}
-use Rattle.star_reader.proofs.Counts.{right_count, wrong_count}
-use Rattle.star_reader.proofs.Fields.{cell_at, field_there}
-use Rattle.star_reader.proofs.PassedOn.{passed_on}
+use Rattle.star_reader.proofs.{Counts.right_count, Counts.wrong_count, Fields.cell_at, Fields.field_there, PassedOn.passed_on, record.push_record.Goals.After-index-columns-place}
 use Rattle.star_reader.proofs.Pushes as pushes
 use Rattle.star_reader.proofs.record.push_record.Goals as goal
-use Rattle.star_reader.proofs.record.push_record.Goals.{After-index-columns-place}
 
 pub returns-then-cell_count-columns-clause-pushed :
     goal.returns-then-cell_count-columns-clause-pushed

@@ -1,8 +1,7 @@
 use Rattle.std.proofs.Common.{length, map}
 use Rattle.csv.specs.Records.{fields_of as fields_read}
 use Rattle.star_schema.specs.Tables.{cells_of}
-use Rattle.star_reader.specs.Columns.{raw_kind}
-use Rattle.star_reader.specs.Private.Steps.{HasPushed}
+use Rattle.star_reader.specs.{Columns.raw_kind, Private.Steps.HasPushed}
 use Rattle.star_reader.proofs.record.push_record.Given as goal
 
 abbrev pub invariant-loop-place : goal.invariant-loop-place

@@ -1,11 +1,9 @@
 use Rattle.std.proofs.Common.{◌≡◌, ◌<◌, ◌∙◌, None, Some, get_or, length, ℕ, [], arith, sym}
+use Rattle.std.proofs.{lemmas.List.drop_all, lemmas.Option.slice_get-get_or}
 use Rattle.std.specs.List.{slice_get}
-use Rattle.std.proofs.lemmas.List.{drop_all}
-use Rattle.std.proofs.lemmas.Option.{slice_get-get_or}
 use Rattle.csv.specs.Records.{fields_of as fields_read}
 use Rattle.star_common.proofs.Lists.{drop_at_place}
-use Rattle.star_reader.proofs.PassedOn.{passed_on}
-use Rattle.star_reader.proofs.TableSteps.{lines_from}
+use Rattle.star_reader.proofs.{PassedOn.passed_on, TableSteps.lines_from}
 use Rattle.star_reader.proofs.records.add_lines.Goals as goal
 
 pub returns-in_err-rows-in-Some : goal.returns-in_err-rows-in-Some

@@ -2,9 +2,7 @@
 use Rattle.std.proofs.Common.{◌++◌, ℕ, List, drop}
 use Rattle.std.specs.Prelude.{filter}
 use Rattle.csv.specs.Records.{fields_of as fields_read}
-use Rattle.star_schema.specs.declared.table.TableId.{TableId}
-use Rattle.star_schema.specs.Records.{is_filled}
-use Rattle.star_schema.specs.Tables.{Value}
+use Rattle.star_schema.specs.{declared.table.TableId.TableId, Records.is_filled, Tables.Value}
 use Rattle.star_reader.specs.Private.Steps.{HasAdded}
 use Rattle.star_reader.proofs.records.add_lines.Given as goal
 

@@ -1,9 +1,7 @@
 -- The rows so far, and the records that the reader has left.
 use Rattle.std.proofs.Common.{ℕ, List}
-use Rattle.star_schema.specs.declared.table.TableId.{TableId}
-use Rattle.star_schema.specs.Tables.{Value}
-use Rattle.star_reader.specs.Private.Lines.{HasLeft}
-use Rattle.star_reader.specs.Private.Steps.{HasAdded}
+use Rattle.star_schema.specs.{declared.table.TableId.TableId, Tables.Value}
+use Rattle.star_reader.specs.{Private.Lines.HasLeft, Private.Steps.HasAdded}
 use Rattle.star_reader.proofs.records.read_records.Given as goal
 
 abbrev pub invariant-loop : goal.invariant-loop

@@ -1,11 +1,8 @@
 use Rattle.std.proofs.Common.{◌≡◌, ◌∙◌, ◌∷◌, [], Some, length, slice_get, sym, ap}
+use Rattle.std.proofs.{lemmas.List.map-append, lemmas.List.Elements.All-append, lemmas.List.Elements.All-cons, lemmas.List.Elements.All-nil, lemmas.Option.slice_get-map}
 use Rattle.std.specs.Option.{option_map}
-use Rattle.std.proofs.lemmas.List.{map-append}
-use Rattle.std.proofs.lemmas.List.Elements.{All-append, All-cons, All-nil}
-use Rattle.std.proofs.lemmas.Option.{slice_get-map}
 use Rattle.star_schema.specs.Schema.{columns_of, kind_of as kind_in_schema, kinds_of}
-use Rattle.star_reader.specs.Columns.{raw_kind, values}
-use Rattle.star_reader.specs.declared.column.RawColumn.{RawColumn}
+use Rattle.star_reader.specs.{Columns.raw_kind, Columns.values, declared.column.RawColumn.RawColumn}
 use Rattle.star_reader.proofs.ListSteps.{take_one_more}
 use Rattle.star_reader.proofs.table_reader.empty_columns.Goals as goal
 

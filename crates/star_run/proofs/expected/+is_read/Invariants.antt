@@ -1,6 +1,5 @@
 use Rattle.std.proofs.Common.{◌≤◌, drop}
-use Rattle.star_program.specs.Code.{code_size}
-use Rattle.star_program.specs.CodeOfSteps.{code_of_steps}
+use Rattle.star_program.specs.{Code.code_size, CodeOfSteps.code_of_steps}
 use Rattle.star_run.proofs.expected.+is_read.Given as goal
 
 abbrev pub decreases-is_read : goal.decreases-is_read

@@ -1,7 +1,6 @@
 -- Each clause is a lemma, of runs where a turn may always begin, or as long as the bound allows it.
 use Rattle.std.proofs.Common.{refl, arith}
-use Rattle.star_safety.proofs.Common.{lt-ltb, nat_lt, true}
-use Rattle.star_safety.proofs.{Runs.ends, SumRanges.sums_fit, Always.accepted_throughout, Always.totals_lie, EachMoment.throughout_holds}
+use Rattle.star_safety.proofs.{Common.lt-ltb, Common.nat_lt, Common.true, Runs.ends, SumRanges.sums_fit, Always.accepted_throughout, Always.totals_lie, EachMoment.throughout_holds}
 use Rattle.star_safety.proofs.law.admissible_programs_never_trap.Goals as goal
 
 pub returns-clause-ends : goal.returns-clause-ends

@@ -1,7 +1,6 @@
 use Rattle.std.proofs.Common.{◌≡◌, ◌<◌, Some, arith, ap, get_or, length, slice_get}
-use Rattle.std.proofs.lemmas.Option.{slice_get-get_or}
-use Rattle.star_schema.specs.declared.column.ColumnId.TheVariants.{DDatekey}
-use Rattle.star_schema.specs.Schema.{columns_of}
+use Rattle.std.proofs.{lemmas.Option.slice_get-get_or}
+use Rattle.star_schema.specs.{declared.column.ColumnId.TheVariants.DDatekey, Schema.columns_of}
 use Rattle.star_schema.proofs.Places.{in_table}
 use Rattle.star_schema.proofs.table.column_at.Goals as goal
 

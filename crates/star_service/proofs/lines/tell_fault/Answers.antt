@@ -1,6 +1,5 @@
 use Rattle.std.proofs.Common.{refl, inr, rules, subst}
-use Rattle.star_engine.specs.declared.fault.EngineFault.TheVariants.{OutOfMemory}
-use Rattle.star_engine.specs.Answered.{change}
+use Rattle.star_engine.specs.{declared.fault.EngineFault.TheVariants.OutOfMemory, Answered.change}
 use Rattle.star_service.specs.Lines.{IsTextTold}
 use Rattle.star_service.proofs.Telling.{memory_line}
 use Rattle.star_service.proofs.lines.tell_fault.Goals as goal

@@ -1,6 +1,5 @@
 use Rattle.std.proofs.lemmas.Result.{err_from_is_err_and}
-use Rattle.star_engine.specs.Answered.{change}
-use Rattle.star_engine.specs.Tellings.{telling_of}
+use Rattle.star_engine.specs.{Answered.change, Tellings.telling_of}
 use Rattle.star_service.specs.Shelves.{shelving}
 use Rattle.star_service.proofs.ReportLemmas.{kept_none, kept_delivered, kept_halted, refused_delivered}
 use Rattle.star_service.proofs.reports.deliver.Goals as goal

@@ -1,7 +1,6 @@
 use Rattle.std.proofs.Common.{take}
 use Rattle.star_engine.specs.Answered.{change}
-use Rattle.star_service.specs.Reports.{AreDelivered}
-use Rattle.star_service.specs.Shelves.{shelving}
+use Rattle.star_service.specs.{Reports.AreDelivered, Shelves.shelving}
 use Rattle.star_service.proofs.reports.deliver_all.Given as goal
 
 abbrev pub invariant-loop-errand : goal.invariant-loop-errand

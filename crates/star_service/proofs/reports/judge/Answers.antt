@@ -1,6 +1,5 @@
-use Rattle.std.proofs.Common.{◌∙◌, ap}
+use Rattle.std.proofs.{Common.◌∙◌, Common.ap, lemmas.Result.err_from_is_err_and}
 use Rattle.std.specs.Prelude.{string_bytes}
-use Rattle.std.proofs.lemmas.Result.{err_from_is_err_and}
 use Rattle.star_engine.specs.Answered.{change}
 use Rattle.star_service.specs.Reports.{named_line}
 use Rattle.star_service.proofs.ReportLemmas.{forecast_halted}

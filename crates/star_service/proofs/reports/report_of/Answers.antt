@@ -1,8 +1,6 @@
 use Rattle.std.proofs.lemmas.Result.{err_from_is_err_and}
-use Rattle.star_engine.specs.QuoteTexts.{IsUnquotedOver, is_program_file}
-use Rattle.star_engine.specs.Tellings.{IsUnjudgedOver}
-use Rattle.star_engine.proofs.QueryFaults.{or_memory}
-use Rattle.star_engine.proofs.TellingLemmas.{unread}
+use Rattle.star_engine.specs.{QuoteTexts.IsUnquotedOver, QuoteTexts.is_program_file, Tellings.IsUnjudgedOver}
+use Rattle.star_engine.proofs.{QueryFaults.or_memory, TellingLemmas.unread}
 use Rattle.star_service.proofs.reports.report_of.Goals as goal
 
 pub returns-in_err-question : goal.returns-in_err-question

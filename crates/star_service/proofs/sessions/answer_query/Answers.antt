@@ -1,9 +1,6 @@
-use Rattle.std.proofs.Common.{false, refl}
-use Rattle.std.proofs.lemmas.Result.{err_from_is_err_and}
-use Rattle.star_engine.specs.Answered.{change}
-use Rattle.star_engine.specs.Queries.{IsNoQuery, IsQueryQuoteOver, IsQueryToldOver, IsUnansweredOver}
-use Rattle.star_engine.proofs.Noting.{noted_stopped}
-use Rattle.star_engine.proofs.TellingLemmas.{unread}
+use Rattle.std.proofs.{Common.false, Common.refl, lemmas.Result.err_from_is_err_and}
+use Rattle.star_engine.specs.{Answered.change, Queries.IsNoQuery, Queries.IsQueryQuoteOver, Queries.IsQueryToldOver, Queries.IsUnansweredOver}
+use Rattle.star_engine.proofs.{Noting.noted_stopped, TellingLemmas.unread}
 use Rattle.star_service.proofs.sessions.answer_query.Goals as goal
 
 pub returns-in_err-question : goal.returns-in_err-question

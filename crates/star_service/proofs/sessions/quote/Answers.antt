@@ -1,5 +1,4 @@
-use Rattle.star_engine.specs.Answered.{change}
-use Rattle.star_engine.specs.QuoteTexts.{IsQuoteTextOver, IsUnquotedOver, is_program_file}
+use Rattle.star_engine.specs.{Answered.change, QuoteTexts.IsQuoteTextOver, QuoteTexts.IsUnquotedOver, QuoteTexts.is_program_file}
 use Rattle.star_engine.proofs.Loaded.{answered_as}
 use Rattle.star_service.proofs.sessions.quote.Goals as goal
 

@@ -1,8 +1,7 @@
 use Rattle.std.proofs.Common.{◌≡◌, ◌∙◌, ◌++◌, ◌+◌, ◌∷◌, [], true, false, Ok, arith, ap, inr, length, refl, rules, subst, sym}
-use Rattle.std.proofs.lemmas.List.{length-append}
+use Rattle.std.proofs.{lemmas.List.length-append}
 use Rattle.std.specs.Io.KnownBytes.{Consumes}
-use Rattle.star_statements.specs.Sources.{IsStatementRead, reader_of}
-use Rattle.star_statements.specs.Private.Drafts.{IsDraft, closes_statement, ends_behind, with_byte}
+use Rattle.star_statements.specs.{Sources.IsStatementRead, Sources.reader_of, Private.Drafts.IsDraft, Private.Drafts.closes_statement, Private.Drafts.ends_behind, Private.Drafts.with_byte}
 use Rattle.star_statements.proofs.DraftLemmas.{draft_begins, draft_ends, draft_goes_on, draft_is_last, kept-more, length-kept, of_some}
 use Rattle.star_statements.proofs.reading.read_statement.Goals as goal
 

@@ -1,6 +1,5 @@
 use Rattle.std.proofs.Common.{◌≡◌, ℕ, List, length}
-use Rattle.star_statements.specs.Sources.{has_failed, reader_of}
-use Rattle.star_statements.specs.Private.Drafts.{IsDraft}
+use Rattle.star_statements.specs.{Sources.has_failed, Sources.reader_of, Private.Drafts.IsDraft}
 use Rattle.star_statements.proofs.reading.read_statement.Given as goal
 
 abbrev pub invariant-bytes : goal.invariant-bytes

@@ -1,11 +1,7 @@
 use Rattle.std.proofs.Common.{FitsSigned, ap, rules, subst, sym, to_z-of_z, w64, ◌∙◌}
 use Rattle.std.specs.Prelude.{unwrap_or}
-use Rattle.star_program.specs.declared.value.Value.TheVariants.{Number}
-use Rattle.star_program.specs.Faults.{group_at}
-use Rattle.star_program.specs.Private.Doing.{assigns, fitting}
-use Rattle.star_program.specs.Puts.{total_over}
-use Rattle.star_trial.specs.Private.Acts.{IsValueMade}
-use Rattle.star_trial.specs.Private.Views.{registers_view}
+use Rattle.star_program.specs.{declared.value.Value.TheVariants.Number, Faults.group_at, Private.Doing.assigns, Private.Doing.fitting, Puts.total_over}
+use Rattle.star_trial.specs.{Private.Acts.IsValueMade, Private.Views.registers_view}
 use Rattle.star_world.specs.WorldOf.{world_of}
 use Rattle.star_trial.proofs.Performed.{answer_made, read_made}
 use Rattle.star_trial.proofs.act.operate.Goals as goal

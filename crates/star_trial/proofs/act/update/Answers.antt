@@ -1,12 +1,7 @@
 use Rattle.std.proofs.Common.{◌≡◌, ◌+◌, ℕ, List, false, ap, arith, refl}
-use Rattle.star_outcome.proofs.Fine.{sound_keys, sound_update}
-use Rattle.star_outcome.proofs.Stored.{of_same}
-use Rattle.star_program.specs.Effects.{update_of, with_update}
-use Rattle.star_program.specs.Faults.{group_at}
-use Rattle.star_program.specs.Private.Doing.{puts}
-use Rattle.star_program.specs.Puts.{Update, overflows}
-use Rattle.star_trial.specs.Private.Runs.{AreStores}
-use Rattle.star_trial.specs.Private.Views.{registers_view}
+use Rattle.star_outcome.proofs.{Fine.sound_keys, Fine.sound_update, Stored.of_same}
+use Rattle.star_program.specs.{Effects.update_of, Effects.with_update, Faults.group_at, Private.Doing.puts, Puts.Update, Puts.overflows}
+use Rattle.star_trial.specs.{Private.Runs.AreStores, Private.Views.registers_view}
 use Rattle.star_trial.proofs.act.update.Goals as goal
 
 pub returns-in-Ok : goal.returns-in-Ok

@@ -1,12 +1,8 @@
 use Rattle.std.proofs.Common.{◌≡◌, ◌∙◌, ap, arith, rules, subst, false}
+use Rattle.std.proofs.{lemmas.Result.err_from_is_err_and}
 use Rattle.std.specs.Prelude.{nat_lt}
-use Rattle.std.proofs.lemmas.Result.{err_from_is_err_and}
-use Rattle.star_program.specs.Effects.{empty_state}
-use Rattle.star_program.specs.Run.{meaning}
-use Rattle.star_program.specs.Values.{no_registers}
-use Rattle.star_trial.specs.Private.Views.{registers_view}
-use Rattle.star_trial.specs.Trials.{IsFaultOfEnd}
-use Rattle.star_trial.specs.Private.Walks.{Finishes}
+use Rattle.star_program.specs.{Effects.empty_state, Run.meaning, Values.no_registers}
+use Rattle.star_trial.specs.{Private.Views.registers_view, Trials.IsFaultOfEnd, Private.Walks.Finishes}
 use Rattle.star_world.specs.WorldOf.{world_of}
 use Rattle.star_trial.proofs.Registers.{sound_nothing}
 use Rattle.star_trial.proofs.trials.run_through.Goals as goal

@@ -1,6 +1,5 @@
 use Rattle.std.proofs.Common.{◌≡◌, ◌+◌, drop}
-use Rattle.star_program.specs.Code.{code_size}
-use Rattle.star_program.specs.CodeOfSteps.{code_of_steps}
+use Rattle.star_program.specs.{Code.code_size, CodeOfSteps.code_of_steps}
 use Rattle.star_trial.proofs.walk.+size.Given as goal
 
 abbrev pub decreases-size : goal.decreases-size

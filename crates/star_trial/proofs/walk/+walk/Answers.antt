@@ -1,24 +1,15 @@
 use Rattle.std.proofs.Common.{◌≡◌, ◌≤◌, ◌<◌, ◌+◌, ◌-◌, ◌*◌, length, drop, sym, ap, subst, ◌∙◌, arith, refl}
+use Rattle.std.proofs.{lemmas.List.drop_all, lemmas.Result.err_from_is_err_and}
 use Rattle.std.specs.Prelude.{nat_lt, true}
-use Rattle.std.proofs.lemmas.List.{drop_all}
-use Rattle.std.proofs.lemmas.Result.{err_from_is_err_and}
 use Rattle.star_schema.specs.Database.{rows_in}
-use Rattle.star_program.specs.Code.{code_size, scan_depth}
-use Rattle.star_program.specs.CodeOfSteps.{code_of_steps}
-use Rattle.star_program.specs.Run.{visited}
-use Rattle.star_program.specs.Values.{Registers, with_entry}
-use Rattle.star_program.specs.declared.value.Value.TheVariants.{Row}
-use Rattle.star_trial.specs.Private.Views.{registers_view}
+use Rattle.star_program.specs.{Code.code_size, Code.scan_depth, CodeOfSteps.code_of_steps, Run.visited, Values.Registers, Values.with_entry, declared.value.Value.TheVariants.Row}
+use Rattle.star_trial.specs.{Private.Views.registers_view, Trials.IsFaultOfEnd, Private.Walks.HasWorked, Private.Walks.IsEnd, Private.Walks.means, Private.Walks.means_at, Private.Runs.HasDone}
 use Rattle.star_outcome.specs.Sound.{AreSound}
-use Rattle.star_trial.specs.Trials.{IsFaultOfEnd}
-use Rattle.star_trial.specs.Private.Walks.{HasWorked, IsEnd, means, means_at}
-use Rattle.star_trial.specs.Private.Runs.{HasDone}
 use Rattle.star_program.proofs.Steps.{next_act, next_scan}
-use Rattle.star_outcome.proofs.Registers.{sound_set}
-use Rattle.star_outcome.proofs.Turns.{turn_done}
+use Rattle.star_outcome.proofs.{Registers.sound_set, Turns.turn_done}
 use Rattle.star_trial.proofs.Turned.{act_follows, after_fault, begin_turn, body_deep, done_visited, gone_on, rest_deep, scan_follows, stop_fault, turn_ended, turns_fault, worked_act, worked_more}
+use Rattle.star_trial.proofs.{walk.+walk.Goals.walk-in-Act+in-Ok-GoesOn, walk.+walk.Goals.walk-in-Scan+in_ok-scan-in-Scan}
 use Rattle.star_trial.proofs.walk.+walk.Goals as goal
-use Rattle.star_trial.proofs.walk.+walk.Goals.{walk-in-Act+in-Ok-GoesOn, walk-in-Scan+in_ok-scan-in-Scan}
 
 pub turn-walk-requires : goal.turn-walk-requires
 turn-walk-requires t c =

@@ -1,15 +1,9 @@
 use Rattle.std.proofs.Common.{◌≡◌, ◌≤◌, ◌+◌, ◌-◌, ◌*◌, length, drop}
 use Rattle.std.specs.Prelude.{nat_lt}
 use Rattle.star_schema.specs.Database.{rows_in}
-use Rattle.star_program.specs.Code.{code_size, scan_depth}
-use Rattle.star_program.specs.CodeOfSteps.{code_of_steps}
-use Rattle.star_program.specs.Effects.{State}
-use Rattle.star_program.specs.Run.{turns}
-use Rattle.star_program.specs.declared.value.Value.TheVariants.{Row}
-use Rattle.star_trial.specs.Private.Runs.{HasDone}
-use Rattle.star_trial.specs.Private.Views.{registers_view}
+use Rattle.star_program.specs.{Code.code_size, Code.scan_depth, CodeOfSteps.code_of_steps, Effects.State, Run.turns, declared.value.Value.TheVariants.Row}
+use Rattle.star_trial.specs.{Private.Runs.HasDone, Private.Views.registers_view, Private.Walks.HasWorked, Private.Walks.means, Private.Walks.means_at, Private.Walks.means_turns}
 use Rattle.star_outcome.specs.Sound.{AreSound}
-use Rattle.star_trial.specs.Private.Walks.{HasWorked, means, means_at, means_turns}
 use Rattle.star_trial.proofs.walk.+walk.Given as goal
 
 abbrev pub decreases-walk : goal.decreases-walk

@@ -1,6 +1,5 @@
 use Rattle.std.proofs.Common.{Some, None, arith, inr, subst, sym, ◌∙◌}
-use Rattle.star_verify.proofs.Common.{HasKeyShares, at_end, at_first, err_from_is_err_and}
-use Rattle.star_verify.proofs.Refusing.{first_told, same_quote, too_costly, within}
+use Rattle.star_verify.proofs.{Common.HasKeyShares, Common.at_end, Common.at_first, Common.err_from_is_err_and, Refusing.first_told, Refusing.same_quote, Refusing.too_costly, Refusing.within}
 use Rattle.star_verify.proofs.check.check.Goals as goal
 
 pub returns-then-visits-from : goal.returns-then-visits-from

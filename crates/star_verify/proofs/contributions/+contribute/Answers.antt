@@ -1,8 +1,7 @@
 use Rattle.std.proofs.Common.{◌+◌, ◌-◌, ◌<◌, [], ◌∷◌, List, Option, None, take, drop, get_or, ap, sym, subst, ◌∙◌, length}
 use Rattle.star_verify.proofs.Common.{IsTally, Sum, known_in, known_share, numbers_known, slice_index_or, value_count}
+use Rattle.star_verify.proofs.{Firsts.first_and_others, Contributing.given_more, Contributing.grown_more}
 use Rattle.star_safety.specs.Ranges as ranges
-use Rattle.star_verify.proofs.Firsts.{first_and_others}
-use Rattle.star_verify.proofs.Contributing.{given_more, grown_more}
 use Rattle.star_verify.proofs.contributions.+contribute.Goals as goal
 
 pub returns-in-len1-up-clause-grown : goal.returns-in-len1-up-clause-grown

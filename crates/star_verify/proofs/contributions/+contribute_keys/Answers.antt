@@ -1,8 +1,6 @@
 use Rattle.std.proofs.Common.{◌+◌, ◌<◌, [], ◌∷◌, List, Option, None, get_or, ap, map, sym, subst, length}
-use Rattle.star_verify.proofs.Common.{IsTally, known_in, known_share}
+use Rattle.star_verify.proofs.{Common.IsTally, Common.known_in, Common.known_share, Firsts.first_and_others, Contributing.given_more, Contributing.grown_more}
 use Rattle.star_safety.specs.Ranges as ranges
-use Rattle.star_verify.proofs.Firsts.{first_and_others}
-use Rattle.star_verify.proofs.Contributing.{given_more, grown_more}
 use Rattle.star_verify.proofs.contributions.+contribute_keys.Goals as goal
 
 pub returns-in-len1-up-clause-grown : goal.returns-in-len1-up-clause-grown

@@ -1,6 +1,5 @@
 use Rattle.std.proofs.Common.{FitsSigned, w64, to_z-of_z, rules, subst}
-use Rattle.star_verify.proofs.Common.{IsTally, only, reach_of, read_range}
-use Rattle.star_verify.proofs.Made.{read_as}
+use Rattle.star_verify.proofs.{Common.IsTally, Common.only, Common.reach_of, Common.read_range, Made.read_as}
 use Rattle.star_verify.proofs.operations.read_total.Goals as goal
 
 pub returns : goal.returns

@@ -1,6 +1,5 @@
 use Rattle.std.proofs.Common.{subst}
-use Rattle.star_verify.proofs.Common.{Answers, Kinds, fault_of}
-use Rattle.star_verify.proofs.Registers.{same_kinds}
+use Rattle.star_verify.proofs.{Common.Answers, Common.Kinds, Common.fault_of, Registers.same_kinds}
 use Rattle.star_verify.proofs.register.check_kinds.Goals as goal
 
 pub returns : goal.returns

@@ -1,6 +1,5 @@
 use Rattle.std.proofs.Common.{◌+◌, FitsSigned, ap, rules, sym, to_z-of_z, w64, ◌∙◌}
-use Rattle.star_verify.proofs.Common.{option_map, range_of, range_width}
-use Rattle.star_verify.proofs.RowLemmas.{width_is}
+use Rattle.star_verify.proofs.{Common.option_map, Common.range_of, Common.range_width, RowLemmas.width_is}
 use Rattle.star_verify.proofs.rows.width.Goals as goal
 
 pub returns-in-Some-clause-width : goal.returns-in-Some-clause-width

@@ -1,6 +1,5 @@
 use Rattle.std.proofs.Common.{rules}
-use Rattle.star_schema.specs.Database.{rows_in}
-use Rattle.star_schema.specs.Schema.{place_of, table_of}
+use Rattle.star_schema.specs.{Database.rows_in, Schema.place_of, Schema.table_of}
 use Rattle.star_reader.proofs.RowPlaces.{length-texts_at}
 use Rattle.star_catalogue.proofs.catalogue.Catalogue.code.Goals as goal
 

@@ -1,11 +1,8 @@
 use Rattle.std.proofs.Common.{◌∙◌, ℕ, inr}
-use Rattle.star_schema.specs.Loadable.{IsSound, database_of}
+use Rattle.star_schema.specs.{Loadable.IsSound, Loadable.database_of, Database.TableTexts}
 use Rattle.star_reader.proofs.PassedOn.{passed_on}
-use Rattle.star_schema.specs.Database.{TableTexts}
-use Rattle.star_catalogue.specs.Pieces.{AreRead}
-use Rattle.star_catalogue.specs.Private.Referred.{AreReferred}
-use Rattle.star_catalogue.proofs.Loading.{referred_sound, refused_key, refused_table}
-use Rattle.star_catalogue.proofs.SmallNumbers.{bounds_small}
+use Rattle.star_catalogue.specs.{Pieces.AreRead, Private.Referred.AreReferred}
+use Rattle.star_catalogue.proofs.{Loading.referred_sound, Loading.refused_key, Loading.refused_table, SmallNumbers.bounds_small}
 use Rattle.star_schema.proofs.Typed.{rows_typed}
 use Rattle.star_catalogue.proofs.catalogue.Catalogue.finish.Goals as goal
 

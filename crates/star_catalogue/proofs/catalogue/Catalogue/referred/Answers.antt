@@ -1,5 +1,4 @@
-use Rattle.std.proofs.Common.{arith}
-use Rattle.std.proofs.lemmas.Option.{get_or_from_slice_get}
+use Rattle.std.proofs.{Common.arith, lemmas.Option.get_or_from_slice_get}
 use Rattle.star_catalogue.proofs.catalogue.Catalogue.referred.Goals as goal
 
 pub row-requires : goal.row-requires

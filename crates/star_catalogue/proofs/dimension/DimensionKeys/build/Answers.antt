@@ -1,8 +1,7 @@
 use Rattle.std.proofs.Common.{ℤ, List, position, subst, sym}
 use Rattle.std.specs.Ordering.{int_eq}
 use Rattle.star_catalogue.specs.Private.Places.{ArePlaces}
-use Rattle.star_catalogue.proofs.Apart.{numbers_apart}
-use Rattle.star_catalogue.proofs.Positions.{positions_are_places}
+use Rattle.star_catalogue.proofs.{Apart.numbers_apart, Positions.positions_are_places}
 use Rattle.star_catalogue.proofs.dimension.DimensionKeys.build.Goals as goal
 
 pub returns-in_ok-far-in-None : goal.returns-in_ok-far-in-None

@@ -1,19 +1,12 @@
 use Rattle.std.proofs.Common.{◌≡◌, ◌∙◌, ap, length, sym}
 use Rattle.std.specs.Ordering.{int_eq}
-use Rattle.star_schema.specs.declared.table.Key.TheVariants.{One, Two}
-use Rattle.star_schema.specs.Bounds.{numbers_at}
-use Rattle.star_schema.specs.Loadable.{keys_of}
-use Rattle.star_schema.specs.Schema.{key_of, place_of}
+use Rattle.star_schema.specs.{declared.table.Key.TheVariants.One, declared.table.Key.TheVariants.Two, Bounds.numbers_at, Loadable.keys_of, Schema.key_of, Schema.place_of}
 use Rattle.star_schema.proofs.KeyColumns.{key_column, key_pair, number_at_place}
-use Rattle.star_reader.proofs.RowPlaces.{length-numbers_at}
-use Rattle.star_reader.proofs.PassedOn.{passed_on}
-use Rattle.star_catalogue.proofs.Apart.{numbers_apart}
+use Rattle.star_reader.proofs.{RowPlaces.length-numbers_at, PassedOn.passed_on}
 use Rattle.star_catalogue.proofs.KeyLists.{apart_of_one, apart_of_two, fault_of_one, fault_of_two, keys_of_one, length_of_two}
-use Rattle.star_catalogue.specs.Private.Indexed.{row_of_key}
-use Rattle.star_catalogue.specs.Private.Places.{ArePlaces}
-use Rattle.star_catalogue.proofs.Found.{kept_one, none_among_two}
+use Rattle.star_catalogue.proofs.{Apart.numbers_apart, Found.kept_one, Found.none_among_two, keys.KeyIndex.build.Goals.After-as_slice}
+use Rattle.star_catalogue.specs.{Private.Indexed.row_of_key, Private.Places.ArePlaces}
 use Rattle.star_catalogue.proofs.keys.KeyIndex.build.Goals as goal
-use Rattle.star_catalogue.proofs.keys.KeyIndex.build.Goals.{After-as_slice}
 
 pub numbers-requires : goal.numbers-requires
 numbers-requires c =

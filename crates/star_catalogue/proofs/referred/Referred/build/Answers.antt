@@ -1,7 +1,5 @@
-use Rattle.std.proofs.Common.{get_or}
-use Rattle.std.proofs.lemmas.Option.{slice_get-get_or}
-use Rattle.star_schema.specs.declared.column.ColumnId.TheVariants.{DDatekey}
-use Rattle.star_schema.specs.declared.column.TheConstants.{COLUMNS}
+use Rattle.std.proofs.{Common.get_or, lemmas.Option.slice_get-get_or}
+use Rattle.star_schema.specs.{declared.column.ColumnId.TheVariants.DDatekey, declared.column.TheConstants.COLUMNS}
 use Rattle.star_catalogue.proofs.ReferredRows.{of_one_more}
 use Rattle.star_catalogue.proofs.referred.Referred.build.Goals as goal
 

@@ -1,8 +1,7 @@
 use Rattle.std.proofs.Common.{sym}
 use Rattle.star_reader.proofs.ColumnLemmas.{numbers_are}
-use Rattle.star_catalogue.proofs.Placed.{IsKeptAs, column_at}
+use Rattle.star_catalogue.proofs.{Placed.IsKeptAs, Placed.column_at, table.LoadedTable.numbers.Goals.After-index}
 use Rattle.star_catalogue.proofs.table.LoadedTable.numbers.Goals as goal
-use Rattle.star_catalogue.proofs.table.LoadedTable.numbers.Goals.{After-index}
 
 column : (c : After-index) → IsKeptAs c.self.inside c.args.column c.index.result.now
 column c =

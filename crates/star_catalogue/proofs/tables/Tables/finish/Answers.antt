@@ -1,9 +1,7 @@
 use Rattle.std.proofs.Common.{◌≡◌, ◌∙◌, ℕ, List, None, ap, refl}
 use Rattle.star_common.specs.First.{first_answer}
-use Rattle.star_schema.specs.declared.table.TableId.{TableId}
 use Rattle.star_schema.specs.declared.table.TableId.TheVariants.{Customer, Date, Lineorder, Part, Supplier}
-use Rattle.star_schema.specs.Loadable.{HasDistinctKeys}
-use Rattle.star_schema.specs.Tables.{IsTable, Value, rows_of}
+use Rattle.star_schema.specs.{declared.table.TableId.TableId, Loadable.HasDistinctKeys, Tables.IsTable, Tables.Value, Tables.rows_of}
 use Rattle.star_reader.specs.Columns.{Table}
 use Rattle.star_reader.proofs.PassedOn.{passed_on}
 use Rattle.star_catalogue.specs.Load.{table_fault, tables_fault}

@@ -1,8 +1,6 @@
-use Rattle.std.proofs.Common.{arith, map}
-use Rattle.std.proofs.lemmas.List.{length-map}
+use Rattle.std.proofs.{Common.arith, Common.map, lemmas.List.length-map}
 use Rattle.star_interval.specs.Interval.{range_of}
-use Rattle.star_column.proofs.Differences.{are_packed}
-use Rattle.star_column.proofs.Extremes.{words_between}
+use Rattle.star_column.proofs.{Differences.are_packed, Extremes.words_between}
 use Rattle.star_column.proofs.packed.PackedColumn.pack.Goals as goal
 
 pub of_numbers-requires : goal.of_numbers-requires

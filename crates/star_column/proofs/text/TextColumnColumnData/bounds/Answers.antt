@@ -1,7 +1,6 @@
 use Rattle.std.proofs.Common.{FitsSigned, w64, to_z-of_z, rules}
 use Rattle.star_schema.specs.Dictionary.{codes_of}
-use Rattle.star_column.proofs.Coded.{least-codes_of, greatest-codes_of}
-use Rattle.star_column.proofs.Extremes.{all_between}
+use Rattle.star_column.proofs.{Coded.least-codes_of, Coded.greatest-codes_of, Extremes.all_between}
 use Rattle.star_column.proofs.text.TextColumnColumnData.bounds.Goals as goal
 
 pub returns-clause-low : goal.returns-clause-low

@@ -1,10 +1,7 @@
-use Rattle.std.proofs.Common.{◌∙◌, ap, subst, sym}
+use Rattle.std.proofs.{Common.◌∙◌, Common.ap, Common.subst, Common.sym, lemmas.List.map-id}
 use Rattle.std.specs.List.{All}
-use Rattle.std.proofs.lemmas.List.{map-id}
-use Rattle.star_interval.specs.Interval.{range_of}
-use Rattle.star_interval.specs.Range.{Holds}
-use Rattle.star_column.specs.Private.Views.{numbers_view}
-use Rattle.star_column.specs.Private.Words.{numbers_above}
+use Rattle.star_interval.specs.{Interval.range_of, Range.Holds}
+use Rattle.star_column.specs.{Private.Views.numbers_view, Private.Words.numbers_above}
 use Rattle.star_column.proofs.view.LentWords.gather_by.Goals as goal
 
 pub gather_through-requires-clause-held : goal.gather_through-requires-clause-held

@@ -1,6 +1,4 @@
-use Rattle.std.proofs.Common.{arith}
-use Rattle.std.proofs.lemmas.Bool.{leb-true}
-use Rattle.std.proofs.lemmas.Int.{ints}
+use Rattle.std.proofs.{Common.arith, lemmas.Bool.leb-true, lemmas.Int.ints}
 use Rattle.star_column.proofs.Differences.{width_32}
 use Rattle.star_column.proofs.words.U32OffsetWord.is_least_for.Goals as goal
 

@@ -1,7 +1,5 @@
-use Rattle.std.proofs.Common.{◌-ℤ◌}
+use Rattle.std.proofs.{Common.◌-ℤ◌, Common.arith, lemmas.Int.ints}
 use Rattle.std.specs.Int.RustNames.{unsigned_abs}
-use Rattle.std.proofs.Common.{arith}
-use Rattle.std.proofs.lemmas.Int.{ints}
 use Rattle.star_column.proofs.Differences.{width_8, width_16, width_32, width_64}
 use Rattle.star_column.proofs.words.Words.of_numbers.Goals as goal
 

@@ -1,8 +1,6 @@
-use Rattle.std.proofs.Common.{◌∙◌, ap, subst, sym}
+use Rattle.std.proofs.{Common.◌∙◌, Common.ap, Common.subst, Common.sym, lemmas.Result.err_from_is_err_and}
 use Rattle.std.specs.Prelude.{Err}
-use Rattle.std.proofs.lemmas.Result.{err_from_is_err_and}
-use Rattle.star_engine.specs.Answered.{change}
-use Rattle.star_engine.specs.Bench.{IsBenchOver}
+use Rattle.star_engine.specs.{Answered.change, Bench.IsBenchOver}
 use Rattle.star_engine.proofs.BenchAnswers.{bench_some, unwritten}
 use Rattle.star_engine.proofs.engine.Engine.bench.Goals as goal
 

@@ -1,9 +1,7 @@
 use Rattle.std.proofs.Common.{◌∙◌}
 use Rattle.star_schema.specs.Database.{rows_in}
-use Rattle.star_engine.specs.Answered.{change}
-use Rattle.star_engine.specs.Listing.{IsListingOver}
-use Rattle.star_engine.proofs.Answering.{written}
-use Rattle.star_engine.proofs.ListingLemmas.{listing_some}
+use Rattle.star_engine.specs.{Answered.change, Listing.IsListingOver}
+use Rattle.star_engine.proofs.{Answering.written, ListingLemmas.listing_some}
 use Rattle.star_engine.proofs.engine.Engine.check.Goals as goal
 
 pub write_text-requires : goal.write_text-requires

@@ -1,6 +1,5 @@
 use Rattle.std.specs.Prelude.{string_bytes}
-use Rattle.star_engine.specs.Private.Steps.{IsNotVerified}
-use Rattle.star_engine.specs.Tellings.{IsJudgedOfKind, IsProgramForecast, IsUnjudgedOfKind}
+use Rattle.star_engine.specs.{Private.Steps.IsNotVerified, Tellings.IsJudgedOfKind, Tellings.IsProgramForecast, Tellings.IsUnjudgedOfKind}
 use Rattle.star_engine.proofs.TellingLemmas.{judged, matched_as, unjudged}
 use Rattle.star_engine.proofs.engine.Engine.forecast.Goals as goal
 

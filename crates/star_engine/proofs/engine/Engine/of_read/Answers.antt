@@ -1,5 +1,4 @@
-use Rattle.std.proofs.Common.{refl}
-use Rattle.std.proofs.lemmas.Result.{err_from_is_err_and}
+use Rattle.std.proofs.{Common.refl, lemmas.Result.err_from_is_err_and}
 use Rattle.star_engine.proofs.engine.Engine.of_read.Goals as goal
 
 pub returns-in_err-loaded-clause-refused : goal.returns-in_err-loaded-clause-refused

@@ -1,10 +1,6 @@
 use Rattle.std.proofs.Common.{◌∙◌}
-use Rattle.star_engine.specs.Answered.{change}
-use Rattle.star_engine.specs.Executions.{quote_over}
-use Rattle.star_engine.specs.QuoteTexts.{IsQuoteOfKindOver}
-use Rattle.star_engine.proofs.Answering.{written}
-use Rattle.star_engine.proofs.Executing.{quote_some}
-use Rattle.star_engine.proofs.TellingLemmas.{quoted}
+use Rattle.star_engine.specs.{Answered.change, Executions.quote_over, QuoteTexts.IsQuoteOfKindOver}
+use Rattle.star_engine.proofs.{Answering.written, Executing.quote_some, TellingLemmas.quoted}
 use Rattle.star_engine.proofs.engine.Engine.quote.Goals as goal
 
 pub write_text-requires : goal.write_text-requires

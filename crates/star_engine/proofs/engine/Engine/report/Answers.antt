@@ -1,6 +1,4 @@
-use Rattle.star_engine.specs.Executions.{IsProgramTold}
-use Rattle.star_engine.specs.Private.Steps.{IsNotVerified}
-use Rattle.star_engine.specs.Tellings.{IsToldOfKind, IsUnjudgedOfKind, telling_of}
+use Rattle.star_engine.specs.{Executions.IsProgramTold, Private.Steps.IsNotVerified, Tellings.IsToldOfKind, Tellings.IsUnjudgedOfKind, Tellings.telling_of}
 use Rattle.star_engine.proofs.TellingLemmas.{matched_as, told, unjudged}
 use Rattle.star_engine.proofs.engine.Engine.report.Goals as goal
 

@@ -1,5 +1,4 @@
-use Rattle.star_engine.specs.Answered.{change}
-use Rattle.star_engine.specs.Trials.{IsBoundedReport, IsNoTrialOver}
+use Rattle.star_engine.specs.{Answered.change, Trials.IsBoundedReport, Trials.IsNoTrialOver}
 use Rattle.star_engine.proofs.Answering.{written}
 use Rattle.star_engine.proofs.engine.Engine.trial.Goals as goal
 

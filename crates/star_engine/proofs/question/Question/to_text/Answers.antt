@@ -1,7 +1,5 @@
 use Rattle.std.proofs.Common.{◌∙◌, ap, subst, sym}
-use Rattle.star_program.specs.Text.Spellable.{IsSpellable}
-use Rattle.star_program.specs.Text.Spelling.{Spells}
-use Rattle.star_program.specs.Text.Written.{program_text}
+use Rattle.star_program.specs.{Text.Spellable.IsSpellable, Text.Spelling.Spells, Text.Written.program_text}
 use Rattle.star_engine.proofs.question.Question.to_text.Goals as goal
 
 pub returns : goal.returns

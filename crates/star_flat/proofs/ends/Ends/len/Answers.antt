@@ -1,6 +1,5 @@
-use Rattle.std.proofs.Common.{◌∙◌, sym, ap, length}
+use Rattle.std.proofs.{Common.◌∙◌, Common.sym, Common.ap, Common.length, lemmas.List.length-map}
 use Rattle.std.specs.Int.RustNames.{unsigned_abs}
-use Rattle.std.proofs.lemmas.List.{length-map}
 use Rattle.star_flat.specs.Repeated.{places_in}
 use Rattle.star_flat.proofs.EndsLemmas.{length-ends_of}
 use Rattle.star_flat.proofs.ends.Ends.len.Goals as goal

@@ -1,6 +1,5 @@
 use Rattle.std.proofs.Common.{◌∙◌, ap, length, arith}
-use Rattle.star_flat.specs.Private.Ends.{ends_of}
-use Rattle.star_flat.specs.Repeated.{places_in}
+use Rattle.star_flat.specs.{Private.Ends.ends_of, Repeated.places_in}
 use Rattle.star_flat.proofs.EndsLemmas.{no_ends}
 use Rattle.star_flat.proofs.ends.Ends.new.Goals as goal
 

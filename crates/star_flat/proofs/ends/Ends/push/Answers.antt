@@ -1,14 +1,9 @@
 use Rattle.std.proofs.Common.{◌≡◌, ◌≤◌, ◌<◌, ◌^◌, ◌-◌, ◌++◌, ◌∷◌, [], Result, Ok, Err, sym, ap, ◌∙◌, subst, length, arith}
-use Rattle.std.specs.Int.RustNames.{unsigned_abs}
-use Rattle.std.specs.List.{All}
-use Rattle.std.proofs.lemmas.List.{length-map, length_push}
-use Rattle.std.proofs.lemmas.List.Elements.{All-push}
-use Rattle.star_flat.specs.Private.Ends.{ends_of}
-use Rattle.star_flat.specs.Repeated.{places_in}
-use Rattle.std.specs.Result.{OnErr}
-use Rattle.star_flat.proofs.EndsLemmas.{end_pushed, from_upto, same_ends}
+use Rattle.std.proofs.{lemmas.List.length-map, lemmas.List.length_push, lemmas.List.Elements.All-push}
+use Rattle.std.specs.{Int.RustNames.unsigned_abs, List.All, Result.OnErr}
+use Rattle.star_flat.specs.{Private.Ends.ends_of, Repeated.places_in}
+use Rattle.star_flat.proofs.{EndsLemmas.end_pushed, EndsLemmas.from_upto, EndsLemmas.same_ends, ends.Ends.push.Goals.After-start_for}
 use Rattle.star_flat.proofs.ends.Ends.push.Goals as goal
-use Rattle.star_flat.proofs.ends.Ends.push.Goals.{After-start_for}
 
 OnErr-any : {X E P : Type 0} (r : Result X E) → P → OnErr r P
 OnErr-any (Ok x) p = tt

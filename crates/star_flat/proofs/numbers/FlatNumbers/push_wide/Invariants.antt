@@ -1,6 +1,5 @@
 use Rattle.std.proofs.Common.{◌≡◌}
-use Rattle.star_flat.specs.Words.{numbers_in}
-use Rattle.star_flat.specs.Private.Widths.{widenings}
+use Rattle.star_flat.specs.{Words.numbers_in, Private.Widths.widenings}
 use Rattle.star_flat.proofs.numbers.FlatNumbers.push_wide.Given as goal
 
 abbrev pub invariant-loop-self : goal.invariant-loop-self

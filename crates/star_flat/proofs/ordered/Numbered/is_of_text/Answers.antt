@@ -1,5 +1,4 @@
-use Rattle.std.proofs.Common.{◌∙◌, ◌%◌, sym}
-use Rattle.std.proofs.lemmas.Bool.{ltb-true}
+use Rattle.std.proofs.{Common.◌∙◌, Common.◌%◌, Common.sym, lemmas.Bool.ltb-true}
 use Rattle.star_flat.proofs.Keys.{whole_same}
 use Rattle.star_flat.proofs.ordered.Numbered.is_of_text.Goals as goal
 

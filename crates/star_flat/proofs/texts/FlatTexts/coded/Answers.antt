@@ -1,5 +1,4 @@
-use Rattle.star_flat.proofs.CodesKept.{codes_met, sorted_different, texts_coded}
-use Rattle.star_flat.proofs.RepeatedLemmas.{if_all}
+use Rattle.star_flat.proofs.{CodesKept.codes_met, CodesKept.sorted_different, CodesKept.texts_coded, RepeatedLemmas.if_all}
 use Rattle.star_flat.proofs.texts.FlatTexts.coded.Goals as goal
 
 pub returns-clause-sorted : goal.returns-clause-sorted

@@ -1,6 +1,4 @@
-use Rattle.std.proofs.Common.{◌∙◌, ap, sym, length}
-use Rattle.std.proofs.lemmas.Bool.{eqb-true, eq-eqb}
-use Rattle.std.proofs.lemmas.List.{nil_from_length}
+use Rattle.std.proofs.{Common.◌∙◌, Common.ap, Common.sym, Common.length, lemmas.Bool.eqb-true, lemmas.Bool.eq-eqb, lemmas.List.nil_from_length}
 use Rattle.star_flat.proofs.texts.FlatTexts.is_empty.Goals as goal
 
 pub returns : goal.returns

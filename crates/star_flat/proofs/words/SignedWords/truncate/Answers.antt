@@ -1,5 +1,4 @@
-use Rattle.std.proofs.Common.{rules}
-use Rattle.std.proofs.lemmas.List.{take-map}
+use Rattle.std.proofs.{Common.rules, lemmas.List.take-map}
 use Rattle.star_flat.proofs.words.SignedWords.truncate.Goals as goal
 
 pub returns-in-Bits8 : goal.returns-in-Bits8

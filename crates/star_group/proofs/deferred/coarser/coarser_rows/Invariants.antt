@@ -1,5 +1,4 @@
-use Rattle.star_group.proofs.Common.{◌≡◌, entries_of, listed_entries}
-use Rattle.star_group.proofs.Rolling.{IsMergedSoFar}
+use Rattle.star_group.proofs.{Common.◌≡◌, Common.entries_of, Common.listed_entries, Rolling.IsMergedSoFar}
 use Rattle.star_group.proofs.deferred.coarser.coarser_rows.Given as goal
 
 abbrev pub invariant-loop-index : goal.invariant-loop-index

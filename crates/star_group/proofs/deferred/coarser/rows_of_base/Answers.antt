@@ -1,6 +1,4 @@
-use Rattle.star_group.proofs.Common.{◌≤◌, arith, listed_entries, group_with}
-use Rattle.star_group.proofs.AllRows.{grouped}
-use Rattle.star_group.proofs.Contents.{if_ok}
+use Rattle.star_group.proofs.{Common.◌≤◌, Common.arith, Common.listed_entries, Common.group_with, AllRows.grouped, Contents.if_ok}
 use Rattle.star_group.proofs.deferred.coarser.rows_of_base.Goals as goal
 
 pub returns : goal.returns

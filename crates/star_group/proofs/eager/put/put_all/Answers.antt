@@ -1,8 +1,6 @@
-use Rattle.star_group.proofs.Common.{◌≡◌, ◌≢◌, ◌∙◌, List, false, inl, inr, ap, arith, length, map, rules, subst, sym, ⊎_elim, IsDistinct, filter, list_any, MatchBool-at_false, MatchBool-at_true, AllPairs-filter, AllPairs-from_IsDistinct, IsDistinct-from_AllPairs, err_from_is_err_and, Shape}
-use Rattle.star_group.proofs.Common.{KeyValue, KeyPart, key_view, row_found, entries_of, is_of_put, key_eq, padded, vary, PutsRows, SomeLeaves, is_one_of, is_row_key}
-use Rattle.star_group.proofs.OwnKeyLemmas.{vary_distinct}
-use Rattle.star_group.proofs.GroupKeys.{any_kept, key_decides}
-use Rattle.star_group.proofs.KeyedRows.{row_keys_narrow}
+use Rattle.star_group.proofs.Common.{◌≡◌, ◌≢◌, ◌∙◌, List, false, inl, inr, ap, arith, length, map, rules, subst, sym, ⊎_elim, IsDistinct, filter, list_any, MatchBool-at_false, MatchBool-at_true, AllPairs-filter, AllPairs-from_IsDistinct, IsDistinct-from_AllPairs, err_from_is_err_and}
+use Rattle.star_group.proofs.Common.{Shape, KeyValue, KeyPart, key_view, row_found, entries_of, is_of_put, key_eq, padded, vary, PutsRows, SomeLeaves, is_one_of, is_row_key}
+use Rattle.star_group.proofs.{OwnKeyLemmas.vary_distinct, GroupKeys.any_kept, GroupKeys.key_decides, KeyedRows.row_keys_narrow}
 use Rattle.star_group.proofs.eager.put.put_all.Goals as goal
 
 pub fill_row_keys-requires : goal.fill_row_keys-requires

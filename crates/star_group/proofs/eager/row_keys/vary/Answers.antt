@@ -1,8 +1,5 @@
 use Rattle.star_group.proofs.Common.{◌∷◌, [], ◌≡◌, ◌≤◌, ◌<◌, ◌++◌, ◌+◌, ◌-◌, zero, suc, cond, ℕ, map, List, Option, length, arith, sym, ap, ◌∙◌, filter, Shape, KeyValue, padded, vary, key_view, keys_from, is_row_key}
-use Rattle.star_group.proofs.AllRows.{base_keys, cube_keys}
-use Rattle.star_group.proofs.OwnKeyLemmas.{doubled}
-use Rattle.star_group.proofs.GroupKeys.{own_grouping}
-use Rattle.star_group.proofs.Rolling.{hide, row_keys_more}
+use Rattle.star_group.proofs.{AllRows.base_keys, AllRows.cube_keys, OwnKeyLemmas.doubled, GroupKeys.own_grouping, Rolling.hide, Rolling.row_keys_more}
 use Rattle.star_group.proofs.eager.row_keys.vary.Goals as goal
 
 one_place : (s : Shape) (count place : ℕ) (keys : List KeyValue)

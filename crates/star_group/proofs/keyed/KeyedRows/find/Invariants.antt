@@ -1,5 +1,4 @@
-use Rattle.star_group.proofs.Common.{keys_in}
-use Rattle.star_group.proofs.Tries.{IsGoneDown}
+use Rattle.star_group.proofs.{Common.keys_in, Tries.IsGoneDown}
 use Rattle.star_group.proofs.keyed.KeyedRows.find.Given as goal
 
 abbrev pub invariant-loop-depth : goal.invariant-loop-depth

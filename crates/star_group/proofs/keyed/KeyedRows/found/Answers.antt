@@ -1,6 +1,5 @@
 use Rattle.star_group.proofs.Common.{◌≡◌, ◌∙◌, List, Option, Some, rules, ℤ, ap, length, subst, sym, take, KeyPart, keys_in, IsKeyFound}
-use Rattle.star_group.proofs.KeyedRows.{number_among, row_held, row_missing}
-use Rattle.star_group.proofs.ListedRows.{entry_at}
+use Rattle.star_group.proofs.{KeyedRows.number_among, KeyedRows.row_held, KeyedRows.row_missing, ListedRows.entry_at}
 use Rattle.star_group.proofs.keyed.KeyedRows.found.Goals as goal
 
 pub row-requires : goal.row-requires

@@ -1,5 +1,4 @@
-use Rattle.star_group.proofs.Common.{sym}
-use Rattle.star_group.proofs.ListedRows.{row_count}
+use Rattle.star_group.proofs.{Common.sym, ListedRows.row_count}
 use Rattle.star_group.proofs.keyed.ListedRows.len.Goals as goal
 
 pub returns : goal.returns

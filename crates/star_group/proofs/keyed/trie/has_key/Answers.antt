@@ -1,5 +1,4 @@
-use Rattle.star_group.proofs.Common.{◌≡◌, MatchBool, subst}
-use Rattle.star_group.proofs.Tries.{keys_told}
+use Rattle.star_group.proofs.{Common.◌≡◌, Common.MatchBool, Common.subst, Tries.keys_told}
 use Rattle.star_group.proofs.keyed.trie.has_key.Goals as goal
 
 pub returns : goal.returns

@@ -1,6 +1,5 @@
 use Rattle.star_group.proofs.Common.{◌≡◌, ◌*◌, [], ap, arith, false, length, replicate, sym, ◌∙◌, length-replicate, entries_of}
-use Rattle.star_group.proofs.Bases.{no_room}
-use Rattle.star_group.proofs.PlacedPuts.{blank_columns, placed_none}
+use Rattle.star_group.proofs.{Bases.no_room, PlacedPuts.blank_columns, PlacedPuts.placed_none}
 use Rattle.star_group.specs.Deferred as deferred
 use Rattle.star_group.proofs.placed.PlacedStore.for_ranges.Goals as goal
 

@@ -1,7 +1,6 @@
 use Rattle.star_group.proofs.Common.{◌≡◌, ◌*◌, ◌<◌, ℕ, List, ap, arith, get_or, length, false, true, ◌∙◌, sym, with_items, with_items_is, put_in, puts_after, after_rows, batch_lanes, IsPlaced, entries_of, group_view, Update}
 use Rattle.star_group.proofs.PlacedPuts.{AreRowsOf, batch_room, batch_rows, can_take_all, lent_room, lent_taken, placed_after}
-use Rattle.star_group.proofs.SpanPlaces.{within}
-use Rattle.star_group.proofs.placed.PlacedStore.put_at.Goals.{After-lanes_are_narrow, After-mark}
+use Rattle.star_group.proofs.{SpanPlaces.within, placed.PlacedStore.put_at.Goals.After-lanes_are_narrow, placed.PlacedStore.put_at.Goals.After-mark}
 use Rattle.star_group.proofs.placed.PlacedStore.put_at.Goals as goal
 
 rows : (c : After-lanes_are_narrow) → AreRowsOf (group_view c.args.self.now)

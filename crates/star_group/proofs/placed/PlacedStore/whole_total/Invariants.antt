@@ -1,5 +1,4 @@
-use Rattle.star_group.proofs.Common.{entries_of, group_view}
-use Rattle.star_group.proofs.PlacedRows.{IsSummed}
+use Rattle.star_group.proofs.{Common.entries_of, Common.group_view, PlacedRows.IsSummed}
 use Rattle.star_group.proofs.placed.PlacedStore.whole_total.Given as goal
 
 abbrev pub invariant-loop-place : goal.invariant-loop-place

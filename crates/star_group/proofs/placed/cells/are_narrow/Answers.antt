@@ -1,5 +1,4 @@
-use Rattle.star_group.proofs.Common.{arith}
-use Rattle.star_group.proofs.PlacedCells.{each_narrow}
+use Rattle.star_group.proofs.{Common.arith, PlacedCells.each_narrow}
 use Rattle.star_group.proofs.placed.cells.are_narrow.Goals as goal
 
 pub returns : goal.returns

@@ -1,5 +1,4 @@
-use Rattle.star_group.proofs.Common.{◌≡◌, AreOnce, listed_entries}
-use Rattle.star_group.proofs.PlacedListing.{IsListedTo}
+use Rattle.star_group.proofs.{Common.◌≡◌, Common.AreOnce, Common.listed_entries, PlacedListing.IsListedTo}
 use Rattle.star_group.proofs.placed.listing.push_places.Given as goal
 
 abbrev pub invariant-loop-place : goal.invariant-loop-place

@@ -1,6 +1,5 @@
 use Rattle.std.proofs.Common.{◌∙◌, [], ap, refl, subst, sym}
-use Rattle.star_schema.specs.Order.{value_cmp}
-use Rattle.star_schema.specs.Tables.{Value}
+use Rattle.star_schema.specs.{Order.value_cmp, Tables.Value}
 use Rattle.star_merge.specs.Private.Adding.{AddUpAlike, addends, empty_total}
 use Rattle.star_merge.proofs.Steps.{alike_none}
 use Rattle.star_merge.proofs.merging.Merging.new.Goals as goal

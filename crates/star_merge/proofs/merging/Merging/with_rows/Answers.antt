@@ -1,8 +1,7 @@
 use Rattle.std.proofs.Common.{◌≡◌, ◌∙◌, ◌++◌, map, subst, sym}
 use Rattle.star_schema.specs.Order.{value_cmp}
 use Rattle.star_merge_laws.specs.Regrouping.{all_added}
-use Rattle.star_merge.specs.Cells.{group_of}
-use Rattle.star_merge.specs.Private.Adding.{AddUpAlike, addends}
+use Rattle.star_merge.specs.{Cells.group_of, Private.Adding.AddUpAlike, Private.Adding.addends}
 use Rattle.star_merge.proofs.Steps.{alike_more}
 use Rattle.star_merge.proofs.merging.Merging.with_rows.Goals as goal
 

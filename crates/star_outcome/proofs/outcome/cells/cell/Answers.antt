@@ -1,8 +1,7 @@
 use Rattle.std.proofs.Common.{ap, sym, ◌∙◌}
 use Rattle.star_group.proofs.Contents.{if_ok}
 use Rattle.star_group.specs.StoreRows.{row_at, row_view}
-use Rattle.star_program.specs.Outcome.{decoded_row}
-use Rattle.star_program.specs.RowCells.{cell_of, key_cell}
+use Rattle.star_program.specs.{Outcome.decoded_row, RowCells.cell_of, RowCells.key_cell}
 use Rattle.star_world.specs.WorldOf.{world_of}
 use Rattle.star_outcome.proofs.DecodedRows.{decodable_at, decoded_at}
 use Rattle.star_outcome.proofs.outcome.cells.cell.Goals as goal

@@ -1,8 +1,5 @@
-use Rattle.std.proofs.Common.{length, ap, ◌∙◌}
-use Rattle.std.proofs.lemmas.List.{length-map}
-use Rattle.star_program.specs.Outcome.{decoded_row}
-use Rattle.star_program.specs.RowCells.{cell_of}
-use Rattle.star_program.specs.Rows.{cut}
+use Rattle.std.proofs.{Common.length, Common.ap, Common.◌∙◌, lemmas.List.length-map}
+use Rattle.star_program.specs.{Outcome.decoded_row, RowCells.cell_of, Rows.cut}
 use Rattle.star_program.proofs.Rows.{cut_rows, length-rows}
 use Rattle.star_group.specs.StoreRows.{row_at, row_view}
 use Rattle.star_outcome.specs.Private.Decoded.{row_cells}

@@ -1,5 +1,4 @@
-use Rattle.std.proofs.Common.{arith}
-use Rattle.std.proofs.lemmas.Grind.{common_steps}
+use Rattle.std.proofs.{Common.arith, lemmas.Grind.common_steps}
 use Rattle.star_outcome.proofs.outcome.cells.names.Goals as goal
 
 pub loop-show-preserved : goal.loop-show-preserved

@@ -1,7 +1,6 @@
 use Rattle.std.proofs.Common.{◌≡◌, ◌++◌, map, take}
 use Rattle.star_group.specs.StoreRows.{row_at, row_view}
-use Rattle.star_program.specs.Outcome.{decoded_row}
-use Rattle.star_program.specs.RowCells.{cell_of}
+use Rattle.star_program.specs.{Outcome.decoded_row, RowCells.cell_of}
 use Rattle.star_world.specs.WorldOf.{world_of}
 use Rattle.star_outcome.proofs.outcome.cells.push_cells.Given as goal
 

@@ -1,7 +1,6 @@
 use Rattle.std.proofs.Common.{◌∙◌, ◌++◌, ◌∷◌, [], ap, sym, arith, map}
+use Rattle.std.proofs.{lemmas.List.append_assoc, lemmas.List.FromFn.map-range_with_len_more}
 use Rattle.std.specs.List.{range_with_len}
-use Rattle.std.proofs.lemmas.List.{append_assoc}
-use Rattle.std.proofs.lemmas.List.FromFn.{map-range_with_len_more}
 use Rattle.star_outcome.specs.Private.RowOrder.{key_sort}
 use Rattle.star_outcome.proofs.outcome.order.all_sorts.Goals as goal
 

@@ -1,22 +1,11 @@
 use Rattle.std.proofs.Common.{ap, length, map, rules, subst, sym, ◌∙◌, ◌≡◌}
-use Rattle.std.specs.Prelude.{IsPermutation}
-use Rattle.std.specs.List.{AllByRecursion, Contains, range_with_len}
-use Rattle.std.specs.List.Sorted.{IsSortedBy}
-use Rattle.std.specs.Ordering.{is_lt}
-use Rattle.std.proofs.lemmas.List.Sorted.{IsPermutation-map}
-use Rattle.std.proofs.lemmas.Simd.{map-map}
+use Rattle.std.proofs.{lemmas.List.Sorted.IsPermutation-map, lemmas.Simd.map-map}
+use Rattle.std.specs.{Prelude.IsPermutation, List.AllByRecursion, List.Contains, List.range_with_len, List.Sorted.IsSortedBy, Ordering.is_lt}
 use Rattle.star_group.proofs.Contents.{if_ok}
-use Rattle.star_group.specs.declared.group_row.GroupRow.{GroupRow}
-use Rattle.star_group.specs.StoreRows.{row_at, row_view}
-use Rattle.star_program.specs.Keys.{key_value_cmp}
-use Rattle.star_program.specs.Puts.{Update}
-use Rattle.star_outcome.specs.declared.outcome.leads.Led.{Led}
-use Rattle.star_outcome.specs.Private.Decoded.{AreSortedGroups}
-use Rattle.star_outcome.specs.Private.Leads.{led_at, led_cmp}
-use Rattle.star_outcome.proofs.GroupRows.{groups_alike, groups_moved, rows_apart}
-use Rattle.star_outcome.proofs.LedRows.{led_total, rows_ascend, rows_moved}
-use Rattle.star_outcome.proofs.RowOrders.{AreAlike}
-use Rattle.star_outcome.proofs.SortedRows.{shown_cmp, sorted_by_answers, sorted_rows}
+use Rattle.star_group.specs.{declared.group_row.GroupRow.GroupRow, StoreRows.row_at, StoreRows.row_view}
+use Rattle.star_program.specs.{Keys.key_value_cmp, Puts.Update}
+use Rattle.star_outcome.specs.{declared.outcome.leads.Led.Led, Private.Decoded.AreSortedGroups, Private.Leads.led_at, Private.Leads.led_cmp}
+use Rattle.star_outcome.proofs.{GroupRows.groups_alike, GroupRows.groups_moved, GroupRows.rows_apart, LedRows.led_total, LedRows.rows_ascend, LedRows.rows_moved, RowOrders.AreAlike, SortedRows.shown_cmp, SortedRows.sorted_by_answers, SortedRows.sorted_rows}
 use Rattle.star_outcome.proofs.outcome.order.sorted_numbers.Goals as goal
 
 pub returns : goal.returns

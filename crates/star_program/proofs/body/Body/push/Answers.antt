@@ -1,6 +1,5 @@
 use Rattle.std.proofs.Common.{◌≡◌, ◌∙◌, ◌∷◌, ◌++◌, [], List, ap, refl}
-use Rattle.star_program.specs.{Code.Then, Code.Each, CodeOfSteps.code_of_steps, Private.Followed.code_of_step, Private.Followed.followed}
-use Rattle.star_program.specs.declared.body.Step.{Step, TheVariants.Act, TheVariants.Scan}
+use Rattle.star_program.specs.{Code.Then, Code.Each, CodeOfSteps.code_of_steps, Private.Followed.code_of_step, Private.Followed.followed, declared.body.Step.Step, declared.body.Step.TheVariants.Act, declared.body.Step.TheVariants.Scan}
 use Rattle.star_program.proofs.body.Body.push.Goals as goal
 
 code_push : (steps : List Step) (step : Step)

@@ -1,6 +1,5 @@
-use Rattle.std.proofs.Common.{inl, inr}
-use Rattle.std.proofs.lemmas.Result.{err_from_is_err_and}
-use Rattle.star_program.proofs.Text.{NoFault.no_fault, OneProgram.one_program}
+use Rattle.std.proofs.{Common.inl, Common.inr, lemmas.Result.err_from_is_err_and}
+use Rattle.star_program.proofs.{Text.NoFault.no_fault, Text.OneProgram.one_program}
 use Rattle.star_program.proofs.program.Program.parse.Goals as goal
 
 pub returns-in_err-parts-clause-only : goal.returns-in_err-parts-clause-only

@@ -1,6 +1,5 @@
-use Rattle.std.proofs.Common.{◌++◌, ◌∙◌, ap}
-use Rattle.std.proofs.lemmas.{Option.slice_get-get_or, Result.on_ok_weaker}
-use Rattle.star_program.proofs.Text.{WrittenLemmas.act_text, WrittenLemmas.all_steps, WrittenLemmas.scan_text, WrittenLemmas.step_more, Depths.rest_nested, Depths.step_small}
+use Rattle.std.proofs.{Common.◌++◌, Common.◌∙◌, Common.ap, lemmas.Option.slice_get-get_or, lemmas.Result.on_ok_weaker}
+use Rattle.star_program.proofs.{Text.WrittenLemmas.act_text, Text.WrittenLemmas.all_steps, Text.WrittenLemmas.scan_text, Text.WrittenLemmas.step_more, Text.Depths.rest_nested, Text.Depths.step_small}
 use Rattle.star_program.proofs.spelling.body_lines.+writing.Goals as goal
 
 pub push_body-loop-step-preserved : goal.push_body-loop-step-preserved

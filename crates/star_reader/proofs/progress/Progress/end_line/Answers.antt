@@ -1,8 +1,6 @@
 use Rattle.std.proofs.Common.{inr, sym, ◌∙◌, [], refl}
 use Rattle.star_schema.specs.Schema.{kinds_of}
-use Rattle.star_reader.proofs.OpenRows.{end_faulty, end_marked, ended, open_start}
-use Rattle.star_reader.proofs.PassedOn.{passed_on}
-use Rattle.star_reader.proofs.TableSteps.{whole}
+use Rattle.star_reader.proofs.{OpenRows.end_faulty, OpenRows.end_marked, OpenRows.ended, OpenRows.open_start, PassedOn.passed_on, TableSteps.whole}
 use Rattle.star_reader.proofs.progress.Progress.end_line.Goals as goal
 
 pub returns-then-is_marked : goal.returns-then-is_marked

@@ -1,6 +1,5 @@
 use Rattle.std.proofs.Common.{refl}
-use Rattle.star_reader.proofs.PassedOn.{passed_on}
-use Rattle.star_reader.proofs.PieceSteps.{part_faulty, part_on}
+use Rattle.star_reader.proofs.{PassedOn.passed_on, PieceSteps.part_faulty, PieceSteps.part_on}
 use Rattle.star_reader.proofs.progress.Progress.end_part.Goals as goal
 
 pub returns-in_err-end_line : goal.returns-in_err-end_line

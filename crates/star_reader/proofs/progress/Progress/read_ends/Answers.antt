@@ -1,5 +1,4 @@
-use Rattle.star_reader.proofs.PassedOn.{passed_on}
-use Rattle.star_reader.proofs.PieceSteps.{line_faulty, lines_faulty, lines_on}
+use Rattle.star_reader.proofs.{PassedOn.passed_on, PieceSteps.line_faulty, PieceSteps.lines_faulty, PieceSteps.lines_on}
 use Rattle.star_reader.proofs.progress.Progress.read_ends.Goals as goal
 
 pub returns-in_err-end_line : goal.returns-in_err-end_line

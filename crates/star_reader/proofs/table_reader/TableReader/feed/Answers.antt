@@ -1,11 +1,10 @@
 use Rattle.std.proofs.Common.{◌≡◌, ◌++◌, None, sym, ◌∙◌, ap, length, arith, refl}
-use Rattle.std.proofs.lemmas.List.{with_items_is}
+use Rattle.std.proofs.{lemmas.List.with_items_is}
 use Rattle.std.specs.Vec.{with_items}
 use Rattle.star_reader.specs.Private.Sound.{reading_of}
-use Rattle.star_reader.proofs.PieceSteps.{fault_on}
 use Rattle.star_reader.proofs.ReaderSteps.{none_of, sound_step, step_faulty, step_fine, still_faulty}
+use Rattle.star_reader.proofs.{PieceSteps.fault_on, table_reader.TableReader.feed.Goals.After-read}
 use Rattle.star_reader.proofs.table_reader.TableReader.feed.Goals as goal
-use Rattle.star_reader.proofs.table_reader.TableReader.feed.Goals.{After-read}
 
 no_fault : (c : After-read) → c.self.inside.fault ≡ None
 no_fault c = none_of c.self.inside.fault (sym c.is_some.ensures ∙ c.if-is_some.false)

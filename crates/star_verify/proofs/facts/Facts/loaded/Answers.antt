@@ -1,7 +1,5 @@
 use Rattle.std.proofs.Common.{◌≡◌, FitsSigned, w64, rules, None, Some, ap, subst, sym, ◌∙◌}
-use Rattle.star_verify.proofs.Common.{FitsI64, KnownNumber, loaded_known, overflow_of}
-use Rattle.star_verify.proofs.Overflows.{fitting}
-use Rattle.star_verify.proofs.Texts.{not_text}
+use Rattle.star_verify.proofs.{Common.FitsI64, Common.KnownNumber, Common.loaded_known, Common.overflow_of, Overflows.fitting, Texts.not_text}
 use Rattle.star_verify.proofs.facts.Facts.loaded.Goals as goal
 
 pub returns : goal.returns

@@ -1,5 +1,4 @@
-use Rattle.std.proofs.Common.{FitsSigned, w64, rules, ◌∙◌}
-use Rattle.std.proofs.lemmas.Int.{to_z-of_z}
+use Rattle.std.proofs.{Common.FitsSigned, Common.w64, Common.rules, Common.◌∙◌, lemmas.Int.to_z-of_z}
 use Rattle.star_verify.proofs.Reaching.{one_reached}
 use Rattle.star_verify.proofs.facts.Facts.with_bounds.Goals as goal
 

@@ -1,5 +1,4 @@
-use Rattle.star_verify.proofs.Common.{flag_at, target_again, target_of}
-use Rattle.star_verify.proofs.Positions.{no_fault}
+use Rattle.star_verify.proofs.{Common.flag_at, Common.target_again, Common.target_of, Positions.no_fault}
 use Rattle.star_verify.proofs.input.CheckInput.check_instruction.Goals as goal
 
 pub perform-requires-clause-fine : goal.perform-requires-clause-fine

@@ -1,6 +1,5 @@
 use Rattle.std.proofs.Common.{ap, ◌∙◌}
-use Rattle.star_verify.proofs.Common.{bit_at, index_of, index_within, nat_eq}
-use Rattle.star_verify.proofs.Bits.{bit_alone, bit_is}
+use Rattle.star_verify.proofs.{Common.bit_at, Common.index_of, Common.index_within, Common.nat_eq, Bits.bit_alone, Bits.bit_is}
 use Rattle.star_verify.proofs.reach.Reach.only.Goals as goal
 
 pub returns : goal.returns

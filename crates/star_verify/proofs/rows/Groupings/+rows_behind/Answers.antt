@@ -1,8 +1,7 @@
 use Rattle.std.proofs.Common.{◌≡◌, ◌∙◌, ◌+◌, ◌-◌, ◌*◌, ◌<◌, ◌∷◌, ℕ, suc, ap, arith, drop, get_or, length, subst, sym, take}
 use Rattle.star_verify.proofs.Common.{AgreeUpTo, IsTally, IsTallyAt, Number, each_values, groupings, if◌then◌else◌, possible_values, world_of}
+use Rattle.star_verify.proofs.{Firsts.first_and_others, RowLemmas.groupings_few, RowLemmas.groupings_more, RowLemmas.groupings_some, RowLemmas.one_more}
 use Rattle.star_verify.specs.Private.Rows as spec
-use Rattle.star_verify.proofs.Firsts.{first_and_others}
-use Rattle.star_verify.proofs.RowLemmas.{groupings_few, groupings_more, groupings_some, one_more}
 use Rattle.star_verify.proofs.rows.Groupings.+rows_behind.Goals as goal
 
 pub rows_behind-returns-in_default-clause-few : goal.rows_behind-returns-in_default-clause-few

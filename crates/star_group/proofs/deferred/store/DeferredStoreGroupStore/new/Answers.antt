@@ -1,5 +1,4 @@
-use Rattle.star_group.proofs.Bases.{new_room, no_base}
-use Rattle.star_group.proofs.Totals.{nothing_none}
+use Rattle.star_group.proofs.{Bases.new_room, Bases.no_base, Totals.nothing_none}
 use Rattle.star_group.proofs.deferred.store.DeferredStoreGroupStore.new.Goals as goal
 
 pub invariant_of-result-clause-room : goal.invariant_of-result-clause-room

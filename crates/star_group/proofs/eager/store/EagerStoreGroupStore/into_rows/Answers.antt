@@ -1,6 +1,5 @@
 use Rattle.star_group.proofs.Common.{sym, subst, AreGrouped, group_with, entries_of, AreRows}
-use Rattle.star_group.proofs.Contents.{if_ok}
-use Rattle.star_group.proofs.KeyedRows.{rows_once}
+use Rattle.star_group.proofs.{Contents.if_ok, KeyedRows.rows_once}
 use Rattle.star_group.proofs.eager.store.EagerStoreGroupStore.into_rows.Goals as goal
 
 pub returns : goal.returns

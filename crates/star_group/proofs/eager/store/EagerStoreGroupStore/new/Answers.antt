@@ -1,7 +1,4 @@
-use Rattle.star_group.proofs.Common.{sym, ◌∙◌}
-use Rattle.star_group.proofs.Bases.{no_rows}
-use Rattle.star_group.proofs.Merging.{held_none}
-use Rattle.star_group.proofs.Totals.{nothing_none}
+use Rattle.star_group.proofs.{Common.sym, Common.◌∙◌, Bases.no_rows, Merging.held_none, Totals.nothing_none}
 use Rattle.star_group.proofs.eager.store.EagerStoreGroupStore.new.Goals as goal
 
 pub returns-clause-empty : goal.returns-clause-empty

@@ -1,5 +1,4 @@
-use Rattle.star_group.proofs.Common.{refl, row_found, entries_of}
-use Rattle.star_group.proofs.Contents.{put_has, put_leaves, put_stays}
+use Rattle.star_group.proofs.{Common.refl, Common.row_found, Common.entries_of, Contents.put_has, Contents.put_leaves, Contents.put_stays}
 use Rattle.star_group.proofs.eager.store.EagerStoreTryPut.try_put.Goals as goal
 
 pub returns-clause-has : goal.returns-clause-has

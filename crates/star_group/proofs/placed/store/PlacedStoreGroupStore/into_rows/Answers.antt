@@ -1,7 +1,5 @@
 use Rattle.star_group.proofs.Common.{◌≤◌, ◌∙◌, ap, arith, length, subst, sym, IsListed, entries_of, listed_entries, group_with, AreRows, AreOnce}
-use Rattle.star_group.proofs.Contents.{if_ok}
-use Rattle.star_group.proofs.KeyedRows.{rows_once}
-use Rattle.star_group.proofs.PlacedPuts.{rolled_of, rolled_room}
+use Rattle.star_group.proofs.{Contents.if_ok, KeyedRows.rows_once, PlacedPuts.rolled_of, PlacedPuts.rolled_room}
 use Rattle.star_group.proofs.placed.store.PlacedStoreGroupStore.into_rows.Goals as goal
 
 pub push_places-requires-clause-keys : goal.push_places-requires-clause-keys

@@ -1,7 +1,6 @@
 use Rattle.star_group.proofs.Common.{◌≡◌, ◌*◌, ◌∷◌, None, ap, length, sym, ◌∙◌, ℕ, [], List, subst, refl, get_or, arith, ◌<◌, true, false, filter, with_items, with_items_is, entries_of, group_view, is_outside, cell_place, Update, after_rows, lanes_of, puts_after, IsPlaced, HasRoom, places}
 use Rattle.star_group.proofs.PlacedPuts.{AreRowsOf, can_take_all, lent_room, lent_taken, one_row, outside_room, placed_after, room_outside}
-use Rattle.star_group.proofs.placed.store.PlacedStoreGroupStore.put.Goals.{After-are_narrow, After-mark}
-use Rattle.star_group.proofs.Rooms.{held_stays}
+use Rattle.star_group.proofs.{placed.store.PlacedStoreGroupStore.put.Goals.After-are_narrow, placed.store.PlacedStoreGroupStore.put.Goals.After-mark, Rooms.held_stays}
 use Rattle.star_group.specs.Deferred as deferred
 use Rattle.star_group.proofs.placed.store.PlacedStoreGroupStore.put.Goals as goal
 
