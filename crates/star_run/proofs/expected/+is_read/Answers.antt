@@ -1,7 +1,5 @@
 use Rattle.std.proofs.Common.{ap, arith}
-use Rattle.star_program.specs.Code.{code_size}
-use Rattle.star_program.proofs.Steps.{next_act, next_scan}
-use Rattle.star_run.proofs.expected.+is_read.Goals.{in-Act, in-Scan}
+use Rattle.star_run.proofs.{Common.code_size, Common.next_act, Common.next_scan, expected.+is_read.Goals.in-Act, expected.+is_read.Goals.in-Scan}
 use Rattle.star_run.proofs.expected.+is_read.Goals as goal
 
 pub loop-step-preserved : goal.loop-step-preserved
