@@ -2,6 +2,9 @@ pub mod Answering
 pub mod ByClauses
 mod Reported
 pub mod ListingLemmas
+pub mod FactLemmas
+pub mod SpanLemmas
+pub mod PlainQueries
 pub mod Trials
 pub mod OneReport
 pub mod NoFaultDue

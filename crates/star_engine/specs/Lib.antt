@@ -15,4 +15,5 @@ pub mod QuoteTexts
 pub mod Tellings
 pub mod Thirteen
 pub mod Bench
+pub mod Partials
 pub mod Private

@@ -1,5 +1,6 @@
 -- The notes of a run.
 use Rattle.std.specs.Prelude.{◌++◌, ℕ, List, codes, decimal}
+unfoldable pub use Rattle.star_partial.specs.Counts.{counts_line}
 
 -- the quote
 unfoldable pub quote_line : ℕ → List ℕ
@@ -9,10 +10,3 @@ quote_line visits = codes "quote " ++ (decimal visits ++ codes "\n")
 unfoldable pub forecast_line : (visits rows : ℕ) → List ℕ
 forecast_line visits rows =
     codes "quote " ++ (decimal visits ++ (codes " rows " ++ (decimal rows ++ codes "\n")))
-
--- the numbers of visits, of look-ups and of updates
-unfoldable pub counts_line : (visits lookups updates : ℕ) → List ℕ
-counts_line visits lookups updates =
-    codes "visits "
-    ++ (decimal visits
-    ++ (codes " lookups " ++ (decimal lookups ++ (codes " updates " ++ (decimal updates ++ codes "\n")))))

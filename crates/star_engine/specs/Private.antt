@@ -4,3 +4,4 @@ pub mod QuerySteps
 pub mod BenchSteps
 pub mod PieceSteps
 pub mod TextSteps
+pub mod PartialSteps

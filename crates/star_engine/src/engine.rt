@@ -3,18 +3,21 @@
 ghost use Rattle.std.specs.Prelude.{◌≡◌, ◌≤◌, ◌^◌, ◌↔◌, ℕ, Bool, true, List, IfErr, IfOk, IsTrue, MatchResult, string_bytes};
 ghost use Rattle.star_schema.specs.{Database.TableTexts, Loadable.IsLoadable, Loadable.database_of};
 ghost use Rattle.star_catalogue.specs.{Load.texts_view, Pieces.AreRead, Pieces.AreReadSome};
-ghost use Rattle.star_engine.specs.{Answered.IsAnswered, Answered.OrMemory, Answered.change, Bench.AllFit, Bench.IsBenchOver, Listing.IsListingOver, Loads.AreLoadedRows, Loads.AreOfLoadableTexts, Loads.IsUnloaded, Loads.loaded_of, Noted.IsNoted, Questions.Asks};
-ghost use Rattle.star_engine.specs.{QuoteTexts.IsQuoteOfKindOver, Tellings.IsJudgedOfKind, Tellings.IsToldOfKind, Tellings.IsUnjudgedOfKind, Tellings.telling_of, Trials.IsBoundedReport, Trials.IsNoTrialOver};
+ghost use Rattle.star_partial.specs.Contents.{contents_of};
+ghost use Rattle.star_engine.specs.{Answered.IsAnswered, Answered.OrMemory, Answered.change, Bench.AllFit, Bench.IsBenchOver, Listing.IsListingOver, Loads.AreLoadedRows, Loads.AreOfLoadableTexts, Loads.IsUnloaded, Loads.loaded_of, Noted.IsNoted, Partials.IsPartialOver, Queries.IsNoQuery};
+ghost use Rattle.star_engine.specs.{Questions.Asks, QuoteTexts.IsQuoteOfKindOver, Tellings.IsJudgedOfKind, Tellings.IsToldOfKind, Tellings.IsUnjudgedOfKind, Tellings.telling_of, Trials.IsBoundedReport, Trials.IsNoTrialOver};
 
 use crate::benchmark::bench_of;
 use crate::executions::{Told, checked, execute, forecast, report_of, run_checked, write_text};
 use crate::fault::EngineFault;
 use crate::listing::list_tables;
 use crate::notes::program_note;
+use crate::partials::partial_of;
 use crate::query_laws::each_query_is_judged;
 use crate::question::Question;
 use star_catalogue::{Catalogue, ReadTables, Texts};
 use star_common::Sink;
+use star_partial::Partial;
 use star_schema::Limits;
 use star_verify::Verified;
 use std::alloc::Global;
@@ -191,6 +194,16 @@ impl Engine {
     {
         let report = report_of(alloc, &self.catalogue, &question.program, visits)?;
         write_text(out, report.as_slice())
+    }
+
+    /// Returns the partial of a query over the loaded tables: their row counts, bounds and span of keys,
+    /// and the outcome of the query's plain program, if the query fits.
+    pub fn partial(&self, alloc: Global, query: &[u8]) -> Result<Partial, EngineFault>
+        ensures { MatchResult result (λ partial.
+            IsPartialOver self.now.visits self.now.database query.now (contents_of partial))
+            (OrMemory (IsNoQuery query.now)) }
+    {
+        partial_of(alloc, &self.catalogue, query, self.limits)
     }
 
     /// Verifies a question over the loaded tables, for runs that are measured.

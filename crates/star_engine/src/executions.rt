@@ -5,10 +5,11 @@ ghost use Rattle.star_engine.specs.{Answered.HasGained, Answered.IsWritten, Answ
 ghost use Rattle.star_engine.specs.{Private.Steps.IsNotVerified, Private.Steps.IsPart, Tellings.IsProgramForecast, Tellings.telling_of, Trials.IsBoundedReport, Trials.IsNoTrialOver, declared.fault.EngineFault.TheVariants.Write};
 
 use crate::fault::EngineFault;
-use crate::notes::{counts_note, forecast_note, program_note, quote_note};
+use crate::notes::{forecast_note, program_note, quote_note};
 use star_catalogue::Catalogue;
 use star_common::{Sink, write_whole};
 use star_machine::{run, trial};
+use star_partial::counts_text;
 use star_program::Program;
 use star_report::report_text;
 use star_safety::law::admissible_programs_within_the_limit_are_not_refused;
@@ -61,7 +62,7 @@ pub fn run_text(alloc: Global, verified: &Verified<'_>) -> Result<Told, AllocErr
     let outcome = run(alloc, verified)?;
     let quoted = quote_note(alloc, verified.quote())?;
     let report = report_text(alloc, &outcome)?;
-    let done = counts_note(alloc, &outcome)?;
+    let done = counts_text(alloc, &outcome)?;
     Ok(Told {
         quoted,
         report,

@@ -3,6 +3,7 @@
 
 mod benchmark;
 mod calls;
+mod digest;
 mod engine;
 mod executions;
 mod fault;
@@ -10,10 +11,12 @@ mod input;
 pub mod law;
 mod listing;
 mod notes;
+mod partials;
 mod parts;
 pub mod query_laws;
 mod question;
 mod reading;
+mod spans;
 mod thirteen;
 
 pub use calls::{

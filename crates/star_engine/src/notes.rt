@@ -1,10 +1,10 @@
 // The notes of a run.
 
 ghost use Rattle.std.specs.Prelude.{◌≡◌, IfOk, string_bytes};
-ghost use Rattle.star_engine.specs.{Executions.IsQuote, Executions.quote_over, Notes.counts_line, Notes.forecast_line, Notes.quote_line, Tellings.most_rows_over};
+ghost use Rattle.star_engine.specs.{Executions.IsQuote, Executions.quote_over, Notes.forecast_line, Notes.quote_line, Tellings.most_rows_over};
 
 use star_catalogue::Catalogue;
-use star_program::{Outcome, Program};
+use star_program::Program;
 use star_verify::{Verified, quote};
 use std::alloc::{AllocError, Global};
 
@@ -37,19 +37,4 @@ pub(crate) fn forecast_note(alloc: Global, verified: &Verified<'_>) -> Result<St
     let visits = verified.quote();
     let rows = verified.most_rows();
     format!(in alloc; "quote {visits} rows {rows}\n")
-}
-
-// Returns the note of a run's counts.
-#[tactic(auto, unfolding(crate::specs::Notes::counts_line))]
-pub(crate) fn counts_note(alloc: Global, outcome: &Outcome) -> Result<String, AllocError>
-    ensures { IfOk result (λ note. string_bytes note
-        ≡ counts_line outcome.now.visits outcome.now.lookups outcome.now.updates) }
-{
-    let Outcome {
-        visits,
-        lookups,
-        updates,
-        ..
-    } = outcome;
-    format!(in alloc; "visits {visits} lookups {lookups} updates {updates}\n")
 }
