@@ -16,4 +16,4 @@ mod expressions;
 mod operands;
 mod values;
 
-pub use compiler::compile;
+pub use compiler::{compile, compile_plain};
