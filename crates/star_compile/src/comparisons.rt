@@ -89,54 +89,6 @@ impl Emitter {
         }
     }
 
-    // Compiles a test whether the value is at most the literal.
-    fn at_most(
-        &mut self,
-        column: ColumnId,
-        value: u16,
-        literal: &Literal,
-    ) -> Result<u16, AllocError>
-        requires room { HasRegisterRoom self.old
-            (spec.test_code sign.AtMost column value (literal_value_view literal.now)) }
-        ensures written { IfOk result (Writes self.old self.new
-            (spec.test_code sign.AtMost column value (literal_value_view literal.now))) }
-    {
-        match literal {
-            Literal::Number(number) => {
-                let bound = Operation::Const { number: *number };
-                self.value_first(Operator::LessOrEqual, value, bound)
-            }
-            Literal::Text(text) => {
-                let end = edge_of(Edge::High, column, text)?;
-                self.value_first(Operator::Less, value, end)
-            }
-        }
-    }
-
-    // Compiles a test whether the value is greater than the literal.
-    fn greater(
-        &mut self,
-        column: ColumnId,
-        value: u16,
-        literal: &Literal,
-    ) -> Result<u16, AllocError>
-        requires room { HasRegisterRoom self.old
-            (spec.test_code sign.Greater column value (literal_value_view literal.now)) }
-        ensures written { IfOk result (Writes self.old self.new
-            (spec.test_code sign.Greater column value (literal_value_view literal.now))) }
-    {
-        match literal {
-            Literal::Number(number) => {
-                let bound = Operation::Const { number: *number };
-                self.operand_first(Operator::Less, bound, value)
-            }
-            Literal::Text(text) => {
-                let end = edge_of(Edge::High, column, text)?;
-                self.operand_first(Operator::LessOrEqual, end, value)
-            }
-        }
-    }
-
     /// Compiles a comparison of a column's value, in a register, with a literal.
     pub(crate) fn compare(
         &mut self,
@@ -161,8 +113,26 @@ impl Emitter {
                 let start = start_of(column, literal)?;
                 self.value_first(Operator::Less, value, start)
             }
-            Relation::AtMost => self.at_most(column, value, literal),
-            Relation::Greater => self.greater(column, value, literal),
+            Relation::AtMost => match literal {
+                Literal::Number(number) => {
+                    let bound = Operation::Const { number: *number };
+                    self.value_first(Operator::LessOrEqual, value, bound)
+                }
+                Literal::Text(text) => {
+                    let end = edge_of(Edge::High, column, text)?;
+                    self.value_first(Operator::Less, value, end)
+                }
+            },
+            Relation::Greater => match literal {
+                Literal::Number(number) => {
+                    let bound = Operation::Const { number: *number };
+                    self.operand_first(Operator::Less, bound, value)
+                }
+                Literal::Text(text) => {
+                    let end = edge_of(Edge::High, column, text)?;
+                    self.operand_first(Operator::LessOrEqual, end, value)
+                }
+            },
             Relation::AtLeast => {
                 let start = start_of(column, literal)?;
                 self.operand_first(Operator::LessOrEqual, start, value)
