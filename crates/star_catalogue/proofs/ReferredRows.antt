@@ -11,10 +11,6 @@ use Rattle.star_flat.proofs.Pushed.{pushed_cases}
 use Rattle.star_reader.proofs.RowPlaces.{length-numbers_at}
 use Rattle.star_catalogue.proofs.Copies.{copied_more}
 
--- the rows of the first numbers, and of one more
-pub none_found : (keys : List (List ℤ)) (numbers : List ℤ) → AreFound keys (take 0 numbers) []
-none_found keys numbers = record { found = refl }
-
 pub found_more : (keys : List (List ℤ)) (numbers : List ℤ) (rows more : List ℕ) (i : ℕ) (number : ℤ)
     (row : ℕ) → AreFound keys (take i numbers) rows → more ≡ rows ++ row ∷ []
     → slice_get numbers i ≡ Some number → slice_get keys row ≡ Some (number ∷ [])
@@ -27,11 +23,6 @@ found_more keys numbers rows more i number row so_far pushed at key =
           ∙ rw (so_far.found, key) refl
           ∙ sym (map-append (λ (n : ℤ). Some (n ∷ [])) (take i numbers) (number ∷ []));
     })
-
-pub found_all : (keys : List (List ℤ)) (numbers : List ℤ) (rows : List ℕ) (i : ℕ)
-    → length numbers ≤ i
-    → AreFound keys (take i numbers) rows → AreFound keys numbers rows
-found_all keys numbers rows i all found = rw (take_all i numbers all) at found
 
 -- a number that no row has as its key
 pub absent_one : (keys : List (List ℤ)) (numbers : List ℤ) (i : ℕ) (number : ℤ)
@@ -117,11 +108,6 @@ of_column database kept c are =
       are.each (index_of c) c (rows_view kept c) (at_index c)
           (slice_get-get_or kept.rows.items (index_of c) [] within),
     )
-
--- the join index of a column that refers to a table is kept
-pub index_kept : (database : Database) (kept : Referred) (c : ColumnId) → AreReferred database kept
-    → index_of c < length kept.rows.items
-index_kept database kept c are = (of_column database kept c are).0
 
 -- all rows of a column that refers to a table
 pub are_rows : (database : Database) (kept : Referred) (c : ColumnId) → AreReferred database kept

@@ -17,14 +17,6 @@ module _ {X : Type 0} (p : X → Bool) (xs : List X) where
       → (d : X) → p (get_or xs i d) ≡ b
   test_at i x b read e d = ap p (get_or_from_slice_get xs i x d read) ∙ e
 
-  pub found_all : Found p xs 0 (length xs)
-  found_all = record {
-    order = omega arith;
-    within = omega arith;
-    passes = λ k d h. absurd (omega arith);
-    fails = λ k d h l. absurd (omega arith);
-  }
-
   pub found_above : (low high mid : ℕ) → IsPartitionedBy p xs → Found p xs low high → mid < high
       → ((d : X) → p (get_or xs mid d) ≡ true) → Found p xs (mid + 1) high
   found_above low high mid parts f h e = record {

@@ -9,12 +9,6 @@ use Rattle.star_merge_laws.proofs.Totals.{totals_either}
 abbrev shown : {K : Type 0} → List (Option K) → List K
 shown ms = flat_map option_to_list ms
 
-plain_is : {K : Type 0} (ms : List (Option K)) → is_grouping Plain ms ≡ true
-    → ms ≡ map Some (shown ms)
-plain_is [] h = refl
-plain_is (Some m ∷ ms) h = ap (λ rest. Some m ∷ rest) (plain_is ms h)
-plain_is (None ∷ ms) h = absurd (true≢false (sym h))
-
 shown_of : {K : Type 0} (ks : List K) → shown (map Some ks) ≡ ks
 shown_of [] = refl
 shown_of (k ∷ ks) = ap (λ rest. k ∷ rest) (shown_of ks)

@@ -220,12 +220,6 @@ led_finer (sort ∷ sorts) rows i j =
 
 -- ---- the rows of a group
 
-pub led_total : (sorts : List SortKey) (rows : List GroupRow) → IsTotalOrder (led_cmp sorts rows)
-led_total sorts rows = then_total
-    (then_total (on_total (λ (led : Led). led.lead) int_cmp_total)
-    (on_total (λ (led : Led). led.next) int_cmp_total))
-    (on_total (λ (led : Led). row_view (row_at rows led.number)) (row_total sorts))
-
 numbered : (rows : List GroupRow) → map (row_at rows) (range_with_len 0 (length rows)) ≡ rows
 numbered rows =
     let none : GroupRow = record { keys = []; aggregates = [] } in

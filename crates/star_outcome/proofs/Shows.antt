@@ -11,23 +11,6 @@ if_none : (b : Bool) (o : Option ℕ) (line : ℕ) → (if b then o else Some li
 if_none true o line e = (refl, e)
 if_none false o line e = cc e
 
-each_shown : (d : GroupDecl) (line : ℕ) (shows : List Show) (more : List GroupColumn)
-    → first_unshown d line (map (λ show. show.column) shows ++ more) ≡ None
-    → AllByRecursion (λ show. has_column d show.column ≡ true) shows
-each_shown d line [] more e = tt
-each_shown d line (show ∷ shows) more e =
-    let both = if_none (has_column d show.column)
-    (first_unshown d (line + 1) (map (λ s. s.column) shows ++ more)) line e in
-    (both.0, each_shown d (line + 1) shows more both.1)
-
-pub shows_are_there : (parts : Parts) → shown_fault parts ≡ None
-    → All (λ show. has_column (group_at parts parts.report) show.column ≡ true) parts.shows
-shows_are_there parts e =
-    let d = group_at parts parts.report in
-    let lines = (if_none (reports parts) (first_unshown d 1 (named_columns parts)) 0 e).1 in
-    All-from_recursion (λ show. has_column d show.column ≡ true) parts.shows
-    (each_shown d 1 parts.shows _ lines)
-
 -- the reported group is there, and so has few keys
 pub few_keys : (parts : Parts) → IsWithinLimits parts → shown_fault parts ≡ None
     → length (group_at parts parts.report).keys ≤ 6

@@ -97,23 +97,3 @@ strictly R order (row ∷ rows) level up apart =
         true≢false (sym ((key_decides (get_or (map keys_of_row (row ∷ rows)) k row.keys)
         (get_or (map keys_of_row (row ∷ rows)) (k + 1) row.keys)).1 (first ∙ same ∙ sym second))
         ∙ told)
-
-pub sorted_rows : (sorts : List SortKey) (count : ℕ) (old new : List GroupRow) → AreApart old
-    → ((a b : GroupRow) → Contains old a → Contains old b
-    → AreAlike count (row_view a) (row_view b))
-    → IsPermutation old new
-    → IsSortedBy (λ a b. is_lt (shown_cmp (all_sorts sorts count) a b)) new
-    → AreInOrder key_value_cmp sorts (map row_view new)
-sorted_rows sorts count old new apart alike moved up =
-    let back = IsPermutation-sym old new moved in
-    let all = all_sorts sorts count in
-    let each : (a b : GroupRow) → Contains new a → Contains new b
-    → AreAlike count (row_view a) (row_view b) =
-    λ a b in_a in_b. alike a b (Contains-permutation new old a back in_a)
-    (Contains-permutation new old b back in_b) in
-    sorted_mapped row_view (shown_cmp all) (row_cmp key_value_cmp sorts) new
-    (λ a b in_a in_b. same_order sorts count (row_view a) (row_view b) (each a b in_a in_b))
-    (strictly (shown_cmp all) (on_total row_view (row_total all)) new
-    (λ a b in_a in_b. rows_level sorts count (row_view a) (row_view b) (each a b in_a in_b)) up
-    (IsDistinct-IsPermutation key_eq key_equiv.symm (map keys_of_row old)
-    (map keys_of_row new) (IsPermutation-map keys_of_row old new moved) apart))

@@ -226,18 +226,6 @@ items_known groups before (tree.aggregate a ∷ is') all =
       λ i. option_both (λ x xs. x ∷ xs) (Some (group.Aggregate before)) (cs.1 i),
     )
 
-pub order_known : (groups : List Name) (names : List (List ℕ)) (ks : List SortKey)
-    → AllByRecursion (λ k. key_fault groups names k ≡ None) ks
-    → (ss : List sorted.SortKey) × (option_all (resolved_key groups names) ks ≡ Some ss)
-order_known groups names [] all = ([], refl)
-order_known groups names (k ∷ ks) all =
-    let c = is_there _ (order_sought groups names k.name.text ∙ named_of _ _ all.0) in
-    let ss = order_known groups names ks all.1 in (
-      record { column = c.0; direction = k.direction } ∷ ss.0,
-      λ i. option_both (λ x xs. x ∷ xs)
-          (option_map (λ d. record { column = d; direction = k.direction }) (c.1 i)) (ss.1 i),
-    )
-
 -- ---- joins
 
 joined_table : (ps : List Pair) (t : TableId) → is_joined ps t ≡ joins_table (joins_of ps) t

@@ -15,11 +15,6 @@ ended_open (b ∷ text) = elim (cases_Bool (list_any ends_line (b ∷ text))) [
   | inr none ↦ rw none refl
 ]
 
-none_ended : (text : List ℕ) → list_any ends_line text ≡ false → ended_of text ≡ []
-unfolding ended_of
-none_ended [] h = refl
-none_ended (b ∷ text) h = rw h refl
-
 some_ended : (text : List ℕ) → list_any ends_line text ≡ true → ended_of text ≡ [] → ⊥
 unfolding ended_of
 some_ended [] h e = true≢false (sym h)

@@ -36,10 +36,6 @@ begun table most progress columns empty rows stands start = record {
   so_far = λ more. rw rows (ap (map (row_of table)) (sym (append-nil (records_of more))));
 }
 
-or_nothing : {A : Type 0} (a : Option A) → option_or a None ≡ a
-or_nothing None = refl
-or_nothing (Some x) = refl
-
 -- a part without a byte has no fault
 no_part : (table : TableId) (most from : ℕ) (parts : List (List ℕ))
     → parts_fault table most from (parts ++ [] ∷ []) ≡ parts_fault table most from parts

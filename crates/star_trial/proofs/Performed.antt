@@ -56,16 +56,3 @@ module _ (database : Database) (parts : Parts) (registers : Registers) (run : Ru
       made (Number z) (fits_register (Number z)) result tt
       (subst (λ (a : Option Value).
       MatchOption a (result ≡ Err (stop.Trap Overflow)) (λ value. result ≡ Ok value)) shown is)
-
--- a put that is refused
-pub put_stops : (d : GroupDecl) (registers : Registers) (s : State) (g : ℕ) (update : Update)
-    (fault : PutFault) → (fault ≡ memory.OutOfMemory)
-    ⊎ (overflows d.shape d.aggregates (s.updates_of g) update ≡ true)
-    → IsActStopped (puts_update d registers s g update) (stop_of_put fault)
-put_stops d registers s g update memory.OutOfMemory why = tt
-put_stops d registers s g update memory.Overflow why =
-    ⊎_elim {C = puts_update d registers s g update ≡ Traps Overflow}
-    (λ memory. absurd (apart memory)) (λ leaves. ap (puts registers s g update) leaves) why
-  where
-    apart : memory.Overflow ≡ memory.OutOfMemory → ⊥
-    apart e = cc

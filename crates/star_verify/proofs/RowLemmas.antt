@@ -184,19 +184,6 @@ one_more u Rollup has_shown true lists c cs may = rollup_hidden u has_shown list
 one_more u Rollup has_shown false lists c cs may = rollup_more u has_shown lists c cs
 one_more u Cube has_shown has_hidden lists c cs may = cube_more u has_shown has_hidden lists c cs
 
--- a front that may be hides no key of a plain group
-pub may_be_shown : (s : Shape) (has_hidden : Bool) → may_show s has_hidden ≡ true
-    → MayHide s has_hidden
-may_be_shown Plain false e = tt
-may_be_shown Plain true e = absurd (true≢false (sym e))
-may_be_shown Cube has_hidden e = tt
-may_be_shown Rollup has_hidden e = tt
-
-pub may_be_hidden : (s : Shape) → may_hide s ≡ true → MayHide s true
-may_be_hidden Plain e = absurd (true≢false (sym e))
-may_be_hidden Cube e = tt
-may_be_hidden Rollup e = tt
-
 -- ---- no key more
 
 pub no_more : (u : ℕ) (s : Shape) (has_shown has_hidden : Bool) (lists : ℕ) → MayHide s has_hidden
