@@ -1,5 +1,5 @@
 -- Keys that all differ stand at their positions.
-use Rattle.std.proofs.Common.{◌≡◌, ◌≢◌, ◌<◌, ◌∙◌, ℕ, ℤ, List, AllPairs, true, Option, Some, None, get_or, length, refl, sym, inl, inr, arith, nat_lt, position}
+use Rattle.std.proofs.Common.{◌≡◌, ◌≢◌, ◌<◌, ◌∙◌, ℕ, ℤ, List, AllPairs, true, Some, get_or, length, refl, sym, inl, inr, arith, nat_lt, position}
 use Rattle.std.proofs.{lemmas.Bool.cases_Bool, lemmas.Bool.Decides.Decides-int_eq, lemmas.Bool.Decides.nat_tests, lemmas.List.Quantifiers.position-Some, lemmas.List.Sums.position_or_len_is, lemmas.Option.get_or_from_slice_get, lemmas.Option.slice_get-get_or, lemmas.Option.slice_get_within}
 use Rattle.std.specs.{List.position_or_len, Ordering.int_eq}
 use Rattle.star_catalogue.specs.Private.Places.{ArePlaces, StandsAt}
@@ -40,20 +40,3 @@ positions_are_places keys apart = record {
   found = λ key place.
       (stands_at_position keys key place, position_of_standing keys apart key place);
 }
-
-some_is : (f g : ℤ → Option ℕ) (keys : List ℤ) → ArePlaces int_eq f keys → ArePlaces int_eq g keys
-    → (key : ℤ) (place : ℕ) → f key ≡ Some place → g key ≡ Some place
-some_is f g keys hf hg key place is = (hg.found key place).1 ((hf.found key place).0 is)
-
--- what leads each key to where it stands is one
-pub one_place : (f g : ℤ → Option ℕ) (keys : List ℤ) → ArePlaces int_eq f keys
-    → ArePlaces int_eq g keys → (key : ℤ) → f key ≡ g key
-one_place f g keys hf hg key = by_case (f key) (g key)
-    (λ place is. some_is f g keys hf hg key place is)
-    (λ place is. some_is g f keys hg hf key place is)
-  where
-    by_case : (a b : Option ℕ) → ((place : ℕ) → a ≡ Some place → b ≡ Some place)
-        → ((place : ℕ) → b ≡ Some place → a ≡ Some place) → a ≡ b
-    by_case None None there back = refl
-    by_case None (Some n) there back = let e : None ≡ Some n = back n refl in cc
-    by_case (Some n) b there back = sym (there n refl)

@@ -1,6 +1,6 @@
 -- The rows that foreign keys refer to.
-use Rattle.std.proofs.Common.{◌≡◌, ◌+◌, ◌<◌, ◌≤◌, ◌∷◌, ◌++◌, ◌∙◌, ℕ, ℤ, List, [], All, Contains, IsSome, MatchOption, Option, Some, None, ap, arith, get_or, inl, inr, length, refl, sym, take}
-use Rattle.std.proofs.{lemmas.List.length-append, lemmas.List.length-map, lemmas.List.map-append, lemmas.List.take_all, lemmas.Option.get_or_from_slice_get, lemmas.Option.slice_get-get_or, lemmas.Option.slice_get-map, lemmas.Option.slice_get_within}
+use Rattle.std.proofs.Common.{◌≡◌, ◌+◌, ◌<◌, ◌∷◌, ◌++◌, ◌∙◌, ℕ, ℤ, List, [], All, Contains, IsSome, MatchOption, Option, Some, None, ap, arith, get_or, inl, inr, length, refl, sym, take}
+use Rattle.std.proofs.{lemmas.List.length-append, lemmas.List.length-map, lemmas.List.map-append, lemmas.Option.get_or_from_slice_get, lemmas.Option.slice_get-get_or, lemmas.Option.slice_get-map, lemmas.Option.slice_get_within}
 use Rattle.std.specs.{List.slice_get, Option.option_map}
 use Rattle.star_schema.specs.{declared.column.ColumnId.ColumnId, declared.column.TheConstants.COLUMNS, declared.table.TableId.TableId, Bounds.numbers_of, Database.Database, Database.rows_in, Loadable.RefersTo, Loadable.keys_of, Schema.index_of, Schema.place_of, Schema.references}
 use Rattle.star_schema.specs.{Schema.table_of}

@@ -1,15 +1,12 @@
 -- The codes of texts that were put in order.
-use Rattle.std.proofs.Common.{◌≡◌, ℕ, ◌+◌, ◌-◌, ◌<◌, ◌≤◌, false, List, [], ◌∷◌, ◌++◌, Option, Some, length, get_or, set, take, refl, sym, ap, ◌∙◌, inl, inr, ⊎_elim, arith, subst, true≢false}
+use Rattle.std.proofs.Common.{◌≡◌, ℕ, ◌+◌, ◌-◌, ◌<◌, ◌≤◌, false, List, [], ◌∷◌, ◌++◌, Some, length, get_or, set, take, refl, sym, ap, ◌∙◌, inl, inr, ⊎_elim, arith, subst, true≢false}
 use Rattle.std.proofs.lemmas.List.{ext_get_or, get_or-map, get_or_default, get_or-set_same, get_or-set_other, get_or-take, length-map, length-take}
 use Rattle.std.proofs.{lemmas.Bool.cases_Bool, lemmas.Bool.cases_eq, lemmas.Bool.cases_lt, lemmas.Cmp.nat_list_cmp_total, lemmas.Cmp.tied_itself, lemmas.List.Elements.All-get_or, lemmas.List.Elements.All-more, lemmas.List.Elements.Contains-get_or, lemmas.List.Kept.Contains-from_dedup}
 use Rattle.std.proofs.{lemmas.List.Kept.IsStrictlySortedBy-dedup, lemmas.Map.Keys.Less-from_sorted, lemmas.Map.Lookups.exact_bytes, lemmas.Option.get_or_from_slice_get, lemmas.Option.slice_get-get_or, lemmas.Option.slice_get-map, lemmas.Option.slice_get_within}
-use Rattle.std.specs.{Cmp.Lexicographic.bytes_decides, List.Contains, List.slice_get, List.Sorted.IsStrictlySortedBy, Option.option_map, Option.unwrap_or, Ordering.eq_by_cmp, Ordering.is_eq, declared.cmp.Ordering.Ordering, declared.cmp.Ordering.TheVariants.Less}
+use Rattle.std.specs.{Cmp.Lexicographic.bytes_decides, List.Contains, List.slice_get, List.Sorted.IsStrictlySortedBy, Option.option_map, Ordering.eq_by_cmp, Ordering.is_eq, declared.cmp.Ordering.Ordering, declared.cmp.Ordering.TheVariants.Less}
 use Rattle.std.specs.{declared.cmp.Ordering.TheVariants.Equal, declared.cmp.Ordering.TheVariants.Greater}
 use Rattle.star_flat.specs.{Repeated.AreRepeated, Repeated.texts_at_places, declared.ordered.Numbered.Numbered, Private.Codes.LeadTo, Private.Codes.different, Private.Codes.same_text, Private.Order.AreInTextOrder, Private.Order.numbered_texts, Private.Order.text_at, Private.Order.text_cmp}
 use Rattle.star_flat.proofs.{Different.different_again, Different.different_new, Different.stands_last, Enumerated.nothing, InOrder.number_of}
-
-some_same : {X : Type 0} {x y : X} → Some x ≡ Some y → x ≡ y
-some_same {X} {x} {y} e = ap (λ (o : Option X). unwrap_or o x) e
 
 -- ---- the different ones of texts in order are a dictionary
 ties : (a b : List ℕ) → same_text a b ≡ eq_by_cmp text_cmp a b

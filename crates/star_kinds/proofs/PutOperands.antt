@@ -1,19 +1,9 @@
 -- The keys and numbers of a put, one after another.
-use Rattle.std.proofs.Common.{◌≡◌, ◌<◌, ◌+◌, ℕ, suc, List, Some, None, length, drop, get_or, ap, sym, ◌∙◌, add-one}
+use Rattle.std.proofs.Common.{◌≡◌, ◌+◌, ℕ, suc, List, Some, None, drop, ap, sym, ◌∙◌, add-one}
 use Rattle.std.proofs.{Math.Seq.drop-cons, lemmas.Option.slice_get_within, lemmas.Option.get_or_from_slice_get}
 use Rattle.std.specs.{Prelude.slice_get, Option.option_or}
-use Rattle.star_program.specs.Faults.{Kinds, operand_fault, numbers_fault, keys_fault, is_number_kind, fits_key}
+use Rattle.star_program.specs.Faults.{Kinds, operand_fault, keys_fault, fits_key}
 use Rattle.star_program.specs.{declared.fault.Fault.Fault, declared.group.GroupKey.GroupKey}
-
-pub next_number : (n : ℕ) (kinds : Kinds) (rs : List ℕ) (i : ℕ) (r : ℕ) → i < length rs
-    → r ≡ get_or rs i r → operand_fault n kinds is_number_kind r ≡ None
-    → numbers_fault n kinds (drop i rs) ≡ numbers_fault n kinds (drop (i + 1) rs)
-next_number n kinds rs i r within is fine =
-    ap (numbers_fault n kinds) (drop-cons rs i r within)
-    ∙ ap (λ q. option_or (operand_fault n kinds is_number_kind q)
-    (numbers_fault n kinds (drop (suc i) rs))) (sym is)
-    ∙ ap (λ o. option_or o (numbers_fault n kinds (drop (suc i) rs))) fine
-    ∙ ap (λ j. numbers_fault n kinds (drop j rs)) (sym (add-one i))
 
 here : (n : ℕ) (kinds : Kinds) (ks : List GroupKey) (rs : List ℕ) (i : ℕ) (k : GroupKey) (r : ℕ)
     → slice_get ks i ≡ Some k → slice_get rs i ≡ Some r

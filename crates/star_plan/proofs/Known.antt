@@ -12,12 +12,12 @@ use Rattle.star_schema.specs.declared.group.SortKey as sorted
 use Rattle.star_common.specs.First.{first_answer}
 use Rattle.star_schema.proofs.NamesApart.{table_by_name}
 use Rattle.star_query.specs.Tree as tree
-use Rattle.star_query.specs.Tree.{Item, Name, SortKey, Expression, column, constant, add, sub, mul, or, and, not, test, compare, between, Measure, count, fold}
+use Rattle.star_query.specs.Tree.{Item, Name, Expression, column, constant, add, sub, mul, or, and, not, test, compare, between, Measure, count, fold}
 use Rattle.star_plan.specs.{declared.tree.Join.Join, Names.column_at, Names.has_name, Names.is_of, Names.table_at, Names.table_called}
-use Rattle.star_plan.specs.{Uses.Use, Uses.expression_uses, Uses.measure_uses, Uses.where_uses, Private.Stages.condition_uses, Private.Stages.groups_uses, Private.Stages.items_uses, Private.Stages.resolved_measures, Naming.key_column, Naming.resolved_key}
+use Rattle.star_plan.specs.{Uses.Use, Uses.expression_uses, Uses.measure_uses, Uses.where_uses, Private.Stages.condition_uses, Private.Stages.groups_uses, Private.Stages.items_uses, Private.Stages.resolved_measures, Naming.key_column}
 use Rattle.star_plan.specs.{WellNamed.is_grouped, WellNamed.is_in_from, WellNamed.is_reached, Joins.Pair, Joins.is_joined, Joins.joins_of, Joins.pairs_of, Joins.where_pairs}
-use Rattle.star_plan.proofs.{Apart.each, Sought.is_there, Sought.key_sought, Sought.order_sought}
-use Rattle.star_plan.specs.Faults.{item_fault, key_fault, use_kind_fault, missing_fault, scope_fault}
+use Rattle.star_plan.proofs.{Apart.each, Sought.is_there, Sought.key_sought}
+use Rattle.star_plan.specs.Faults.{item_fault, use_kind_fault, missing_fault, scope_fault}
 use Rattle.star_plan.specs.Resolved.{conjuncts_of, where_conjuncts, items_from, option_all, option_both, resolved_condition, resolved_expression, resolved_measure}
 use Rattle.star_plan.specs.Sound.{condition_is_sound, expression_is_sound, in_scope, joins_table, measure_is_sound}
 

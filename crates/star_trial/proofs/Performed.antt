@@ -1,13 +1,12 @@
 -- What an instruction does, by what was computed for it.
-use Rattle.std.proofs.Common.{◌≡◌, ◌⊎◌, ⊎_elim, ℕ, ℤ, Bool, true, false, Some, None, Option, refl, ap, sym, subst}
+use Rattle.std.proofs.Common.{◌≡◌, ℕ, ℤ, Bool, true, false, Some, None, Option, refl, sym, subst}
 use Rattle.std.specs.Prelude.{Result, Ok, Err, MatchOption, if◌then◌else◌}
 use Rattle.star_schema.specs.Database.{Database}
-use Rattle.star_program.specs.Effects.{State, Effect, GoesOn, Traps, answer_of, fits_register, unless_trap}
+use Rattle.star_program.specs.Effects.{State, Effect, GoesOn, answer_of, fits_register, unless_trap}
 use Rattle.star_program.specs.{declared.op.Operator.Operator, declared.op.Operator.TheVariants.Add, declared.op.Operator.TheVariants.Sub, declared.op.Operator.TheVariants.Mul, declared.op.Operator.TheVariants.Less, declared.program.Parts.Parts, Faults.unless, Private.Doing.fitting}
-use Rattle.star_program.specs.{Private.Doing.puts, Private.Doing.puts_update, Private.Doing.sets_answer, declared.fault.TrapKind.TheVariants.Overflow, Puts.Update, Puts.overflows, declared.group.GroupDecl.GroupDecl, declared.value.Value.Value, declared.value.Value.TheVariants.Number}
+use Rattle.star_program.specs.{Private.Doing.sets_answer, declared.fault.TrapKind.TheVariants.Overflow, declared.value.Value.Value, declared.value.Value.TheVariants.Number}
 use Rattle.star_program.specs.{Values.Registers, Values.with_entry}
-use Rattle.star_group.specs.declared.rows.PutFault.{PutFault}
-use Rattle.star_trial.specs.{declared.fault.Stop.Stop, Private.Acts.IsActStopped, Private.Acts.IsValueMade, Private.Acts.Sets, Private.Stops.stop_of_put, Private.Runs.HasDone, Private.Runs.Run}
+use Rattle.star_trial.specs.{declared.fault.Stop.Stop, Private.Acts.IsValueMade, Private.Acts.Sets, Private.Runs.HasDone, Private.Runs.Run}
 use Rattle.star_outcome.specs.Sound.{IsSoundValue}
 use Rattle.star_group.specs.declared.rows.PutFault.TheVariants as memory
 use Rattle.star_trial.specs.declared.fault.Stop.TheVariants as stop

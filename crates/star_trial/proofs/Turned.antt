@@ -1,6 +1,6 @@
 -- One step of a walk, and one turn of a scan.
-use Rattle.std.proofs.Common.{◌≡◌, ◌<◌, ◌≤◌, ◌+◌, ◌-◌, ◌*◌, ℕ, suc, Bool, true, false, List, length, drop, get_or, arith, ap, sym, subst, ◌∙◌, refl}
-use Rattle.std.proofs.{lemmas.Bool.lt-ltb, Math.Nat.mul-le-mul_right, Math.Nat.suc-mul}
+use Rattle.std.proofs.Common.{◌≡◌, ◌<◌, ◌≤◌, ◌+◌, ◌-◌, ◌*◌, ℕ, Bool, true, false, List, length, drop, get_or, arith, ap, sym, subst, ◌∙◌, refl}
+use Rattle.std.proofs.{lemmas.Bool.lt-ltb, Math.Nat.mul-le-mul_right}
 use Rattle.std.specs.Prelude.{nat_lt}
 use Rattle.star_schema.specs.{declared.table.TableId.TableId, Database.Database}
 use Rattle.star_program.specs.Run.{End, after, begin, follow, meaning, scans, turns, visited}
@@ -59,9 +59,6 @@ rest_deep table r n frames body rest h =
     (deeper_right (nat_lt (1 + scan_depth body) (scan_depth rest)) (1 + scan_depth body)
     (scan_depth rest) (scan_depth (Each table r body rest)) refl (omega arith)) in
     omega (arith, deep, h)
-
-one_more : (d n : ℕ) → (1 + d) * n ≡ d * n + n
-one_more d n = let e : 1 + d ≡ suc d = omega arith in ap (λ m. m * n) e ∙ suc-mul d n
 
 -- ---- what is left of a walk
 

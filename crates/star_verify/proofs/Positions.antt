@@ -1,10 +1,7 @@
 -- What is so of an instruction with which nothing is wrong by its kinds.
-use Rattle.std.proofs.Common.{◌≡◌, ◌<◌, ℕ, Bool, false, Option, Some, None, refl}
-use Rattle.star_verify.proofs.Common.{BadRegister, Decides-ltb, Fault, Faulty, false, nat_lt, option_map, target_fault, unless_none, ◌||◌}
+use Rattle.std.proofs.Common.{◌≡◌, ℕ, Bool, false, Option, Some, None, refl}
+use Rattle.star_verify.proofs.Common.{Fault, Faulty, false, option_map, ◌||◌}
 use Rattle.star_verify.proofs.Marks.{or_none as none_or}
-
-pub is_declared : (n t : ℕ) → target_fault n (Some t) ≡ None → t < n
-is_declared n t fine = (Decides-ltb t n).0 (unless_none (nat_lt t n) BadRegister fine)
 
 pub no_fault : (o : Option Fault) → option_map Faulty o ≡ None → o ≡ None
 no_fault None e = refl

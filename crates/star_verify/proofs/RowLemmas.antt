@@ -1,5 +1,5 @@
 -- The rows of all groupings, key by key.
-use Rattle.std.proofs.Common.{◌≡◌, ℕ, zero, suc, ◌+◌, ◌*◌, ◌-◌, ◌^◌, ◌≤◌, ◌<◌, Bool, true, false, List, [], ◌∷◌, Option, Some, None, length, map, refl, sym, ap, ◌∙◌, arith, inl, inr, ⊎_elim, true≢false}
+use Rattle.std.proofs.Common.{◌≡◌, ℕ, zero, suc, ◌+◌, ◌*◌, ◌-◌, ◌^◌, ◌≤◌, ◌<◌, Bool, true, false, List, [], ◌∷◌, Option, Some, None, length, map, refl, sym, ap, ◌∙◌, arith, inl, inr, ⊎_elim}
 use Rattle.star_verify.proofs.Common.{AgreeUpTo, Cube, MayHide, Parts, Plain, Rollup, Shape, World, all_key_shares, each_values, filter-append, group_at, grouping_goes_on, groupings, if◌then◌else◌, ints, is_grouping, is_none, leb-false, lesser, list_all, lists_of, masks, may_hide, may_show, most_of, most_report_rows, mul-le-mul_left, mul_assoc, nat_le, negsuc, not, numbers_to, pos, rows_behind, rows_of_grouping, rows_of_groupings, rows_of_rest, sum_by, sum_by-append, sum_by-cons, unsigned_abs, width, ℤ, ◌&&◌, ◌-ℤ◌, ◌≤ℤ◌}
 use Rattle.std.specs.Prelude.{filter}
 
@@ -185,15 +185,6 @@ one_more u Rollup has_shown false lists c cs may = rollup_more u has_shown lists
 one_more u Cube has_shown has_hidden lists c cs may = cube_more u has_shown has_hidden lists c cs
 
 -- ---- no key more
-
-pub no_more : (u : ℕ) (s : Shape) (has_shown has_hidden : Bool) (lists : ℕ) → MayHide s has_hidden
-    → rows_behind u s has_shown has_hidden lists [] ≡ rows_of_rest u has_shown lists []
-no_more u Plain has_shown false lists may = omega arith
-no_more u Plain has_shown true lists may = absurd may
-no_more u Cube has_shown false lists may = omega arith
-no_more u Cube has_shown true lists may = omega arith
-no_more u Rollup has_shown false lists may = omega arith
-no_more u Rollup has_shown true lists may = omega arith
 
 pub shown_none : (u lists : ℕ) → rows_of_rest u true lists [] ≡ lesser u lists
 unfolding rows_of_rest

@@ -110,9 +110,6 @@ opens_push (s ∷ os) o =
     ∙ sym (append_assoc (code_says s.before) (says.Scan s.table s.target ∷ opens_say os)
     (code_says o.before ++ says.Scan o.table o.target ∷ []))
 
-abbrev head_of : Draft → List Statement
-head_of d = says.Header ∷ says.Registers d.registers ∷ []
-
 -- the end of three lists
 behind : (a b c x : List Statement) → a ++ (b ++ (c ++ x)) ≡ (a ++ (b ++ c)) ++ x
 behind a b c x = simp append_assoc
