@@ -1,18 +1,49 @@
 -- Rows with texts for codes: they are in the order of the codes.
-use Rattle.std.proofs.Common.{◌≡◌, ℕ, zero, suc, List, [], ◌∷◌, Option, Some, None, get_or, map, sym, refl, ◌∙◌}
+use Rattle.std.proofs.Common.{◌≡◌, inl, inr, ℕ, zero, suc, List, [], ◌∷◌, Option, Some, None, length, get_or, map, replicate, sym, subst, refl, ◌∙◌}
 use Rattle.std.proofs.{lemmas.Option.slice_get-get_or}
-use Rattle.std.specs.{List.Contains, Cmp.Lexicographic.slice_cmp, Option.option_map, Ordering.ordering_then}
+use Rattle.std.specs.{List.AllByRecursion, List.Contains, Cmp.Lexicographic.slice_cmp, Option.option_map, Ordering.ordering_then}
 use Rattle.star_schema.specs.Order.{AreInOrder, column_cmp, key_cmp, row_cmp, sort_cmp, value_cmp}
-use Rattle.star_schema.specs.{Database.Database, declared.group.GroupColumn.GroupColumn, declared.group.Direction.Direction, declared.group.Direction.TheVariants.Ascending, declared.group.Direction.TheVariants.Descending, declared.group.SortKey.SortKey}
-use Rattle.star_schema.specs.{Groups.GroupRow as Row, Columns.column_dictionary, Columns.column_texts}
+use Rattle.star_schema.specs.{Database.Database, declared.group.GroupColumn.GroupColumn, declared.group.Direction.Direction, declared.group.Direction.TheVariants.Ascending, declared.group.Direction.TheVariants.Descending, declared.group.Shape.Shape, declared.group.SortKey.SortKey}
+use Rattle.star_schema.specs.{Groups.GroupRow as Row, Groups.IsGroup, Groups.IsMasked, Columns.column_dictionary, Columns.column_texts}
 use Rattle.star_schema.proofs.{Dictionaries.IsDictionary-dictionary_of, TextPlaces.nat_cmp-places}
-use Rattle.star_program.specs.{declared.group.GroupDecl.GroupDecl, declared.group.GroupKey.GroupKey, declared.key.KeyValue.KeyValue, declared.key.KeyValue.TheVariants.Number, declared.key.KeyValue.TheVariants.Code, Outcome.decoded, Outcome.decoded_keys, Outcome.decoded_row}
-use Rattle.star_outcome.specs.{Private.Decoded.AreDecodable, Private.Decoded.IsDecodable, SoundKeys.IsSoundKey}
+use Rattle.star_common.proofs.Members.{at_each}
+use Rattle.star_program.specs.{declared.group.GroupDecl.GroupDecl, declared.group.GroupKey.GroupKey, declared.key.KeyValue.KeyValue, declared.key.KeyValue.TheVariants.Number, declared.key.KeyValue.TheVariants.Code, Outcome.decoded, Outcome.decoded_keys, Outcome.decoded_row, Puts.Update}
+use Rattle.star_outcome.specs.{Private.Decoded.AreDecodable, Private.Decoded.IsDecodable, SoundKeys.AreSoundKeys, SoundKeys.IsSoundKey}
 use Rattle.star_world.specs.WorldOf.{world_of}
 use Rattle.star_outcome.proofs.SortedRows.{sorted_mapped}
 use Rattle.star_schema.specs.declared.group.GroupColumn.TheVariants as column
 use Rattle.star_program.specs.declared.group.GroupKey.TheVariants as declared
 use Rattle.star_program.specs.Keys as by_code
+
+-- ---- keys as declared
+
+masked_decodable : (db : Database) (ds : List GroupKey) (ms : List (Option KeyValue))
+    (ks : List KeyValue) → IsMasked ms ks → AreSoundKeys db ds ks → AreDecodable db ds ms
+masked_decodable db [] [] [] h sound = tt
+masked_decodable db [] ms (k ∷ ks) h sound = absurd sound
+masked_decodable db [] (Some m ∷ ms) [] h sound = absurd h
+masked_decodable db [] (None ∷ ms) [] h sound = absurd h
+masked_decodable db (d ∷ ds) ms [] h sound = absurd sound
+masked_decodable db (d ∷ ds) [] (k ∷ ks) h sound = absurd h
+masked_decodable db (d ∷ ds) (Some m ∷ ms) (k ∷ ks) h sound =
+    (subst (IsSoundKey db d) (sym h.0) sound.0, masked_decodable db ds ms ks h.1 sound.1)
+masked_decodable db (d ∷ ds) (None ∷ ms) (k ∷ ks) h sound =
+    (tt, masked_decodable db ds ms ks h sound.1)
+
+all_decodable : (db : Database) (ds : List GroupKey)
+    → AreDecodable db ds (replicate (length ds) None)
+all_decodable db [] = tt
+all_decodable db (d ∷ ds) = (tt, all_decodable db ds)
+
+-- a group of updates with keys as declared has such keys
+pub group_decodable : (db : Database) (s : Shape) (ds : List GroupKey) (us : List Update)
+    (keys : List (Option KeyValue)) → AllByRecursion (λ u. AreSoundKeys db ds u.keys) us
+    → IsGroup s (length ds) us keys → AreDecodable db ds keys
+group_decodable db s ds us keys sound (shown, inl is) =
+    masked_decodable db ds keys is.0.keys is.2
+    (at_each (λ u. AreSoundKeys db ds u.keys) us is.0 sound is.1)
+group_decodable db s ds us keys sound (shown, inr all) =
+    subst (AreDecodable db ds) (sym all) (all_decodable db ds)
 
 -- ---- a key at a place
 

@@ -1,10 +1,10 @@
 -- Rows sorted by their leads ascend by the order of rows.
 use Rattle.std.proofs.Common.{◌≡◌, ◌+◌, ◌<◌, Bool, true, false, true≢false, ◌<ℤ◌, ◌-ℤ◌, ℕ, ℤ, negsuc, List, [], ◌∷◌, Option, Some, None, length, get_or, map, arith, ap, sym, subst, refl, ◌∙◌}
-use Rattle.std.proofs.{lemmas.Bool.or_parts, lemmas.Bool.Decides.Decides-int_eq, lemmas.Int.ints, lemmas.Int.clamps, lemmas.List.ext_get_or, lemmas.List.Elements.Contains-get_or}
+use Rattle.std.proofs.{lemmas.Bool.or_parts, lemmas.Bool.Decides.Decides-int_eq, lemmas.Int.ints, lemmas.Int.clamps, lemmas.Cmp.int_cmp_total, lemmas.Cmp.on_total, lemmas.Cmp.then_total, lemmas.List.ext_get_or, lemmas.List.Elements.Contains-get_or}
 use Rattle.std.proofs.{lemmas.List.FromFn.get_or-map-range_with_len, lemmas.List.FromFn.length-map-range_with_len, lemmas.List.Sorted.Contains-permutation, lemmas.List.Sorted.IsPermutation-map, lemmas.List.Sorted.IsPermutation-sym, lemmas.Simd.map-map}
 use Rattle.std.specs.Prelude.{IsPermutation, not, int_lt, ◌||◌, if◌then◌else◌}
 use Rattle.std.specs.Ordering.{MatchOrdering, int_cmp, int_eq, is_lt, nat_cmp, ordering_then}
-use Rattle.std.specs.{Cmp.int_cmp_is, Cmp.int_ranks, Cmp.nat_cmp_is, List.Contains, List.range_with_len, List.Sorted.IsSortedBy, Option.option_cmp, declared.cmp.Ordering.Ordering, declared.cmp.Ordering.TheVariants.Less, declared.cmp.Ordering.TheVariants.Equal}
+use Rattle.std.specs.{Cmp.IsTotalOrder, Cmp.int_cmp_is, Cmp.int_ranks, Cmp.nat_cmp_is, List.Contains, List.range_with_len, List.Sorted.IsSortedBy, Option.option_cmp, declared.cmp.Ordering.Ordering, declared.cmp.Ordering.TheVariants.Less, declared.cmp.Ordering.TheVariants.Equal}
 use Rattle.std.specs.{declared.cmp.Ordering.TheVariants.Greater}
 use Rattle.star_schema.specs.{declared.group.GroupColumn.GroupColumn, declared.group.Direction.Direction, declared.group.Direction.TheVariants.Ascending, declared.group.Direction.TheVariants.Descending, declared.group.SortKey.SortKey, Groups.GroupRow as Row, Order.key_cmp}
 use Rattle.star_common.proofs.Members.{from_contains_map}
@@ -12,7 +12,7 @@ use Rattle.star_program.specs.{declared.key.KeyValue.KeyValue, Keys.key_value_cm
 use Rattle.star_group.specs.{declared.group_row.GroupRow.GroupRow, StoreRows.row_at, StoreRows.row_view}
 use Rattle.star_outcome.specs.Private.Leads.{all_lead, code_lead, code_lead_end, column_lead, directed, first_lead, greatest_lead, is_end, key_lead, least_lead, led_at, led_cmp, next_lead, null_lead, number_lead, total_lead}
 use Rattle.star_outcome.specs.{declared.outcome.leads.Led.Led, Private.RowOrder.column_order, Private.RowOrder.directed_order, Private.RowOrder.row_order, Private.RowOrder.sort_order}
-use Rattle.star_outcome.proofs.{SortedRows.shown_cmp, SortedRows.sorted_under}
+use Rattle.star_outcome.proofs.{RowOrders.row_total, SortedRows.shown_cmp, SortedRows.sorted_under}
 use Rattle.star_schema.specs.declared.group.GroupColumn.TheVariants as column
 use Rattle.star_program.specs.declared.key.KeyValue.TheVariants as key
 
@@ -219,6 +219,12 @@ led_finer (sort ∷ sorts) rows i j =
     (directed_same sort.direction (column_lead sort.column a) (column_lead sort.column b) e))
 
 -- ---- the rows of a group
+
+pub led_total : (sorts : List SortKey) (rows : List GroupRow) → IsTotalOrder (led_cmp sorts rows)
+led_total sorts rows = then_total
+    (then_total (on_total (λ (led : Led). led.lead) int_cmp_total)
+    (on_total (λ (led : Led). led.next) int_cmp_total))
+    (on_total (λ (led : Led). row_view (row_at rows led.number)) (row_total sorts))
 
 numbered : (rows : List GroupRow) → map (row_at rows) (range_with_len 0 (length rows)) ≡ rows
 numbered rows =

@@ -7,5 +7,7 @@ pub mod Started
 pub mod RowOrders
 pub mod SortedRows
 pub mod LedRows
+pub mod GroupRows
 pub mod DecodedRows
+pub mod Shows
 pub mod Reported

@@ -1,13 +1,13 @@
 -- The order of rows is an order, it tells rows with different keys apart, and for the rows of one
 -- group it is that of the report.
-use Rattle.std.proofs.Common.{◌≡◌, ◌<◌, ◌<ℤ◌, ℕ, ℤ, pos, List, [], ◌∷◌, Option, Some, None, length, ap, get_or, sym, subst, refl}
+use Rattle.std.proofs.Common.{◌≡◌, ◌<◌, ◌<ℤ◌, ◌+◌, ℕ, ℤ, pos, zero, suc, add-one, true≢false, List, [], ◌∷◌, Option, Some, None, length, drop, arith, ap, get_or, map, sym, subst, refl, ◌∙◌}
 use Rattle.std.proofs.lemmas.Cmp.{back_total, int_cmp_total, nat_cmp_total, on_total, then_total}
-use Rattle.std.proofs.{Math.Dec.ltb, lemmas.Bool.lt-ltb, lemmas.Float.T_from_true}
-use Rattle.std.specs.{Cmp.IsTotalOrder, Cmp.int_cmp_is, Cmp.ranks, Cmp.Lexicographic.options_total, Option.is_some, Ordering.MatchOrdering, Ordering.int_cmp, Ordering.nat_cmp, Ordering.ordering_then}
+use Rattle.std.proofs.{Math.Dec.ltb, Math.Seq.drop-cons, lemmas.Bool.lt-ltb, lemmas.Float.T_from_true, lemmas.List.drop_all}
+use Rattle.std.specs.{Cmp.IsTotalOrder, Cmp.int_cmp_is, Cmp.int_ranks, Cmp.ranks, Cmp.Lexicographic.slice_cmp, Cmp.Lexicographic.options_total, List.range_with_len, Option.is_some, Option.option_cmp, Ordering.MatchOrdering, Ordering.int_cmp, Ordering.nat_cmp, Ordering.ordering_then}
 use Rattle.std.specs.{declared.cmp.Ordering.Ordering, declared.cmp.Ordering.TheVariants.Less, declared.cmp.Ordering.TheVariants.Equal, declared.cmp.Ordering.TheVariants.Greater, Int.Signed.lt_z_yes}
 use Rattle.star_schema.specs.{declared.group.GroupColumn.GroupColumn, declared.group.Direction.Direction, declared.group.Direction.TheVariants.Ascending, declared.group.Direction.TheVariants.Descending, declared.group.SortKey.SortKey, Groups.GroupRow as Row, Order.key_cmp}
 use Rattle.star_program.specs.{declared.key.KeyValue.KeyValue, declared.key.KeyValue.TheVariants.Number, declared.key.KeyValue.TheVariants.Code, Keys.key_value_cmp}
-use Rattle.star_outcome.specs.Private.RowOrder.{column_order, directed_order, row_order}
+use Rattle.star_outcome.specs.Private.RowOrder.{all_sorts, column_order, directed_order, key_sort, row_order, sort_order}
 use Rattle.star_schema.specs.declared.group.GroupColumn.TheVariants as column
 use Rattle.star_schema.specs.Order as report
 
@@ -65,6 +65,53 @@ row_total [] =
     record { antisymm = λ a b. refl; trans = λ a b c p q. p; congr = λ a b c p. refl }
 row_total (sort ∷ sorts) = then_total (directed_total sort.column sort.direction) (row_total sorts)
 
+-- ---- the keys of a row, one after another
+
+keys_by_place : (n i : ℕ) (a b : Row KeyValue) → length a.keys ≡ i + n → length b.keys ≡ i + n
+    → row_order (map key_sort (range_with_len i n)) a b
+    ≡ slice_cmp (key_cmp key_value_cmp) (drop i a.keys) (drop i b.keys)
+keys_by_place zero i a b long_a long_b =
+    λ j. slice_cmp (key_cmp key_value_cmp) (sym (drop_all i a.keys (omega (arith, long_a))) j)
+    (sym (drop_all i b.keys (omega (arith, long_b))) j)
+keys_by_place (suc n) i a b long_a long_b =
+    let rest = keys_by_place n (i + 1) a b (omega (arith, long_a)) (omega (arith, long_b)) in
+    let here = sort_order (key_sort i) a b in
+    ap (ordering_then here) rest
+    ∙ (λ j. ordering_then here (slice_cmp (key_cmp key_value_cmp) (drop (add-one i j) a.keys)
+    (drop (add-one i j) b.keys)))
+    ∙ (λ j. slice_cmp (key_cmp key_value_cmp)
+    (sym (drop-cons a.keys i None (omega (arith, long_a))) j)
+    (sym (drop-cons b.keys i None (omega (arith, long_b))) j))
+
+-- ---- only rows with the same keys are level
+
+both_equal : (a b : Ordering) → ordering_then a b ≡ Equal → (a ≡ Equal) × (b ≡ Equal)
+both_equal Less b e = cc e
+both_equal Equal b e = (refl, e)
+both_equal Greater b e = cc e
+
+key_level : (a b : Option KeyValue) → key_cmp key_value_cmp a b ≡ Equal → a ≡ b
+key_level (Some (Number x)) (Some (Number y)) e = ap (λ z. Some (Number z))
+    (subst (λ o. MatchOrdering o (x <ℤ y) (x ≡ y) (y <ℤ x)) e (int_ranks x y))
+key_level (Some (Number x)) (Some (Code n)) e = cc e
+key_level (Some (Code m)) (Some (Number y)) e = cc e
+key_level (Some (Code m)) (Some (Code n)) e = ap (λ k. Some (Code k))
+    (subst (λ o. MatchOrdering o (m < n) (m ≡ n) (n < m)) e (ranks m n))
+key_level (Some (Number x)) None e = cc e
+key_level (Some (Code m)) None e = cc e
+key_level None (Some (Number y)) e = cc e
+key_level None (Some (Code n)) e = cc e
+key_level None None e = refl
+
+keys_level : (xs ys : List (Option KeyValue)) → slice_cmp (key_cmp key_value_cmp) xs ys ≡ Equal
+    → xs ≡ ys
+keys_level [] [] e = refl
+keys_level [] (b ∷ ys) e = cc e
+keys_level (a ∷ xs) [] e = cc e
+keys_level (a ∷ xs) (b ∷ ys) e =
+    let both = both_equal (key_cmp key_value_cmp a b) (slice_cmp (key_cmp key_value_cmp) xs ys) e in
+    λ i. key_level a b both.0 i ∷ keys_level xs ys both.1 i
+
 -- ---- the rows of one group
 
 -- rows of one group: each has the group's keys, and each aggregate is NULL in both or in neither
@@ -72,3 +119,43 @@ pub record AreAlike (count : ℕ) (a b : Row KeyValue) : Type 0 where
   pub first : length a.keys ≡ count
   pub second : length b.keys ≡ count
   pub nulls : (place : ℕ) → is_some (get_or a.totals place None) ≡ is_some (get_or b.totals place None)
+
+all_keys : (count : ℕ) (a b : Row KeyValue) → AreAlike count a b
+    → row_order (all_sorts [] count) a b ≡ slice_cmp (key_cmp key_value_cmp) a.keys b.keys
+all_keys count a b alike =
+    keys_by_place count 0 a b (omega (arith, alike.first)) (omega (arith, alike.second))
+
+pub rows_level : (sorts : List SortKey) (count : ℕ) (a b : Row KeyValue) → AreAlike count a b
+    → row_order (all_sorts sorts count) a b ≡ Equal → a.keys ≡ b.keys
+rows_level [] count a b alike e = keys_level a.keys b.keys (sym (all_keys count a b alike) ∙ e)
+rows_level (sort ∷ sorts) count a b alike e =
+    rows_level sorts count a b alike
+    (both_equal (sort_order sort a b) (row_order (all_sorts sorts count) a b) e).1
+
+same_total : (x y : Option ℤ) → is_some x ≡ is_some y
+    → report.total_cmp x y ≡ option_cmp int_cmp x y
+same_total (Some x) (Some y) e = refl
+same_total (Some x) None e = absurd (true≢false e)
+same_total None (Some y) e = absurd (true≢false (sym e))
+same_total None None e = refl
+
+same_column : (c : GroupColumn) (a b : Row KeyValue)
+    → ((place : ℕ) → is_some (get_or a.totals place None) ≡ is_some (get_or b.totals place None))
+    → report.column_cmp key_value_cmp c a b ≡ column_order c a b
+same_column (column.Key place) a b nulls = refl
+same_column (column.Aggregate place) a b nulls =
+    same_total (get_or a.totals place None) (get_or b.totals place None) (nulls place)
+
+same_directed : (c : GroupColumn) (d : Direction) {count : ℕ} (a b : Row KeyValue)
+    → AreAlike count a b
+    → report.sort_cmp key_value_cmp (record { column = c; direction = d }) a b
+    ≡ directed_order c d a b
+same_directed c Ascending a b alike = same_column c a b alike.nulls
+same_directed c Descending a b alike = same_column c b a (λ place. sym (alike.nulls place))
+
+pub same_order : (sorts : List SortKey) (count : ℕ) (a b : Row KeyValue) → AreAlike count a b
+    → report.row_cmp key_value_cmp sorts a b ≡ row_order (all_sorts sorts count) a b
+same_order [] count a b alike = sym (all_keys count a b alike)
+same_order (sort ∷ sorts) count a b alike =
+    λ i. ordering_then (same_directed sort.column sort.direction a b alike i)
+    (same_order sorts count a b alike i)
