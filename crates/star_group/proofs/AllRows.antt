@@ -1,7 +1,7 @@
 -- The rows of a deferred store in the end are those of an eager one.
-use Rattle.star_group.proofs.Common.{◌≡◌, ℕ, ◌-◌, ◌≤◌, Bool, true, false, ◌&&◌, ℤ, List, [], ◌∷◌, Option, length, take, ap, sym, ◌∙◌, subst, refl, arith, list_any, AllByRecursion, and-false, or-false, ∥∥₁_map, map-id, at_each, of_each, Aggregate, Shape, Plain, Cube, Rollup, is_grouping}
+use Rattle.star_group.proofs.Common.{◌≡◌, ℕ, ◌-◌, ◌≤◌, Bool, true, false, ◌&&◌, ℤ, List, [], ◌∷◌, Option, length, take, ap, sym, ◌∙◌, subst, refl, arith, list_any, AllByRecursion, and-false, or-false, ∥∥₁_map, map-id, at_each, Aggregate, Shape, Plain, Cube, Rollup, is_grouping}
 use Rattle.star_group.proofs.Common.{KeyValue, KeyPart, AreGrouped, HasBaseWithRoom, IsRowOver, puts_with, row_found, is_of_put, key_eq, padded, vary, IsRolledUp, IsRolledUpWithRoom, first_hidden, is_among, keys_from, group_with, Update, Group, AreOnce}
-use Rattle.star_group.proofs.{GroupKeys.key_decides, GroupKeys.own_grouping, GroupKeys.plain_among, OwnKeyLemmas.vary-start, Passes.filter_same}
+use Rattle.star_group.proofs.{GroupKeys.key_decides, GroupKeys.own_grouping, GroupKeys.plain_among, OwnKeyLemmas.vary-start, Passes.filter_each}
 
 -- ---- the base rows have no ALL
 
@@ -30,11 +30,8 @@ pub base_rolled : (d : Group) (es : List (List KeyPart × List (Option ℤ))) (u
 base_rolled d es us few fit rows once = record {
   fit = fit;
   rows = λ q. subst (λ ps. IsRowOver d ps (row_found es q))
-      (filter_same (λ u. key_eq q (padded 6 u.keys))
-      (λ u. is_among d.shape d.count d.count q u.keys) us
-      (of_each (λ u. key_eq q (padded 6 u.keys) ≡ is_among d.shape d.count d.count q u.keys) us
-      (λ u c. sym (base_among d.shape d.count q u.keys
-      (at_each (λ w. length w.keys ≡ d.count) us u fit c) few))))
+      (filter_each us (λ u c. sym (base_among d.shape d.count q u.keys
+      (at_each _ us u fit c) few)))
       (rows q);
   once = once;
 }
@@ -82,10 +79,6 @@ pub grouped : (d : Group) (us : List Update) (es : List (List KeyPart × List (O
 grouped d us es few rolled = record {
   fit = rolled.fit;
   rows = λ q. subst (λ ps. IsRowOver d ps (row_found es q))
-      (filter_same (λ u. is_among d.shape (first_hidden d.shape d.count) d.count q u.keys)
-      (λ u. is_of_put d.shape u.keys q) us
-      (of_each (λ u. is_among d.shape (first_hidden d.shape d.count) d.count q u.keys
-      ≡ is_of_put d.shape u.keys q) us
-      (λ u c. same_rows d q u (at_each (λ w. length w.keys ≡ d.count) us u rolled.fit c) few)))
+      (filter_each us (λ u c. same_rows d q u (at_each _ us u rolled.fit c) few))
       (rolled.rows q);
 }

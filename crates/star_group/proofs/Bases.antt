@@ -24,7 +24,7 @@ module _ (gs : List Aggregate) (key : List (Option KeyValue)) (more : List (Opti
 
 -- ---- one put more
 
-filter_all : (us : List Update) → filter (λ w. true) us ≡ us
+pub filter_all : (us : List Update) → filter (λ w. true) us ≡ us
 filter_all [] = refl
 filter_all (u ∷ us) = ap (λ ws. u ∷ ws) (filter_all us)
 

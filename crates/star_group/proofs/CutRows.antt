@@ -1,5 +1,5 @@
 -- Flat lists cut into rows.
-use Rattle.star_group.proofs.Common.{◌≡◌, ℕ, zero, suc, ◌+◌, ◌-◌, ◌*◌, ◌<◌, ◌≤◌, List, [], ◌∷◌, ◌++◌, length, get_or, set, take, drop, ap, sym, ◌∙◌, arith, put_mid, append_assoc, drop-append-le, drop_at, drop-drop, get_or-drop, get_or-take, length-drop, length-take-le, take-append-drop}
+use Rattle.star_group.proofs.Common.{◌≡◌, ℕ, zero, suc, ◌+◌, ◌*◌, ◌<◌, ◌≤◌, List, [], ◌∷◌, ◌++◌, length, get_or, set, take, drop, ap, sym, ◌∙◌, arith, put_mid, append_assoc, drop-append-le, drop_at, drop-drop, get_or-drop, get_or-take, length-drop, length-take-le, take-append-drop}
 use Rattle.star_group.proofs.Common.{take-append-le, take_all, take_at, drop-put_mid, take-put_mid, mul-le-mul_right, suc-mul, zero-mul, cut_at}
 use Rattle.star_program.specs.Rows.{cut}
 

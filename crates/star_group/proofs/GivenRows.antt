@@ -2,20 +2,6 @@
 use Rattle.star_group.proofs.Common.{◌≡◌, ℕ, zero, suc, ◌<◌, ◌≤◌, ℤ, List, [], ◌∷◌, ◌++◌, Option, Some, None, length, get_or, map, take, ap, refl, sym, ◌∙◌, arith, get_or-take, get_or_past, length-take, Aggregate, KeyPart, key_view, all_hidden, nothing_given, row_shown, shown, row_at}
 
 module _ (nothing : Option (List (Option ℤ))) (count : ℕ) where
-  pub keys_shown : (es : List (List KeyPart × List (Option ℤ))) (number : ℕ) → number < length es
-      → take count (key_view (get_or es number ([], [])).0)
-      ≡ (row_at (map (row_shown nothing count) es) number).keys
-  keys_shown [] number h = absurd (omega (arith, h))
-  keys_shown (e ∷ es) zero h = refl
-  keys_shown (e ∷ es) (suc number) h = keys_shown es number (omega (arith, h))
-
-  pub none_shown : (es : List (List KeyPart × List (Option ℤ))) (number : ℕ) → length es ≤ number
-      → ([] ≡ (row_at (map (row_shown nothing count) es) number).keys)
-      × ([] ≡ (row_at (map (row_shown nothing count) es) number).aggregates)
-  none_shown [] number h = (refl, refl)
-  none_shown (e ∷ es) zero h = absurd (omega (arith, h))
-  none_shown (e ∷ es) (suc number) h = none_shown es number (omega (arith, h))
-
   pub key_shown : (es : List (List KeyPart × List (Option ℤ))) (number place : ℕ) → place < count
       → get_or (key_view (get_or es number ([], [])).0) place None
       ≡ get_or (row_at (map (row_shown nothing count) es) number).keys place None

@@ -1,11 +1,13 @@
 -- Rows in flat storage with their keys: what stands at a number, one row more, and one changed.
-use Rattle.star_group.proofs.Common.{◌≡◌, ℕ, zero, suc, ◌-◌, ◌<◌, ◌≤◌, Bool, true, false, ◌||◌, ℤ, List, [], ◌∷◌, ◌++◌, Option, Some, None, Result, Ok, Err, OnOk, cond, length, get_or, get_or-set_same, set, slice_get, map, take, drop, ap, sym, ◌∙◌, subst, refl, arith, true≢false}
+use Rattle.star_group.proofs.Common.{◌≡◌, ◌⊎◌, inl, inr, cases_lt, get_or-map, is_some, ℕ, zero, suc, ◌<◌, ◌≤◌, Bool, true, false, ℤ, List, [], ◌∷◌, ◌++◌, Option, Some, None, Result, Ok, Err, OnOk, cond, length, get_or, get_or-set_same, set, slice_get, map, take, drop, ap, sym, ◌∙◌, subst, refl, arith, true≢false}
 use Rattle.star_group.proofs.Common.{AllByRecursion, filter, list_any, keys_of, lookup, get_or-take, length-map, length-set, take_at, lookup_from_place, place_from_lookup, slice_get-get_or, slice_get-map, slice_get_within, KeyValue, KeyPart, All, KeyedRows, key_view, row_found}
 use Rattle.star_group.proofs.Common.{key_value_view, entries_of, all_hidden, filled, key_eq, padded, vary, AreOnce, shown_entries, IsMerged, IsMergedAt, IsWithRow, Aggregate, Shape, option_map, unwrap_or, with_items, and_parts, false_from_ne_true, list_any-from_Contains, contains_mapped}
-use Rattle.star_group.proofs.Common.{of_each, AreNarrow, IsNarrow, is_row_key, IsHeld, IsMissing, keys_in, IsDistinct-push, IsDistinct-head, IsDistinct-tail, Contains, get_or_from_slice_get, at_each, append_assoc, cut, append-nil}
+use Rattle.star_group.proofs.Common.{of_each, AreNarrow, IsNarrow, is_row_key, IsHeld, IsMissing, keys_in, IsDistinct-push, get_or_from_slice_get, append_assoc, cut, append-nil}
 use Rattle.star_group.proofs.GroupKeys.{among_vary, any_kept, in_padded, in_places, key_decides, key_equiv, masked_length}
 use Rattle.star_group.proofs.ListedRows.{key_count, key_wide, keyed_at, length-keyed, narrow_filled, row_count, same}
-use Rattle.star_group.proofs.{Passes.IsOnceAt}
+use Rattle.star_group.proofs.{Passes.IsOnceAt, Passes.first_of, Passes.found_append}
+use Rattle.std.proofs.lemmas.Map.{Keys.IsDistinct-from_apart, Keys.apart_from_distinct, Made.is_some-lookup}
+use Rattle.star_program.specs.declared.key.KeyValue.TheVariants.{Number as KeyNumber, Code as KeyCode}
 use Rattle.std.specs.List.{IsDistinct}
 use Rattle.star_group.specs.{declared.keyed.key.KeyPart.TheVariants.Number, declared.keyed.key.KeyPart.TheVariants.Code, Keyed.keyed}
 
@@ -16,34 +18,20 @@ pub shown_lookup : (q : List (Option KeyValue)) (es : List (List KeyPart × List
 shown_lookup q [] = refl
 shown_lookup q (e ∷ es) = ap (cond (key_eq q (key_view e.0)) (Some e.1)) (shown_lookup q es)
 
-pub shown_at : (es : List (List KeyPart × List (Option ℤ))) (n : ℕ) → n < length es
-    → slice_get (shown_entries es) n
-    ≡ Some (key_view (get_or es n ([], [])).0, (get_or es n ([], [])).1)
-shown_at es n h = slice_get-map (λ (e : List KeyPart × List (Option ℤ)). (key_view e.0, e.1)) es n
-    ∙ ap (option_map (λ (e : List KeyPart × List (Option ℤ)). (key_view e.0, e.1)))
-    (slice_get-get_or es n ([], []) h)
+abbrev show : List KeyPart × List (Option ℤ) → List (Option KeyValue) × List (Option ℤ)
+show e = (key_view e.0, e.1)
 
-all_apart : (k : List (Option KeyValue)) (es : List (List KeyPart × List (Option ℤ)))
-    → ((i : ℕ) (f : List KeyPart × List (Option ℤ)) → slice_get es i ≡ Some f
-    → key_eq k (key_view f.0) ≡ false)
-    → AllByRecursion (λ m. key_eq k m ≡ false) (keys_of (shown_entries es))
-all_apart k [] each = tt
-all_apart k (e ∷ es) each = (each 0 e refl, all_apart k es (λ i f at. each (suc i) f at))
+shown_count : (es : List (List KeyPart × List (Option ℤ)))
+    → length (keys_of (shown_entries es)) ≡ length es
+shown_count es = length-map (shown_entries es) _ ∙ length-map es show
 
-distinct_once : (es : List (List KeyPart × List (Option ℤ))) → IsOnceAt es → AreOnce es
-unfolding IsDistinct
-distinct_once [] once = tt
-distinct_once (e ∷ es) once = (
-  all_apart (key_view e.0) es
-      (λ i f at. false_from_ne_true (key_eq (key_view e.0) (key_view f.0))
-      (λ h. omega (
-        arith,
-        once 0 (suc i) e f refl at
-            ((key_decides (key_view e.0) (key_view f.0)).0 h),
-      ))),
-  distinct_once es (λ i j a b at_i at_j same.
-      omega (arith, once (suc i) (suc j) a b at_i at_j same)),
-)
+key_at : (es : List (List KeyPart × List (Option ℤ))) (n : ℕ) (d : List (Option KeyValue))
+    → n < length es
+    → get_or (keys_of (shown_entries es)) n d ≡ key_view (get_or es n ([], [])).0
+key_at es n d h = get_or-map (λ (p : List (Option KeyValue) × List (Option ℤ)). p.0)
+    (shown_entries es) n ([], []) d (omega (arith, h, length-map es show))
+    ∙ ap (λ (p : List (Option KeyValue) × List (Option ℤ)). p.0)
+    (get_or-map show es n ([], []) ([], []) h)
 
 -- an entry is found by its key
 pub row_once : (es : List (List KeyPart × List (Option ℤ))) → AreOnce es
@@ -56,38 +44,26 @@ row_once es once j e at =
     ∙ lookup_from_place key_equiv (shown_entries es) j (key_view e.0) e.1
     once (slice_get-map show es j ∙ ap (option_map show) at)
 
-contained : {A : Type 0} (xs : List A) (i : ℕ) (x : A) → slice_get xs i ≡ Some x → Contains xs x
-contained xs i x e = (i, slice_get_within xs i x e, get_or_from_slice_get xs i x x e)
-
-distinct_at : (ks : List (List (Option KeyValue))) (i j : ℕ) (k : List (Option KeyValue))
-    → slice_get ks i ≡ Some k → slice_get ks j ≡ Some k → IsDistinct key_eq ks → i ≡ j
-distinct_at [] i j k a b d = absurd (let no : ⊥ = cc a in no)
-distinct_at (x ∷ ks) zero zero k a b d = refl
-distinct_at (x ∷ ks) zero (suc j) k a b d =
-    let is : x ≡ k = cc a in
-    absurd (true≢false (sym (key_equiv.refl k) ∙ ap (λ y. key_eq y k) (sym is)
-    ∙ at_each (λ y. key_eq x y ≡ false) ks k (IsDistinct-head key_eq x ks d)
-    (contained ks j k b)))
-distinct_at (x ∷ ks) (suc i) zero k a b d =
-    let is : x ≡ k = cc b in
-    absurd (true≢false (sym (key_equiv.refl k) ∙ ap (λ y. key_eq y k) (sym is)
-    ∙ at_each (λ y. key_eq x y ≡ false) ks k (IsDistinct-head key_eq x ks d)
-    (contained ks i k a)))
-distinct_at (x ∷ ks) (suc i) (suc j) k a b d =
-    ap suc (distinct_at ks i j k a b (IsDistinct-tail key_eq x ks d))
-
 pub once_at : (es : List (List KeyPart × List (Option ℤ))) → AreOnce es → IsOnceAt es
-once_at es once i j e f at_i at_j same =
-    distinct_at (keys_of (shown_entries es)) i j (key_view e.0) (key_at i e at_i)
-    (key_at j f at_j ∙ ap Some (sym same)) once
+once_at es once i j e f at_i at_j same = by (cases_lt i j) (cases_lt j i)
   where
-    key_at : (n : ℕ) (e : List KeyPart × List (Option ℤ)) → slice_get es n ≡ Some e
-        → slice_get (keys_of (shown_entries es)) n ≡ Some (key_view e.0)
-    key_at n e at =
-        slice_get-map (λ (p : List (Option KeyValue) × List (Option ℤ)). p.0) (shown_entries es) n
-        ∙ ap (option_map (λ (p : List (Option KeyValue) × List (Option ℤ)). p.0))
-        (slice_get-map (λ (e : List KeyPart × List (Option ℤ)). (key_view e.0, e.1)) es n
-        ∙ ap (option_map (λ (e : List KeyPart × List (Option ℤ)). (key_view e.0, e.1))) at)
+    view : (n : ℕ) (g : List KeyPart × List (Option ℤ)) → slice_get es n ≡ Some g
+        → get_or (keys_of (shown_entries es)) n [] ≡ key_view g.0
+    view n g at = key_at es n [] (slice_get_within es n g at)
+        ∙ ap (λ (h : List KeyPart × List (Option ℤ)). key_view h.0)
+        (get_or_from_slice_get es n g ([], []) at)
+
+    apart : (m n : ℕ) (g h : List KeyPart × List (Option ℤ)) → slice_get es m ≡ Some g
+        → slice_get es n ≡ Some h → key_view g.0 ≡ key_view h.0 → m < n → ⊥
+    apart m n g h at_m at_n is less =
+        true≢false (sym ((key_decides _ _).1 (view m g at_m ∙ is ∙ sym (view n h at_n)))
+        ∙ apart_from_distinct key_eq (keys_of (shown_entries es)) m n [] once less
+        (omega (arith, slice_get_within es n h at_n, shown_count es)))
+
+    by : (i < j) ⊎ (j ≤ i) → (j < i) ⊎ (i ≤ j) → i ≡ j
+    by (inl less) c = absurd (apart i j e f at_i at_j same less)
+    by (inr a) (inl less) = absurd (apart j i f e at_j at_i (sym same) less)
+    by (inr a) (inr b) = omega (arith, a, b)
 
 -- ---- keys beside rows
 
@@ -109,18 +85,14 @@ others_set (k ∷ ks) (c ∷ cs) (suc n) row q apart =
 pub row_more : (es : List (List KeyPart × List (Option ℤ))) (k : List KeyPart) (c : List (Option ℤ))
     (q : List (Option KeyValue)) → (key_eq q (key_view k) ≡ true → row_found es q ≡ None)
     → row_found (es ++ (k, c) ∷ []) q ≡ cond (key_eq q (key_view k)) (Some c) (row_found es q)
-row_more [] k c q new = refl
-row_more (e ∷ es) k c q new =
-    by (key_eq q (key_view e.0)) (key_eq q (key_view k)) new (row_more es k c q)
+row_more es k c q new = found_append es ((k, c) ∷ []) q
+    ∙ by (key_eq q (key_view k)) (row_found es q) new
   where
-    by : (a b : Bool) → (b ≡ true → cond a (Some e.1) (row_found es q) ≡ None)
-        → ((b ≡ true → row_found es q ≡ None)
-        → row_found (es ++ (k, c) ∷ []) q ≡ cond b (Some c) (row_found es q))
-        → cond a (Some e.1) (row_found (es ++ (k, c) ∷ []) q)
-        ≡ cond b (Some c) (cond a (Some e.1) (row_found es q))
-    by true true never later = absurd (let no : Some e.1 ≡ None = never refl in cc no)
-    by true false never later = refl
-    by false b never later = later never
+    by : (b : Bool) (found : Option (List (Option ℤ))) → (b ≡ true → found ≡ None)
+        → first_of found (cond b (Some c) None) ≡ cond b (Some c) found
+    by true found new = ap (λ r. first_of r (Some c)) (new refl)
+    by false None new = refl
+    by false (Some row) new = refl
 
 -- a row of a key that no row has
 pub merged_new : (gs : List Aggregate) (es : List (List KeyPart × List (Option ℤ)))
@@ -140,14 +112,8 @@ keys_more (f ∷ fs) k r = ap (λ ks. key_view f.0 ∷ ks) (keys_more fs k r)
 
 none_among : (fs : List (List KeyPart × List (Option ℤ))) (q : List (Option KeyValue))
     → row_found fs q ≡ None → list_any (key_eq q) (keys_of (shown_entries fs)) ≡ false
-none_among [] q e = refl
-none_among (f ∷ fs) q e = by (key_eq q (key_view f.0)) e (none_among fs q)
-  where
-    by : (b : Bool) → cond b (Some f.1) (row_found fs q) ≡ None
-        → (row_found fs q ≡ None → list_any (key_eq q) (keys_of (shown_entries fs)) ≡ false)
-        → (b || list_any (key_eq q) (keys_of (shown_entries fs))) ≡ false
-    by true e later = absurd (let no : Some f.1 ≡ None = e in cc no)
-    by false e later = later e
+none_among fs q e = sym (is_some-lookup (key_eq q) (shown_entries fs))
+    ∙ ap is_some (shown_lookup q fs ∙ e)
 
 pub once_more : (fs : List (List KeyPart × List (Option ℤ))) (k : List KeyPart) (r : List (Option ℤ))
     → row_found fs (key_view k) ≡ None → AreOnce fs → AreOnce (fs ++ (k, r) ∷ [])
@@ -179,25 +145,22 @@ once_joined es (f ∷ fs) once others none =
 
 -- ---- keys in six places
 
-value_once : (p r : KeyPart) → key_value_view p ≡ key_value_view r → p ≡ r
-value_once All All e = refl
-value_once All (Number y) e = absurd (let no : ⊥ = cc e in no)
-value_once All (Code n) e = absurd (let no : ⊥ = cc e in no)
-value_once (Number x) All e = absurd (let no : ⊥ = cc e in no)
-value_once (Number x) (Number y) e = cc e
-value_once (Number x) (Code n) e = absurd (let no : ⊥ = cc e in no)
-value_once (Code m) All e = absurd (let no : ⊥ = cc e in no)
-value_once (Code m) (Number y) e = absurd (let no : ⊥ = cc e in no)
-value_once (Code m) (Code n) e = cc e
+abbrev part_of : Option KeyValue → KeyPart
+part_of None = All
+part_of (Some (KeyNumber x)) = Number x
+part_of (Some (KeyCode n)) = Code n
+
+part_back : (p : KeyPart) → part_of (key_value_view p) ≡ p
+part_back All = refl
+part_back (Number x) = refl
+part_back (Code n) = refl
+
+parts_back : (ps : List KeyPart) → map part_of (key_view ps) ≡ ps
+parts_back [] = refl
+parts_back (p ∷ ps) = λ i. part_back p i ∷ parts_back ps i
 
 key_once : (ps rs : List KeyPart) → key_view ps ≡ key_view rs → ps ≡ rs
-key_once [] [] e = refl
-key_once [] (r ∷ rs) e = absurd (let no : ⊥ = cc e in no)
-key_once (p ∷ ps) [] e = absurd (let no : ⊥ = cc e in no)
-key_once (p ∷ ps) (r ∷ rs) e =
-    let first : key_value_view p ≡ key_value_view r = cc e in
-    let rest : key_view ps ≡ key_view rs = cc e in
-    λ i. value_once p r first i ∷ key_once ps rs rest i
+key_once ps rs e = sym (parts_back ps) ∙ ap (map part_of) e ∙ parts_back rs
 
 -- ---- rows with each key once
 
@@ -217,20 +180,29 @@ module _ (w : ℕ) (ks : List (List KeyPart)) (cs : List (List (Option ℤ)))
       let is : e ≡ get_or (keyed ks cs) i ([], []) = cc (some, at) in
       (within, is ∙ keyed_at ks cs i same within)
 
-  pub once_keyed : IsOnceAt (keyed ks cs)
-  once_keyed i j e f at_i at_j equal =
-      let a = entry_is i e at_i in
-      let b = entry_is j f at_j in
-      let parts : filled (get_or ks i []) ≡ filled (get_or ks j []) =
-      ap (λ (x : List KeyPart × List (Option ℤ)). x.0) (sym a.1) ∙ key_once e.0 f.0 equal
-      ∙ ap (λ (x : List KeyPart × List (Option ℤ)). x.0) b.1 in
-      once i j a.0 b.0 (sym (own_parts i a.0) ∙ ap (take w) parts ∙ own_parts j b.0)
+  view_at : (i : ℕ) (d : List (Option KeyValue)) → i < length ks
+      → get_or (keys_of (shown_entries (keyed ks cs))) i d ≡ key_view (filled (get_or ks i []))
+  view_at i d h = key_at (keyed ks cs) i d (omega (arith, h, length-keyed ks cs same))
+      ∙ ap (λ (e : List KeyPart × List (Option ℤ)). key_view e.0) (keyed_at ks cs i same h)
+
+  pub once_keyed : AreOnce (keyed ks cs)
+  once_keyed = IsDistinct-from_apart key_eq (keys_of (shown_entries (keyed ks cs)))
+      (λ i j d less within.
+      let j_in : j < length ks =
+      omega (arith, within, shown_count (keyed ks cs), length-keyed ks cs same) in
+      let i_in : i < length ks = omega (arith, less, j_in) in
+      false_from_ne_true _ (λ h.
+      let parts = key_once (filled (get_or ks i [])) (filled (get_or ks j []))
+      (sym (view_at i d i_in) ∙ (key_decides _ _).0 h ∙ view_at j d j_in) in
+      let is = once i j i_in j_in
+      (sym (own_parts i i_in) ∙ ap (take w) parts ∙ own_parts j j_in) in
+      omega (arith, less, is)))
 
   pub held_row : (n : ℕ) → n < length ks
       → row_found (keyed ks cs) (key_view (filled (get_or ks n []))) ≡ Some (get_or cs n [])
   held_row n h =
       let among : n < length (keyed ks cs) = omega (arith, h, length-keyed ks cs same) in
-      row_once (keyed ks cs) (distinct_once (keyed ks cs) once_keyed) n (filled (get_or ks n []), get_or cs n [])
+      row_once (keyed ks cs) once_keyed n (filled (get_or ks n []), get_or cs n [])
       (slice_get-get_or (keyed ks cs) n ([], []) among ∙ ap Some (keyed_at ks cs n same h))
 
   pub no_row : (key : List KeyPart) → ((n : ℕ) → n < length ks → get_or ks n [] ≡ take w key → ⊥)
@@ -283,11 +255,8 @@ module _ (rows : KeyedRows) where
   wide : (i : ℕ) → i < length ks → length (get_or ks i []) ≡ rows.listed.width
   wide i h = key_wide rows.listed i (omega (arith, h, key_count rows.listed, row_count rows.listed))
 
-  pub once_rows : IsOnceAt (entries_of rows)
-  once_rows = once_keyed rows.listed.width ks cs (same rows.listed) wide rows.trie.once
-
   pub rows_once : AreOnce (entries_of rows)
-  rows_once = distinct_once (entries_of rows) once_rows
+  rows_once = once_keyed rows.listed.width ks cs (same rows.listed) wide rows.trie.once
 
   module _ (key : List KeyPart) (long : length key ≡ 6)
       (narrow : drop rows.listed.width key ≡ drop rows.listed.width all_hidden) where
@@ -356,7 +325,7 @@ narrow_of (suc n) w [] (k ∷ m) e h = absurd (let no : ⊥ = cc e in no)
 narrow_of (suc n) zero (p ∷ ps) [] e h =
     let first : key_value_view p ≡ key_value_view All = cc e in
     let rest : key_view ps ≡ in_places n [] = cc e in
-    λ i. value_once p All first i ∷ narrow_of n zero ps [] rest h i
+    λ i. (sym (part_back p) ∙ ap part_of first) i ∷ narrow_of n zero ps [] rest h i
 narrow_of (suc n) (suc w) (p ∷ ps) [] e h = let rest : key_view ps ≡ in_places n [] = cc e in
     narrow_of n w ps [] rest (omega arith)
 narrow_of (suc n) zero (p ∷ ps) (k ∷ m) e h = absurd (omega (arith, h))

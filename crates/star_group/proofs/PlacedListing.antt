@@ -1,8 +1,8 @@
 -- The rows of a plain group, one after another: those beside the places, and that of each place.
-use Rattle.star_group.proofs.Common.{◌≡◌, ℕ, suc, ◌*◌, ◌<◌, ◌≤◌, Bool, true, false, ◌&&◌, nat_lt, cond, ℤ, pos, List, [], ◌∷◌, ◌++◌, Option, Some, None, length, map, take, get_or, refl, ap, sym, ◌∙◌, arith, true≢false, filter, AllByRecursion, nat_tests, at_each, of_each, Aggregate, Shape}
-use Rattle.star_group.proofs.Common.{KeyValue, Update, cut, KeyPart, Span, IsRowOver, key_view, row_found, IsPlaced, has_puts, key_eq, padded, cell_place, is_at, places, group_with, AreOnce, IsListed, Group, Contains, aggregate_cells}
+use Rattle.star_group.proofs.Common.{◌≡◌, ℕ, suc, ◌*◌, ◌<◌, ◌≤◌, Bool, true, false, ◌&&◌, nat_lt, ℤ, pos, List, [], ◌∷◌, ◌++◌, Option, Some, None, length, map, take, get_or, refl, ap, sym, ◌∙◌, arith, true≢false, filter, AllByRecursion, nat_tests, at_each, Aggregate, Shape}
+use Rattle.star_group.proofs.Common.{KeyValue, Update, cut, KeyPart, Span, IsRowOver, key_view, row_found, IsPlaced, has_puts, key_eq, padded, cell_place, is_at, places, group_with, AreOnce, IsListed, Group, Contains}
 use Rattle.star_group.proofs.PlacedRows.{below_place, in_row, is_below, none_there, own_place, row_there, rows_first, rows_last, rows_more, rows_same}
-use Rattle.star_group.proofs.{GroupKeys.key_decides, GroupKeys.padded_keys, AllRows.base_rolled, CutRows.cut_wide, KeyedRows.merged_new, KeyedRows.once_more, Merging.put_of, Passes.AreOver, PlacedCells.puts_there}
+use Rattle.star_group.proofs.{GroupKeys.key_decides, GroupKeys.padded_keys, AllRows.base_rolled, KeyedRows.merged_new, KeyedRows.once_more, Merging.put_of, Passes.AreOver, Passes.filter_none, PlacedCells.puts_there}
 
 -- ---- keys of a place
 
@@ -24,11 +24,6 @@ padded_once a b count long wide few e =
 not_below : (n : ℕ) → nat_lt n n ≡ false
 not_below n = grind (arith, nat_tests)
 
-none_pass : (p : Update → Bool) (us : List Update) → AllByRecursion (λ w. p w ≡ false) us
-    → filter p us ≡ []
-none_pass p [] h = refl
-none_pass p (u ∷ us) h = (λ i. cond (h.0 i) (u ∷ filter p us) (filter p us)) ∙ none_pass p us h.1
-
 module _ (d : Group) (spans : List Span) (n : ℕ) where
   -- of the rows of the first places none has the keys of the next one
   none_yet : (us : List Update) (key : List KeyPart) (found : Option (List (Option ℤ)))
@@ -38,11 +33,8 @@ module _ (d : Group) (spans : List Span) (n : ℕ) where
       → IsRowOver d (filter (λ w. in_row spans n (key_view key) w.keys) us) found → found ≡ None
   none_yet us key None few fit own some over = refl
   none_yet us key (Some row) few fit own some over =
-      absurd (true≢false (sym over.0 ∙ ap has_puts
-      (none_pass (λ w. in_row spans n (key_view key) w.keys) us
-      (of_each (λ w. in_row spans n (key_view key) w.keys ≡ false) us
-      (λ w c. by w (at_each (λ u. length u.keys ≡ d.count) us w fit c)
-      (key_eq (key_view key) (padded 6 w.keys)) refl)))))
+      absurd (true≢false (sym over.0 ∙ ap has_puts (filter_none us (λ w c. by w (at_each _ us w fit c)
+      (key_eq (key_view key) (padded 6 w.keys)) refl))))
     where
       there : (u : Update) × Contains us u × (is_at spans n u.keys ≡ true)
       there = put_of (λ w. is_at spans n w.keys) us some
@@ -54,7 +46,7 @@ module _ (d : Group) (spans : List Span) (n : ℕ) where
           let at = own_place spans n there.0.keys there.2 in
           let same : w.keys ≡ there.0.keys =
           padded_once w.keys there.0.keys d.count fits
-          (at_each (λ u. length u.keys ≡ d.count) us there.0 fit there.1) few
+          (at_each _ us there.0 fit there.1) few
           (sym ((key_decides (key_view key) (padded 6 w.keys)).0 e) ∙ own there.0.keys at) in
           ap (below_place n) (ap (cell_place spans) same ∙ at) ∙ not_below n
 
@@ -81,17 +73,13 @@ module _ (gs : List Aggregate) (spans : List Span) (seen : List Bool) (cells : L
 
   module _ (long : length cells ≡ length gs * length seen) (n : ℕ) (here : n < length seen)
       (fs : List (List KeyPart × List (Option ℤ))) (listed : IsListedTo n fs) where
-    wide : (shape : Shape) (a : ℕ) → a < length gs
-        → length (aggregate_cells (group_with shape (length spans) gs) seen cells a) ≡ length seen
-    wide shape a h = cut_wide (length seen) (length gs) cells a long h
-
     pub list_skip : get_or seen n false ≡ false → IsListedTo (suc n) fs
     list_skip marked shape rest puts is =
         let d = group_with shape (length spans) gs in
         let now = listed shape rest puts is in (
           now.0,
           rows_same d spans puts n
-              (none_there d spans seen cells es rest puts is n here (wide shape) marked) fs now.1,
+              (none_there d spans seen cells es rest puts is n here long marked) fs now.1,
         )
 
     pub list_more : length spans ≤ 6 → (key : List KeyPart)
@@ -109,6 +97,6 @@ module _ (gs : List Aggregate) (spans : List Span) (seen : List Bool) (cells : L
           once_more fs key row none now.0,
           rows_more d spans puts n key
               (λ keys e. sym (own keys (own_place spans n keys e))) row
-              (row_there d spans seen cells es rest puts is n here (wide shape) row marked at) fs
+              (row_there d spans seen cells es rest puts is n here long row marked at) fs
               (fs ++ (key, row) ∷ []) (merged_new gs fs key row row none (λ place h. refl)) now.1,
         )

@@ -1,8 +1,8 @@
 -- The rows and the total of puts, some of which stand by their places.
-use Rattle.star_group.proofs.Common.{◌≡◌, ℕ, suc, ◌*◌, ◌<◌, Bool, true, false, ◌&&◌, ◌||◌, nat_eq, nat_lt, cond, ℤ, pos, List, [], ◌∷◌, Option, Some, None, length, get_or, refl, ap, sym, ◌∙◌, subst, arith, true≢false, filter, AllByRecursion, option_eq, is_none, unwrap_or, Bool-set}
-use Rattle.star_group.proofs.Common.{and-false, ∥∥₁_elim, eqb-true, lt-ltb, nat_tests, of_each, Aggregate, numbers_for, KeyValue, leaves, Update, aggregate_at, KeyPart, Span, HasAggregates, IsRowOver, key_view, puts_with, row_found, has_puts, key_eq, padded, IsPlaced, IsPlacedWithRoom}
-use Rattle.star_group.proofs.Common.{aggregate_cells, neutral, is_at, is_outside, cell_place, places, IsMerged, IsMergedAt, MergeStays, merged, Group, AreInBits}
-use Rattle.star_group.proofs.{Bases.other_row, Bases.own_row, CutRows.cut_wide, GroupKeys.key_decides, Merging.AreSplit, Merging.held_parts, Merging.no_puts, Merging.over_parts, Passes.AreOver, Passes.filter_same, PlacedCells.puts_there, SpanPlaces.within}
+use Rattle.star_group.proofs.Common.{◌≡◌, ℕ, suc, ◌*◌, ◌<◌, Bool, true, false, ◌&&◌, ◌||◌, nat_eq, nat_lt, cond, ℤ, pos, List, [], ◌∷◌, Option, Some, None, length, get_or, refl, ap, sym, ◌∙◌, subst, arith, true≢false, filter, option_eq, is_none, unwrap_or, Bool-set, Contains}
+use Rattle.star_group.proofs.Common.{and-false, ∥∥₁_elim, eqb-true, lt-ltb, nat_tests, of_each, false_from_ne_true, Aggregate, numbers_for, KeyValue, leaves, Update, aggregate_at, KeyPart, Span, HasAggregates, IsRowOver, key_view, puts_with, row_found, has_puts, key_eq, padded, IsPlaced}
+use Rattle.star_group.proofs.Common.{aggregate_cells, neutral, is_at, is_outside, cell_place, places, IsMerged, IsMergedAt, MergeStays, merged, Group, PlacedStore, Has, group_view}
+use Rattle.star_group.proofs.{Bases.filter_all, Bases.other_row, Bases.own_row, CutRows.cut_wide, GroupKeys.key_decides, Merging.AreSplit, Merging.has_put, Merging.held_parts, Merging.no_puts, Merging.over_parts, Passes.AreOver, Passes.filter_each, PlacedCells.puts_there, SpanPlaces.within}
 use Rattle.star_group.specs.Cells.{held}
 
 -- ---- the puts without a place, and those at the first places
@@ -45,47 +45,25 @@ all_below spans keys n same = by (cell_place spans keys) refl
     by None e = refl
     by (Some p) e = lt-ltb p n (omega (arith, within spans keys p e, same))
 
-all_filter : {A : Type 0} (t : A → Bool) (xs : List A) → ((x : A) → t x ≡ true) → filter t xs ≡ xs
-all_filter t [] h = refl
-all_filter t (x ∷ xs) h = (λ i. cond (h x i) (x ∷ all_filter t xs h i) (all_filter t xs h i))
-
 abbrev pub puts_below : List Span → ℕ → List Update → List Update
 puts_below spans n us = filter (λ w. is_below spans n w.keys) us
-
-pub all_puts : (spans : List Span) (n : ℕ) (us : List Update) → n ≡ places spans
-    → puts_below spans n us ≡ us
-all_puts spans n us same =
-    all_filter (λ w. is_below spans n w.keys) us (λ w. all_below spans w.keys n same)
 
 pub split_at : (spans : List Span) (n : ℕ) (us : List Update)
     → AreSplit (λ w. is_below spans n w.keys) (λ w. is_at spans n w.keys)
     (λ w. is_below spans (suc n) w.keys) us
-split_at spans n us = of_each
-    (λ w. (is_below spans (suc n) w.keys ≡ (is_below spans n w.keys || is_at spans n w.keys))
-    × ((is_below spans n w.keys && is_at spans n w.keys) ≡ false)) us
-    (λ w c. one_place spans n w.keys)
-
--- no puts at a place
-none_at : (spans : List Span) (n : ℕ) (us : List Update) → puts_there spans n us ≡ []
-    → AllByRecursion (λ w. is_at spans n w.keys ≡ false) us
-none_at spans n [] e = tt
-none_at spans n (u ∷ us) e = by (is_at spans n u.keys) refl e (λ f. none_at spans n us f)
-  where
-    by : (b : Bool) → is_at spans n u.keys ≡ b
-        → cond b (u ∷ puts_there spans n us) (puts_there spans n us) ≡ []
-        → (puts_there spans n us ≡ [] → AllByRecursion (λ w. is_at spans n w.keys ≡ false) us)
-        → AllByRecursion (λ w. is_at spans n w.keys ≡ false) (u ∷ us)
-    by true is f later = absurd (let no : ⊥ = cc f in no)
-    by false is f later = (is, later f)
-
-each_more : {A : Type 0} (P Q : A → Type 0) → ((x : A) → P x → Q x) → (xs : List A)
-    → AllByRecursion P xs → AllByRecursion Q xs
-each_more P Q f [] h = tt
-each_more P Q f (x ∷ xs) h = (f x h.0, each_more P Q f xs h.1)
+split_at spans n us = of_each _ us (λ w c. one_place spans n w.keys)
 
 or-no : (a b : Bool) → b ≡ false → (a || b) ≡ a
 or-no true b h = refl
 or-no false b h = h
+
+-- no puts at a place
+none_more : (spans : List Span) (n : ℕ) (us : List Update) → puts_there spans n us ≡ []
+    → (w : Update) → Contains us w → is_below spans (suc n) w.keys ≡ is_below spans n w.keys
+none_more spans n us none w c =
+    let apart : is_at spans n w.keys ≡ false = false_from_ne_true (is_at spans n w.keys) (λ h.
+    true≢false (sym (has_put (λ u. is_at spans n u.keys) us w c h) ∙ ap has_puts none)) in
+    (one_place spans n w.keys).0 ∙ or-no (is_below spans n w.keys) (is_at spans n w.keys) apart
 
 -- ---- the row at a place
 
@@ -104,50 +82,19 @@ IsRowAt d seen cells n row =
 module _ (d : Group) (spans : List Span) (seen : List Bool) (cells : List ℤ)
     (es : List (List KeyPart × List (Option ℤ))) (all : List (Option ℤ)) (us : List Update)
     (is : IsPlaced d spans seen cells es all us) (n : ℕ) (here : n < length seen)
-    (wide : (a : ℕ) → a < length d.aggregates
-    → length (aggregate_cells d seen cells a) ≡ length seen) where
+    (long : length cells ≡ length d.aggregates * length seen) where
   pub row_there : (row : List (Option ℤ)) → get_or seen n false ≡ true → IsRowAt d seen cells n row
       → IsRowOver d (puts_there spans n us) (Some row)
   row_there row marked at =
       let some = sym (is.seen_at n here) ∙ marked in (
         some,
-        λ a h. at a h ∙ ap Some (is.cells_at a h n (omega (arith, here, wide a h)))
+        λ a h. let wide = cut_wide (length seen) (length d.aggregates) cells a long h in
+            at a h ∙ ap Some (is.cells_at a h n (omega (arith, here, wide)))
             ∙ some_cell (aggregate_at d.aggregates a) a (puts_there spans n us) some,
       )
 
   pub none_there : get_or seen n false ≡ false → puts_there spans n us ≡ []
   none_there marked = no_puts (puts_there spans n us) (sym (is.seen_at n here) ∙ marked)
-
--- ---- the total
-
-module _ (d : Group) (spans : List Span) (n : ℕ) (us : List Update) where
-  pub total_more : (total row new : List (Option ℤ)) → HasAggregates d (puts_below spans n us) total
-      → HasAggregates d (puts_there spans n us) row → IsMerged d.aggregates total row new
-      → HasAggregates d (puts_below spans (suc n) us) new
-  total_more total row new was adds is a h =
-      is a h ∙ (λ i. merged (aggregate_at d.aggregates a) (was a h i) (adds a h i))
-      ∙ sym (held_parts (aggregate_at d.aggregates a) a (λ w. is_below spans n w.keys)
-      (λ w. is_at spans n w.keys) (λ w. is_below spans (suc n) w.keys) us (split_at spans n us))
-
-  pub total_stays : (total row : List (Option ℤ)) → AreInBits d us
-      → HasAggregates d (puts_below spans n us) total → HasAggregates d (puts_there spans n us) row
-      → MergeStays d.aggregates total row
-  total_stays total row room was adds a h =
-      ap (leaves (aggregate_at d.aggregates a))
-      ((λ i. merged (aggregate_at d.aggregates a) (was a h i) (adds a h i))
-      ∙ sym (held_parts (aggregate_at d.aggregates a) a (λ w. is_below spans n w.keys)
-      (λ w. is_at spans n w.keys) (λ w. is_below spans (suc n) w.keys) us
-      (split_at spans n us)))
-      ∙ room (is_below spans (suc n)) a h
-
-  pub same_below : puts_there spans n us ≡ [] → puts_below spans (suc n) us ≡ puts_below spans n us
-  same_below none = filter_same (λ w. is_below spans (suc n) w.keys) (λ w. is_below spans n w.keys)
-      us
-      (each_more (λ w. is_at spans n w.keys ≡ false)
-      (λ w. is_below spans (suc n) w.keys ≡ is_below spans n w.keys)
-      (λ w apart. (one_place spans n w.keys).0
-      ∙ or-no (is_below spans n w.keys) (is_at spans n w.keys) apart) us
-      (none_at spans n us none))
 
 -- ---- the rows
 
@@ -179,36 +126,26 @@ module _ (d : Group) (spans : List Span) (us : List Update) where
       → AreOver d us (in_row spans 0) es
   rows_first es rows q = subst (λ ws. IsRowOver d ws (row_found es q))
       (filter_twice (λ w. is_outside spans w.keys) (λ w. key_eq q (padded 6 w.keys)) us
-      ∙ filter_same (λ w. key_eq q (padded 6 w.keys) && is_outside spans w.keys)
-      (λ w. in_row spans 0 q w.keys) us
-      (of_each (λ w. (key_eq q (padded 6 w.keys) && is_outside spans w.keys)
-      ≡ in_row spans 0 q w.keys) us
-      (λ w c. ap (λ b. key_eq q (padded 6 w.keys) && b) (sym (none_below spans w.keys)))))
+      ∙ filter_each us (λ w c.
+      ap (λ b. key_eq q (padded 6 w.keys) && b) (sym (none_below spans w.keys))))
       (rows q)
 
   pub rows_last : (n : ℕ) → n ≡ places spans → (es : List (List KeyPart × List (Option ℤ)))
       → AreOver d us (in_row spans n) es → (q : List (Option KeyValue))
       → IsRowOver d (puts_with q us) (row_found es q)
   rows_last n same es over q = subst (λ ws. IsRowOver d ws (row_found es q))
-      (filter_same (λ w. in_row spans n q w.keys) (λ w. key_eq q (padded 6 w.keys)) us
-      (of_each (λ w. in_row spans n q w.keys ≡ key_eq q (padded 6 w.keys)) us
-      (λ w c. ap (λ b. key_eq q (padded 6 w.keys) && b) (all_below spans w.keys n same)
-      ∙ and-true (key_eq q (padded 6 w.keys)))))
+      (filter_each us (λ w c.
+      ap (λ b. key_eq q (padded 6 w.keys) && b) (all_below spans w.keys n same)
+      ∙ and-true (key_eq q (padded 6 w.keys))))
       (over q)
 
   module _ (n : ℕ) where
     -- a place without puts
     pub rows_same : puts_there spans n us ≡ [] → (es : List (List KeyPart × List (Option ℤ)))
         → AreOver d us (in_row spans n) es → AreOver d us (in_row spans (suc n)) es
-    rows_same none es over q = subst (λ ws. IsRowOver d ws (row_found es q))
-        (sym (filter_same (λ w. in_row spans (suc n) q w.keys) (λ w. in_row spans n q w.keys) us
-        (each_more (λ w. is_at spans n w.keys ≡ false)
-        (λ w. in_row spans (suc n) q w.keys ≡ in_row spans n q w.keys)
-        (λ w apart. ap (λ b. key_eq q (padded 6 w.keys) && b)
-        ((one_place spans n w.keys).0
-        ∙ or-no (is_below spans n w.keys) (is_at spans n w.keys) apart)) us
-        (none_at spans n us none))))
-        (over q)
+    rows_same none es over q = coe 1 0 (i. IsRowOver d (filter_each us (λ w c.
+        ap (λ b. key_eq q (padded 6 w.keys) && b) (none_more spans n us none w c)) i)
+        (row_found es q)) (over q)
 
     parts : (k b a c : Bool) → c ≡ (b || a) → (b && a) ≡ false → (a ≡ true → k ≡ true)
         → ((k && c) ≡ ((k && b) || a)) × (((k && b) && a) ≡ false)
@@ -219,48 +156,34 @@ module _ (d : Group) (spans : List Span) (us : List Update) where
         subst (λ j. ((j && c) ≡ ((j && false) || true)) × (((j && false) && true) ≡ false))
         (sym (own refl)) (e, refl)
 
-    module _ (key : List KeyPart)
-        (own : (keys : List KeyValue) → is_at spans n keys ≡ true → padded 6 keys ≡ key_view key)
-        (row : List (Option ℤ)) (adds : IsRowOver d (puts_there spans n us) (Some row)) where
-      split_row : (q : List (Option KeyValue)) → q ≡ key_view key
-          → AreSplit (λ w. in_row spans n q w.keys) (λ w. is_at spans n w.keys)
-          (λ w. in_row spans (suc n) q w.keys) us
-      split_row q is = of_each
-          (λ w. (in_row spans (suc n) q w.keys ≡ (in_row spans n q w.keys || is_at spans n w.keys))
-          × ((in_row spans n q w.keys && is_at spans n w.keys) ≡ false)) us
-          (λ w c. let one = one_place spans n w.keys in
-          parts (key_eq q (padded 6 w.keys)) (is_below spans n w.keys) (is_at spans n w.keys)
-          (is_below spans (suc n) w.keys) one.0 one.1
-          (λ at. (key_decides q (padded 6 w.keys)).1 (is ∙ sym (own w.keys at))))
+    apart : (k b a c : Bool) → c ≡ (b || a) → (a ≡ true → k ≡ false) → (k && c) ≡ (k && b)
+    apart k b true c e other = subst (λ j. (j && c) ≡ (j && b)) (sym (other refl)) refl
+    apart k b false c e other = ap (λ x. k && x) (e ∙ or-no b false refl)
 
-      apart : (k b a c : Bool) → c ≡ (b || a) → (a ≡ true → k ≡ false) → (k && c) ≡ (k && b)
-      apart k b true c e other = subst (λ j. (j && c) ≡ (j && b)) (sym (other refl)) refl
-      apart k b false c e other = ap (λ x. k && x) (e ∙ or-no b false refl)
-
-      pub rows_more : (es fs : List (List KeyPart × List (Option ℤ)))
-          → IsMergedAt d.aggregates (key_view key) row es fs → AreOver d us (in_row spans n) es
-          → AreOver d us (in_row spans (suc n)) fs
-      rows_more es fs at over q = by (key_eq q (key_view key)) refl
-        where
-          by : (b : Bool) → key_eq q (key_view key) ≡ b
-              → IsRowOver d (filter (λ w. in_row spans (suc n) q w.keys) us) (row_found fs q)
-          by true same =
-              let is : q ≡ key_view key = (key_decides q (key_view key)).0 same in
-              over_parts d us (λ w. in_row spans n q w.keys) (λ w. is_at spans n w.keys)
-              (λ w. in_row spans (suc n) q w.keys) (row_found es q) (row_found fs q) row
-              (split_row q is) (over q) adds
-              (own_row d.aggregates (key_view key) row es fs at q is)
-          by false other = subst (IsRowOver d (filter (λ w. in_row spans (suc n) q w.keys) us))
-              (sym (other_row d.aggregates (key_view key) row es fs at q other))
-              (subst (λ ws. IsRowOver d ws (row_found es q))
-              (sym (filter_same (λ w. in_row spans (suc n) q w.keys) (λ w. in_row spans n q w.keys)
-              us
-              (of_each (λ w. in_row spans (suc n) q w.keys ≡ in_row spans n q w.keys) us
-              (λ w c. apart (key_eq q (padded 6 w.keys)) (is_below spans n w.keys)
-              (is_at spans n w.keys) (is_below spans (suc n) w.keys)
-              (one_place spans n w.keys).0
-              (λ there. ap (key_eq q) (own w.keys there) ∙ other)))))
-              (over q))
+    pub rows_more : (key : List KeyPart)
+        → ((keys : List KeyValue) → is_at spans n keys ≡ true → padded 6 keys ≡ key_view key)
+        → (row : List (Option ℤ)) → IsRowOver d (puts_there spans n us) (Some row)
+        → (es fs : List (List KeyPart × List (Option ℤ)))
+        → IsMergedAt d.aggregates (key_view key) row es fs → AreOver d us (in_row spans n) es
+        → AreOver d us (in_row spans (suc n)) fs
+    rows_more key own row adds es fs at over q = by (key_eq q (key_view key)) refl
+      where
+        by : (b : Bool) → key_eq q (key_view key) ≡ b
+            → IsRowOver d (filter (λ w. in_row spans (suc n) q w.keys) us) (row_found fs q)
+        by true same =
+            let is : q ≡ key_view key = (key_decides q (key_view key)).0 same in
+            over_parts d us (λ w. in_row spans n q w.keys) (λ w. is_at spans n w.keys)
+            (λ w. in_row spans (suc n) q w.keys) (row_found es q) (row_found fs q) row
+            (of_each _ us (λ w c. let one = one_place spans n w.keys in
+            parts (key_eq q (padded 6 w.keys)) (is_below spans n w.keys) (is_at spans n w.keys)
+            (is_below spans (suc n) w.keys) one.0 one.1
+            (λ at. (key_decides q (padded 6 w.keys)).1 (is ∙ sym (own w.keys at)))))
+            (over q) adds (own_row d.aggregates (key_view key) row es fs at q is)
+        by false other = coe 1 0 (i. IsRowOver d (filter_each us (λ w c.
+            apart (key_eq q (padded 6 w.keys)) (is_below spans n w.keys) (is_at spans n w.keys)
+            (is_below spans (suc n) w.keys) (one_place spans n w.keys).0
+            (λ there. ap (key_eq q) (own w.keys there) ∙ other)) i)
+            (other_row d.aggregates (key_view key) row es fs at q other i)) (over q)
 
 -- ---- the keys of a place
 
@@ -274,53 +197,47 @@ own_place spans n keys e = at_is (cell_place spans keys) n e
 
 -- ---- the total, with the rows of the first places merged in
 
-abbrev pub IsSummed : Group → List Span → List Bool → List ℤ → List (List KeyPart × List (Option ℤ))
-    → List (Option ℤ) → ℕ → List (Option ℤ) → Type 0
-IsSummed d spans seen cells es all n total =
-    (puts : List Update) → IsPlaced d spans seen cells es all puts
-    → HasAggregates d (puts_below spans n puts) total
+abbrev pub IsSummed : PlacedStore → ℕ → List (Option ℤ) → Type 0
+IsSummed s n total =
+    (puts : List Update) → Has s puts → HasAggregates (group_view s) (puts_below s.spans.items n puts) total
 
-module _ (d : Group) (spans : List Span) (seen : List Bool) (cells : List ℤ)
-    (es : List (List KeyPart × List (Option ℤ))) (all : List (Option ℤ)) where
-  pub sum_start : IsSummed d spans seen cells es all 0 all
-  sum_start puts is = subst (λ ws. HasAggregates d ws all)
-      (filter_same (λ w. is_outside spans w.keys) (λ w. is_below spans 0 w.keys) puts
-      (of_each (λ w. is_outside spans w.keys ≡ is_below spans 0 w.keys) puts
-      (λ w c. sym (none_below spans w.keys))))
-      is.rest.total
+module _ (s : PlacedStore) where
+  pub sum_start : IsSummed s 0 s.rest.total
+  sum_start puts is = subst (λ ws. HasAggregates (group_view s) ws s.rest.total)
+      (filter_each puts (λ w c. sym (none_below s.spans.items w.keys))) is.rest.total
 
-  pub sum_end : (n : ℕ) → n ≡ places spans → (total : List (Option ℤ))
-      → IsSummed d spans seen cells es all n total → (puts : List Update)
-      → IsPlaced d spans seen cells es all puts → HasAggregates d puts total
-  sum_end n same total summed puts is =
-      subst (λ ws. HasAggregates d ws total) (all_puts spans n puts same) (summed puts is)
+  pub sum_end : (n : ℕ) → n ≡ places s.spans.items → (total : List (Option ℤ)) → IsSummed s n total
+      → (puts : List Update) → Has s puts → HasAggregates (group_view s) puts total
+  sum_end n same total summed puts is = subst (λ ws. HasAggregates (group_view s) ws total)
+      (filter_each puts (λ w c. all_below s.spans.items w.keys n same) ∙ filter_all puts)
+      (summed puts is)
 
-  module _ (long : length cells ≡ length d.aggregates * length seen) (n : ℕ)
-      (here : n < length seen) (total : List (Option ℤ))
-      (summed : IsSummed d spans seen cells es all n total) where
-    each_wide : (a : ℕ) → a < length d.aggregates
-        → length (aggregate_cells d seen cells a) ≡ length seen
-    each_wide a h = cut_wide (length seen) (length d.aggregates) cells a long h
+  module _ (n : ℕ) (here : n < length s.seen.items) (total : List (Option ℤ))
+      (summed : IsSummed s n total) where
+    pub sum_skip : get_or s.seen.items n false ≡ false → IsSummed s (suc n) total
+    sum_skip marked puts is = coe 1 0 (i. HasAggregates (group_view s) (filter_each puts
+        (none_more s.spans.items n puts (none_there _ _ _ _ _ _ puts is n here s.long marked)) i)
+        total) (summed puts is)
 
-    pub sum_skip : get_or seen n false ≡ false → IsSummed d spans seen cells es all (suc n) total
-    sum_skip marked puts is =
-        subst (λ ws. HasAggregates d ws total)
-        (sym (same_below d spans n puts
-        (none_there d spans seen cells es all puts is n here each_wide marked))) (summed puts is)
+    module _ (row : List (Option ℤ)) (marked : get_or s.seen.items n false ≡ true)
+        (at : IsRowAt (group_view s) s.seen.items s.cells.items n row) where
+      -- an aggregate of the total and that of the row
+      both : (puts : List Update) → Has s puts → (a : ℕ) → a < length (group_view s).aggregates
+          → merged (aggregate_at (group_view s).aggregates a) (get_or total a None) (get_or row a None)
+          ≡ held (aggregate_at (group_view s).aggregates a)
+          (numbers_for a (puts_below s.spans.items (suc n) puts))
+      both puts is a h =
+          let adds = (row_there _ _ _ _ _ _ puts is n here s.long row marked at).1 in
+          (λ i. merged (aggregate_at (group_view s).aggregates a) (summed puts is a h i) (adds a h i))
+          ∙ sym (held_parts (aggregate_at (group_view s).aggregates a) a _ _ _ puts
+          (split_at s.spans.items n puts))
 
-    module _ (row : List (Option ℤ)) (marked : get_or seen n false ≡ true)
-        (at : IsRowAt d seen cells n row) where
-      pub sum_more : (new : List (Option ℤ)) → IsMerged d.aggregates total row new
-          → IsSummed d spans seen cells es all (suc n) new
-      sum_more new merges puts is =
-          total_more d spans n puts total row new (summed puts is)
-          (row_there d spans seen cells es all puts is n here each_wide row marked at).1 merges
+      pub sum_more : (new : List (Option ℤ)) → IsMerged (group_view s).aggregates total row new
+          → IsSummed s (suc n) new
+      sum_more new merges puts is a h = merges a h ∙ both puts is a h
 
-      pub sum_stays : IsPlacedWithRoom d spans seen cells es all → MergeStays d.aggregates total row
-      sum_stays room = ∥∥₁_elim room
-          (let prop : IsProp (MergeStays d.aggregates total row) = hlevel Bool-set in prop) by
-        where
-          by : (puts : List Update) × IsPlaced d spans seen cells es all puts × AreInBits d puts
-              → MergeStays d.aggregates total row
-          by r = total_stays d spans n r.0 total row r.2 (summed r.0 r.1)
-              (row_there d spans seen cells es all r.0 r.1 n here each_wide row marked at).1
+      pub sum_stays : MergeStays (group_view s).aggregates total row
+      sum_stays = ∥∥₁_elim s.room
+          (let prop : IsProp (MergeStays (group_view s).aggregates total row) = hlevel Bool-set in prop)
+          (λ r a h. ap (leaves (aggregate_at (group_view s).aggregates a)) (both r.0 r.1 a h)
+          ∙ r.2 (is_below s.spans.items (suc n)) a h)

@@ -4,7 +4,7 @@ use Rattle.star_group.proofs.Common.{AllByRecursion, append_cancel_left, list_an
 use Rattle.star_group.proofs.Common.{IsMergedWhere, IsRolledUp, IsRolledUpWithRoom, NoneCoarser, RollsUp, first_finer, is_among, keys_from, IsMergedAt, RowsStay, group_with, is_row_key, Aggregate, Shape, Plain, Cube, Rollup, is_grouping, finer, ∥∥₁_elim, ∥∥₁_map, Bool-set}
 use Rattle.star_group.proofs.Common.{and-or_distrib_left, take-length, and_parts, Update, Group, AreOnce, length-take-le, get_or-append, get_or-take, get_or_append_left}
 use Rattle.star_group.proofs.OwnKeyLemmas.{kept_before, length-padded, one_more, set_there, vary-more}
-use Rattle.star_group.proofs.Passes.{AreApart, AreOver, any_mapped, comes, disjoint, filter_same, joined, left_out, merged_one, none_yet, so_far, some_at, stays_one}
+use Rattle.star_group.proofs.Passes.{AreApart, AreOver, any_mapped, comes, disjoint, filter_each, joined, left_out, merged_one, none_yet, so_far, some_at, stays_one}
 use Rattle.star_group.proofs.{GivenGroups.mapped, GroupKeys.bool_same, GroupKeys.key_decides, GroupKeys.key_equiv, KeyedRows.once_at, KeyedRows.once_joined, KeyedRows.row_once, Merging.has_put, Merging.put_of}
 use Rattle.star_group.specs.OwnKeys.{padded}
 
@@ -99,8 +99,7 @@ row_keys_more s place count ks within few fits xs ys e f =
     let own : List (List (Option KeyValue)) = keys_from (place + 1) count ks in
     let G : List (Option KeyValue) → Bool = is_row_key s count in
     let left = kept_before G (hide place) own
-    (of_each (λ k. G (hide place k) ≡ true → G k ≡ true) own
-    (λ k c h. finer_key s place count ks within few fits k
+    (of_each _ own (λ k c h. finer_key s place count ks within few fits k
     (begins place count ks within few k (list_any-from_Contains key_equiv k own c)) h)) in
     f ∙ (λ i. e i ++ filter G (map (hide place) (e i))) ∙ ap (λ l. filter G own ++ l) (sym left)
     ∙ sym (filter-append G own (map (hide place) own))
@@ -309,13 +308,10 @@ module _ (d : Group) (us : List Update) (place : ℕ) (within : place < d.count)
     all_merged = record {
       fit = rolled.fit;
       rows = λ q. subst (λ ps. IsRowOver d ps (row_found (es ++ fs) q))
-          (filter_same (λ u. In q u.keys || so_far In Made (hide place) es (length es) q u.keys)
-          (λ u. is_among d.shape place d.count q u.keys) us
-          (of_each (λ u. (In q u.keys || so_far In Made (hide place) es (length es) q u.keys)
-          ≡ is_among d.shape place d.count q u.keys) us (now_in q)))
+          (filter_each us (now_in q))
           (joined us In Made (hide place) es apart (length es) d fs rolled.rows over q);
       once = once_joined es fs rolled.once once
-          (of_each (λ f. row_found es (key_view f.0) ≡ None) fs new_key);
+          (of_each _ fs new_key);
     }
 
   -- in a rollup no row has a coarser key with ALL one place before: the key at this place is shown
@@ -428,7 +424,7 @@ module _ (shape : Shape) (count : ℕ) (gs : List Aggregate) (place : ℕ)
             merged_one puts (is_among shape (place + 1) count) (IsMade shape count) (hide place) es
             apart (once_at es rolled.once) j e at d
             (ap (IsMade shape count) (sym is_key) ∙ grouping)
-            (row_over d puts place within few es rolled j e at) before after key is_key merged
+            (row_over d puts place within few es rolled j e at) before key is_key after merged
             (over puts below few rolled)
         by false other same = subst
             (AreOver d puts (so_far (is_among shape (place + 1) count) (IsMade shape count)

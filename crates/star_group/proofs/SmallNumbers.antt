@@ -4,7 +4,7 @@ use Rattle.star_group.proofs.Common.{IsDistinct-head, IsDistinct-tail, list_any,
 use Rattle.std.specs.Prelude.{All}
 use Rattle.star_interval.specs.Range.{is_i64}
 use Rattle.star_group.specs.Stores.{above_zero, below_zero}
-use Rattle.star_group.proofs.ContentByKeys.{sums, told}
+use Rattle.star_group.proofs.ContentByKeys.{told}
 use Rattle.star_group.proofs.JoinedParts.{flipped, more, no_two, over, over_more}
 
 -- ---- a measure of numbers that is no more for a sum than for its parts together

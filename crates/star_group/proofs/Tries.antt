@@ -1,6 +1,6 @@
 -- Rows found by the digits of their keys: looking one up, and one row more.
-use Rattle.star_group.proofs.Common.{◌≡◌, ◌≢◌, ℕ, zero, suc, ◌+◌, ◌-◌, ◌*◌, ◌/◌, ◌%◌, ◌^◌, ◌<◌, ◌≤◌, List, [], ◌∷◌, ◌++◌, Bool, true, false, MatchBool, true≢false, length, drop, cond, nat_lt, get_or, set, ap, sym, ◌∙◌, subst, refl, arith, rules, below_more, get_or-set_same}
-use Rattle.star_group.proofs.Common.{get_or-set_other, ◌⊎◌, inl, inr, cases_eq, cases_lt, at_drop_more, get_or_append_left, get_or_past, get_or_default, get_or_push, length-append, length-set, ∥∥₁_elim, ∥∥₁_map, KeyPart, All, eq-value, Decides, signed_Decides, unsigned_Decides, pointwise}
+use Rattle.star_group.proofs.Common.{◌≡◌, ℕ, zero, suc, ◌+◌, ◌-◌, ◌*◌, ◌/◌, ◌%◌, ◌^◌, ◌<◌, ◌≤◌, List, [], ◌∷◌, ◌++◌, Bool, true, false, MatchBool, true≢false, length, drop, cond, nat_lt, get_or, set, ap, sym, ◌∙◌, subst, refl, arith, rules, below_more, get_or-set_same}
+use Rattle.star_group.proofs.Common.{get_or-set_other, ◌⊎◌, inl, inr, ⊎_elim, cases_eq, cases_lt, at_drop_more, get_or_append_left, get_or_past, get_or_default, get_or_push, length-append, length-set, ∥∥₁_elim, ∥∥₁_map, KeyPart, All, eq-value, Decides, signed_Decides, unsigned_Decides, pointwise}
 use Rattle.star_group.proofs.Common.{slice_eq-Decides, IsTrie, IsMissing, Leads, child, key_at, part_digit, turn_at, word_with}
 use Rattle.star_group.specs.{declared.keyed.key.KeyPart.TheVariants.Number, declared.keyed.key.KeyPart.TheVariants.Code, Private.Tries.digit_at, Private.Tries.node_at, Private.Tries.word_from}
 use Rattle.star_program.specs.Rows.{cut}
@@ -148,11 +148,11 @@ module _ (width : ℕ) (ks : List (List KeyPart)) (links : List (List ℕ)) (key
         first n leads = omega (arith, leads.end, top)
 
         at : (n e : ℕ) → key_at ks n ≡ key → Leads width links key e (n + 1)
-            → (e ≤ depth) ⊎ (depth < e) → ⊥
-        at n e same leads (inr deeper) = let more = leads.steps depth deeper in
+            → (depth < e) ⊎ (e ≤ depth) → ⊥
+        at n e same leads (inl deeper) = let more = leads.steps depth deeper in
             omega (arith, more, next_is, empty)
-        at n zero same leads (inl h) = first n leads
-        at n (suc e) same leads (inl h) =
+        at n zero same leads (inr h) = first n leads
+        at n (suc e) same leads (inr h) =
             down.others e (omega (arith, h))
             (ap (λ m. key_at ks (m - 1)) leads.end
             ∙ ap (key_at ks) (let b : n + 1 - 1 ≡ n = omega arith in b) ∙ same)
@@ -161,14 +161,7 @@ module _ (width : ℕ) (ks : List (List KeyPart)) (links : List (List ℕ)) (key
         none n h same =
             ∥∥₁_elim (trie.reached n h) no_prop
             (λ r. at n r.0 same (subst (λ k. Leads width links k r.0 (n + 1)) same r.1)
-            (order r.0))
-          where
-            order : (e : ℕ) → (e ≤ depth) ⊎ (depth < e)
-            order e = by (cases_lt depth e)
-              where
-                by : (depth < e) ⊎ (e ≤ depth) → (e ≤ depth) ⊎ (depth < e)
-                by (inl h) = inr h
-                by (inr h) = inl h
+            (cases_lt depth r.0))
 
 -- ---- one row more
 
@@ -225,39 +218,46 @@ module _ (width : ℕ) (ks : List (List KeyPart)) (links : List (List ℕ)) (key
       let wide : digit < length (get_or (links ++ fresh ∷ []) node []) =
       omega (arith, slot.few, ap length (kept node slot.within), trie.wide node slot.within) in
       ap (λ l. get_or l digit 0)
-      (get_or-set_same (links ++ fresh ∷ []) node
-      (set (get_or (links ++ fresh ∷ []) node []) digit (length links)) []
-      (omega (arith, slot.within, more_links)))
+      (get_or-set_same (links ++ fresh ∷ []) node _ [] (omega (arith, slot.within, more_links)))
       ∙ get_or-set_same (get_or (links ++ fresh ∷ []) node []) digit (length links) 0 wide
 
-  other_digit : (g : ℕ) → g ≢ digit → child (linked links node digit) node g ≡ child links node g
-  other_digit g ne =
-      ap (λ l. get_or l g 0) (get_or-set_same (links ++ fresh ∷ []) node
-      (set (get_or (links ++ fresh ∷ []) node []) digit (length links)) []
-      (omega (arith, slot.within, more_links)))
-      ∙ get_or-set_other (get_or (links ++ fresh ∷ []) node []) digit g (length links) 0 ne
-      ∙ ap (λ l. get_or l g 0) (kept node slot.within)
+  -- the new node has nothing below it
+  added : (m g : ℕ) → child (links ++ fresh ∷ []) m g ≡ child links m g
+  added m g = by (cases_lt m (length links)) (cases_eq (length links) m)
+    where
+      past : length links ≤ m → child links m g ≡ 0
+      past high = ap (λ l. get_or l g 0) (get_or_past links m [] high)
 
-  other_node : (m g : ℕ) → m ≢ node
-      → child (linked links node digit) m g ≡ child (links ++ fresh ∷ []) m g
-  other_node m g ne = ap (λ l. get_or l g 0)
-      (get_or-set_other (links ++ fresh ∷ []) node m
-      (set (get_or (links ++ fresh ∷ []) node []) digit (length links)) [] ne)
+      by : (m < length links) ⊎ (length links ≤ m) → (length links ≡ m) ⊎ (length links ≡ m → ⊥)
+          → child (links ++ fresh ∷ []) m g ≡ child links m g
+      by (inl low) c = ap (λ l. get_or l g 0) (kept m low)
+      by (inr high) (inl e) = ap (λ l. get_or l g 0) (get_or_push links fresh [] m e) ∙ fresh_none g
+          ∙ sym (past high)
+      by (inr high) (inr apart) = ap (λ l. get_or l g 0)
+          (get_or_past (links ++ fresh ∷ []) m [] (omega (arith, high, apart, more_links)))
+          ∙ sym (past high)
+
+  -- a link is as it was, or it is the new one
+  link : (m g : ℕ) → (child (linked links node digit) m g ≡ child links m g)
+      ⊎ ((m ≡ node) × (g ≡ digit))
+  link m g = by (cases_eq m node) (cases_eq g digit)
+    where
+      by : (m ≡ node) ⊎ (m ≡ node → ⊥) → (g ≡ digit) ⊎ (g ≡ digit → ⊥)
+          → (child (linked links node digit) m g ≡ child links m g) ⊎ ((m ≡ node) × (g ≡ digit))
+      by (inl e) (inl f) = inr (e, f)
+      by (inl e) (inr ne) = inl (ap (λ k. child (linked links node digit) k g) e
+          ∙ ap (λ l. get_or l g 0)
+          (get_or-set_same (links ++ fresh ∷ []) node _ [] (omega (arith, slot.within, more_links)))
+          ∙ get_or-set_other (get_or (links ++ fresh ∷ []) node []) digit g (length links) 0 ne
+          ∙ added node g ∙ ap (λ k. child links k g) (sym e))
+      by (inr ne) c = inl (ap (λ l. get_or l g 0)
+          (get_or-set_other (links ++ fresh ∷ []) node m _ [] ne) ∙ added m g)
 
   -- a link that was there is there
   stays : (m g : ℕ) → 0 < child links m g → child (linked links node digit) m g ≡ child links m g
-  stays m g there = by (cases_eq m node) (cases_eq g digit) (cases_lt m (length links))
-    where
-      by : (m ≡ node) ⊎ (m ≡ node → ⊥) → (g ≡ digit) ⊎ (g ≡ digit → ⊥)
-          → (m < length links) ⊎ (length links ≤ m)
-          → child (linked links node digit) m g ≡ child links m g
-      by (inl e) (inl f) h = let none : child links m g ≡ 0 =
-          (λ i. child links (e i) (f i)) ∙ slot.empty in omega (arith, none, there)
-      by (inl e) (inr ne) h = subst (λ k. child (linked links node digit) k g ≡ child links k g)
-          (sym e) (other_digit g ne)
-      by (inr ne) c (inl h) = other_node m g ne ∙ ap (λ l. get_or l g 0) (kept m h)
-      by (inr ne) c (inr h) = let none : child links m g ≡ 0 =
-          ap (λ l. get_or l g 0) (get_or_past links m [] h) in omega (arith, none, there)
+  stays m g there = ⊎_elim (λ e. e)
+      (λ f. let none = (λ i. child links (f.0 i) (f.1 i)) ∙ slot.empty in
+      absurd (omega (arith, none, there))) (link m g)
 
   path_stays : (k : List KeyPart) (depth : ℕ)
       → ((i : ℕ) → i < depth → 0 < node_at width links k (suc i))
@@ -326,8 +326,7 @@ module _ (width : ℕ) (ks : List (List KeyPart)) (links : List (List ℕ)) (key
               → length (get_or (linked links node digit) m []) ≡ 4
           by (inl e) c =
               ap (λ k. length (get_or (linked links node digit) k [])) e
-              ∙ ap length (get_or-set_same (links ++ fresh ∷ []) node
-              (set (get_or (links ++ fresh ∷ []) node []) digit (length links)) []
+              ∙ ap length (get_or-set_same (links ++ fresh ∷ []) node _ []
               (omega (arith, slot.within, more_links)))
               ∙ length-set (get_or (links ++ fresh ∷ []) node []) digit (length links)
               ∙ ap length (kept node slot.within) ∙ trie.wide node slot.within
@@ -341,36 +340,15 @@ module _ (width : ℕ) (ks : List (List KeyPart)) (links : List (List ℕ)) (key
       below : (m g : ℕ) → 0 < child (linked links node digit) m g
           → (m < child (linked links node digit) m g)
           × (child (linked links node digit) m g < length (linked links node digit))
-      below m g there = by (cases_eq m node) (cases_eq g digit) (cases_lt m (length links))
+      below m g there = by (link m g)
         where
-          old : child (linked links node digit) m g ≡ child links m g
+          by : (child (linked links node digit) m g ≡ child links m g) ⊎ ((m ≡ node) × (g ≡ digit))
               → (m < child (linked links node digit) m g)
               × (child (linked links node digit) m g < length (linked links node digit))
-          old e = let b = trie.below m g (subst (λ n. 0 < n) e there) in
+          by (inl e) = let b = trie.below m g (subst (λ n. 0 < n) e there) in
               (omega (arith, e, b.0), omega (arith, e, b.1, all_links))
-
-          by : (m ≡ node) ⊎ (m ≡ node → ⊥) → (g ≡ digit) ⊎ (g ≡ digit → ⊥)
-              → (m < length links) ⊎ (length links ≤ m)
-              → (m < child (linked links node digit) m g)
-              × (child (linked links node digit) m g < length (linked links node digit))
-          by (inl e) (inl f) c =
-              let new : child (linked links node digit) m g ≡ length links =
-              (λ i. child (linked links node digit) (e i) (f i)) ∙ to_new in
-              (omega (arith, new, e, slot.within), omega (arith, new, all_links))
-          by (inl e) (inr ne) c = old
-              (subst (λ k. child (linked links node digit) k g ≡ child links k g) (sym e)
-              (other_digit g ne))
-          by (inr ne) c (inl low) = old (other_node m g ne ∙ ap (λ l. get_or l g 0) (kept m low))
-          by (inr ne) c (inr high) =
-              absurd (let none = beyond (cases_eq (length links) m) in omega (arith, none, there))
-            where
-              beyond : (length links ≡ m) ⊎ (length links ≡ m → ⊥)
-                  → child (linked links node digit) m g ≡ 0
-              beyond (inl e) = other_node m g ne
-                  ∙ ap (λ l. get_or l g 0) (get_or_push links fresh [] m e) ∙ fresh_none g
-              beyond (inr apart) = other_node m g ne
-                  ∙ ap (λ l. get_or l g 0)
-                  (get_or_past (links ++ fresh ∷ []) m [] (omega (arith, high, apart, more_links)))
+          by (inr f) = let new = (λ i. child (linked links node digit) (f.0 i) (f.1 i)) ∙ to_new in
+              (omega (arith, new, f.0, slot.within), omega (arith, new, all_links))
 
       which : (n : ℕ) → n < length (ks ++ key ∷ []) → (n < length ks) ⊎ (length ks ≡ n)
       which n h = by (cases_lt n (length ks))
@@ -395,16 +373,11 @@ module _ (width : ℕ) (ks : List (List KeyPart)) (links : List (List ℕ)) (key
               ))
           by (inr last) =
               let to : length links ≡ n + 1 = trie.many ∙ ap (λ m. m + 1) last in
-              let is : key ≡ key_at (ks ++ key ∷ []) n =
-              sym new_key ∙ ap (key_at (ks ++ key ∷ [])) last in
+              let is = sym new_key ∙ ap (key_at (ks ++ key ∷ [])) last in
               ∣ (
                 slot.depth + 1,
-                subst
-                    (λ m. Leads width (linked links node digit) (key_at (ks ++ key ∷ []) n)
-                    (slot.depth + 1) m) to (subst
-                    (λ k. Leads width (linked links node digit) k (slot.depth + 1) (length links))
-                    is
-                    leads_new),
+                coe 0 1 (i. Leads width (linked links node digit) (is i)
+                    (slot.depth + 1) (to i)) leads_new,
               ) ∣₁
 
       once : (i j : ℕ) → i < length (ks ++ key ∷ []) → j < length (ks ++ key ∷ [])
@@ -428,8 +401,5 @@ module _ (width : ℕ) (ks : List (List KeyPart)) (links : List (List ℕ)) (key
   is_trie_after fs ls inner default number rows more at is =
       let there : node < length ls = omega (arith, slot.within, ap length more, more_links) in
       let first : inner ≡ get_or ls node [] = at ∙ get_or_default ls node default [] there in
-      let same : set ls node (set inner digit number) ≡ linked links node digit =
-      (λ i. set (more i) node (set ((first ∙ ap (λ l. get_or l node []) more) i) digit
-      (is i))) in
-      subst (λ l. IsTrie width fs l) (sym same)
-      (subst (λ f. IsTrie width f (linked links node digit)) (sym rows) one_more)
+      coe 1 0 (i. IsTrie width (rows i) (set (more i) node
+      (set ((first ∙ ap (λ l. get_or l node []) more) i) digit (is i)))) one_more

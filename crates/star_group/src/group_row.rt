@@ -5,11 +5,6 @@ ghost use Rattle.std.specs.Prelude.{◌≡◌, ◌≤◌, take};
 use crate::KeyValue;
 use std::marker::Model;
 
-// A key of a row, in which nothing is ALL; past the group's keys there is nothing.
-pub(crate) type Key = [Option<KeyValue>; 6];
-
-pub(crate) const ALL: Key = [None; 6];
-
 // Of the `ArrayVec` of the crate `arrayvec` contracts would see a record that holds the list.
 /// The first items of an array. A contract sees the list of them.
 #[derive(Drop)]

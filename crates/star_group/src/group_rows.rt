@@ -7,10 +7,9 @@ ghost use Rattle.star_schema.specs.Groups as groups;
 ghost use Rattle.star_group.specs.Private.Given as spec;
 
 use crate::cell::{Held, shown};
-use crate::group_row::ALL;
 use crate::keyed::ListedRows;
-use crate::keyed::key::{ALL_HIDDEN, is_grouping, shown_key};
-use crate::{KeyValue, RowAggregates, RowKeys};
+use crate::keyed::key::{ALL_HIDDEN, is_grouping};
+use crate::{KeyValue, RowAggregates};
 use star_schema::{Aggregate, Shape};
 use std::alloc::AllocError;
 use std::marker::Model;
@@ -54,18 +53,6 @@ impl GroupRows {
         ensures { result ≡ length self.now }
     {
         self.rows.len()
-    }
-
-    /// The keys of the row of a number from 0, in order, in which `None` is ALL; none where there
-    /// is no such row.
-    pub fn keys(&self, number: usize) -> RowKeys
-        ensures { result ≡ (row_at self.now number).keys }
-    {
-        if number < self.rows.len() {
-            RowKeys::new(shown_key(&self.rows.key(number)), self.key_count)
-        } else {
-            RowKeys::new(ALL, 0)
-        }
     }
 
     /// The key at a place of the row of a number from 0, in which `None` is ALL; `None` where there

@@ -59,6 +59,22 @@ pub trait GroupStore: Drop {
         ensures refused { OnErr result ((puts : List Update) → has self.old puts → has self.new puts) }
         ensures group { group self.new ≡ group self.old };
 
+    /// Puts the rows of a batch together, as `put_batch` puts them one after another: whether it did.
+    /// A store may leave a batch to `put_batch`, and then nothing changes. Takes no memory.
+    fn put_together(&mut self, _batch: &PutBatch<'_>) -> bool
+        requires declared { group_declared _batch.now.declared.now ≡ group self.old }
+        requires batch { IsPutBatch _batch.now }
+        requires room { (puts : List Update) × has self.old puts
+            × HasRoomForRows (group self.old) (put_in _batch.now) puts _batch.now.rows }
+        ensures all { result ≡ true → (puts : List Update) → has self.old puts
+            → has self.new (puts_after (put_in _batch.now) puts _batch.now.rows) }
+        ensures none { result ≡ false → (puts : List Update) → has self.old puts
+            → has self.new puts }
+        ensures group { group self.new ≡ group self.old }
+    {
+        false
+    }
+
     // The condition is asked row by row: that there is room for all rows together gives no room for
     // the first, since positive sums may be greater before negative numbers come.
     /// The puts of some rows, one after another in order. Its condition is that of each of these
@@ -76,6 +92,9 @@ pub trait GroupStore: Drop {
             × has self.new (puts_after (put_in batch.now) puts rows)) }
         ensures group { group self.new ≡ group self.old }
     {
+        if self.put_together(batch) {
+            return Ok(());
+        }
         for row in 0..batch.rows {
             let keys = batch.keys_in(row);
             let numbers = batch.numbers_in(row);

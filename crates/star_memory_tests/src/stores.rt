@@ -175,9 +175,18 @@ fn aggregates_at(rows: &GroupRows, number: usize) -> Row {
     ]
 }
 
+fn has_keys(rows: &GroupRows, number: usize, keys: &[Option<KeyValue>]) -> bool {
+    for place in 0..keys.len() {
+        if rows.key(number, place) != keys[place] {
+            return false;
+        }
+    }
+    rows.key(number, keys.len()).is_none()
+}
+
 fn has_row(rows: &GroupRows, keys: &[Option<KeyValue>], row: Row) -> bool {
     for number in 0..rows.len() {
-        if rows.keys(number).as_slice() == keys && aggregates_at(rows, number) == row {
+        if has_keys(rows, number, keys) && aggregates_at(rows, number) == row {
             return true;
         }
     }

@@ -1,5 +1,6 @@
 -- What stands at places after one number more for each of some rows.
-use Rattle.std.specs.Prelude.{◌≡◌, ℕ, zero, suc, ◌<◌, false, ℤ, pos, List, [], ◌∷◌, Some, length, slice_index_or, slice_set, take, drop}
+use Rattle.std.specs.Prelude.{◌≡◌, ℕ, zero, suc, ◌<◌, false, true, ℤ, pos, List, [], ◌∷◌, Some, length, slice_index_or, slice_set, take, drop}
+use Rattle.star_interval.specs.Range.{is_i64}
 use Rattle.star_schema.specs.{declared.group.Aggregate.Aggregate, declared.group.Aggregate.TheVariants.Count}
 use Rattle.star_program.specs.{Puts.leaves, Rows.cut}
 use Rattle.star_group.specs.{declared.batch.PutBatch.PutBatch, Batches.put_in, Cells.step, Stores.put_number}
@@ -48,3 +49,7 @@ numbers_from number (suc rows) = number 0 ∷ numbers_from (λ row. number (suc 
 -- the lanes of the numbers of a batch's puts
 abbrev pub batch_lanes : PutBatch → ℕ → List ℤ
 batch_lanes b a = numbers_from (λ row. put_number a (put_in b row)) b.rows
+
+-- the numbers of a batch's puts for an aggregate have 64 bits
+abbrev pub HasNarrow : PutBatch → ℕ → Type 0
+HasNarrow b a = (row : ℕ) → row < b.rows → is_i64 (put_number a (put_in b row)) ≡ true

@@ -1,5 +1,5 @@
 -- Rows found by the digits of their keys: each row is below one whose key it shares some digits with.
-use Rattle.std.specs.Prelude.{◌≡◌, Bool, true, false, ℕ, zero, suc, ◌+◌, ◌-◌, ◌*◌, ◌/◌, ◌%◌, ◌^◌, ◌<◌, nat_lt, if◌then◌else◌, List, [], ◌∷◌, length, slice_index_or}
+use Rattle.std.specs.Prelude.{◌≡◌, ℕ, zero, suc, ◌+◌, ◌-◌, ◌*◌, ◌/◌, ◌%◌, ◌^◌, ◌<◌, nat_lt, if◌then◌else◌, List, [], ◌∷◌, length, slice_index_or}
 use Rattle.std.specs.{Int.cast_unsigned, Int.w64}
 use Rattle.star_group.specs.{declared.keyed.key.KeyPart.KeyPart, declared.keyed.trie.Place.Place, declared.keyed.trie.Place.TheVariants.Held, declared.keyed.trie.Place.TheVariants.Missing, declared.keyed.key.KeyPart.TheVariants.All, declared.keyed.key.KeyPart.TheVariants.Number}
 use Rattle.star_group.specs.{declared.keyed.key.KeyPart.TheVariants.Code}

@@ -7,7 +7,6 @@ ghost use Rattle.star_group.specs.{OwnKeys.padded, Base.key_view, Base.key_value
 ghost use Rattle.star_schema.specs.Groups as spec;
 
 use crate::KeyValue;
-use crate::group_row::{ALL, Key};
 use star_schema::Shape;
 
 // One place of a row's key.
@@ -116,15 +115,4 @@ pub(crate) fn is_grouping(shape: Shape, key_count: usize, parts: &OrderedKey) ->
         Shape::Cube => true,
         Shape::Rollup => are_shown_first(&parts[..key_count]),
     }
-}
-
-// The key as a row shows it.
-pub(crate) fn shown_key(parts: &OrderedKey) -> Key
-    ensures { result ≡ key_view parts.now }
-{
-    let mut key = ALL;
-    for place in 0..6 {
-        key[place] = value_in(parts[place]);
-    }
-    key
 }

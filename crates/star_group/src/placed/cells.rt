@@ -3,8 +3,9 @@
 ghost use Rattle.std.specs.Prelude.{◌≡◌, ◌≤◌, ◌<◌, ◌+◌, ◌*◌, ◌∷◌, ℕ, All, List, None, [], false, length, map, pos, slice_index_or, slice_set, true, Some};
 ghost use Rattle.star_interval.specs.Range.{is_i64};
 ghost use Rattle.star_program.specs.{Faults.value_count, Puts.aligned, Puts.leaves, Rows.cut};
-ghost use Rattle.star_group.specs.Private.Taken.{AreCellsTaken, AreWithin, CanTake, CanTakeAll, after_rows, batch_lanes, column_after, lanes_of};
-ghost use Rattle.star_group.specs.{Batches.IsPutBatch, Batches.put_in, Batches.word_in, Cells.step, Stores.put_number};
+ghost use Rattle.star_group.specs.Private.Taken.{AreCellsTaken, AreWithin, CanTake, CanTakeAll, HasNarrow, after_rows, batch_lanes, column_after, lanes_of};
+ghost use Rattle.star_group.specs.{Batches.IsPutBatch, Batches.word_in, Cells.step};
+ghost use Rattle.star_schema.specs.declared.group.Aggregate.TheVariants.{Count};
 
 use crate::batch::PutBatch;
 use crate::cell::{Held, Row};
@@ -109,18 +110,6 @@ fn take_rows_of(aggregate: Aggregate, cell: i128, at: &[u32], lane: &[i64]) -> i
     }
 }
 
-// The cells of one aggregate, of which there is one, with a number more for each row.
-fn take_one_cell(aggregate: Aggregate, cells: &mut [i128], at: &[u32], lane: &[i64])
-    requires one { length cells.old ≡ 1 }
-    requires same { length lane.now ≡ length at.now }
-    requires within { AreWithin at.now (length cells.old) }
-    requires stays { CanTake aggregate lane.now at.now cells.old }
-    ensures cells { cells.new ≡ column_after aggregate lane.now at.now cells.old (length at.now) }
-    ensures len { length cells.new ≡ length cells.old }
-{
-    cells[0] = take_rows_of(aggregate, cells[0], at, lane);
-}
-
 // The cells of one aggregate with a number more at the group id of each row, in its own loop for
 // each kind of aggregate.
 fn take_lane_of(aggregate: Aggregate, cells: &mut [i128], at: &[u32], lane: &[i64])
@@ -131,7 +120,8 @@ fn take_lane_of(aggregate: Aggregate, cells: &mut [i128], at: &[u32], lane: &[i6
     ensures len { length cells.new ≡ length cells.old }
 {
     if cells.len() == 1 {
-        return take_one_cell(aggregate, cells, at, lane);
+        cells[0] = take_rows_of(aggregate, cells[0], at, lane);
+        return;
     }
     match aggregate {
         Aggregate::Sum => take_lane(Aggregate::Sum, cells, at, lane),
@@ -296,13 +286,17 @@ pub(crate) fn take_lanes(
     requires rows { length at.now ≡ batch.now.rows }
     requires long { length cells.old ≡ length aggregates.now * places }
     requires within { AreWithin at.now places }
-    requires stays { CanTakeAll aggregates.now places (batch_lanes batch.now) at.now cells.old }
-    ensures { AreCellsTaken aggregates.now places (batch_lanes batch.now) at.now cells.old cells.new }
+    requires stays { (a : ℕ) → a < length aggregates.now → HasNarrow batch.now a
+        → CanTake (slice_index_or aggregates.now a Count) (batch_lanes batch.now a) at.now
+        (slice_index_or (cut places (length aggregates.now) cells.old) a []) }
+    ensures cells { AreCellsTaken aggregates.now places (batch_lanes batch.now) at.now cells.old cells.new }
+    ensures narrow { (a : ℕ) → a < length aggregates.now → HasNarrow batch.now a }
 {
     let aggregate_count = aggregates.len();
     let mut left = batch.values;
     for number in 0..aggregate_count {
         let (lane, others) = next_lane(aggregates[number], batch, left);
+        are_narrow(lane);
         take_column(
             cells,
             aggregate_count,
@@ -312,21 +306,6 @@ pub(crate) fn take_lanes(
             at,
             lane,
         );
-        left = others;
-    }
-}
-
-// That the numbers of the rows of a batch have 64 bits.
-pub(crate) fn lanes_are_narrow(aggregates: &[Aggregate], batch: &PutBatch<'_>)
-    requires batch { IsPutBatch batch.now }
-    requires declared { aggregates.now ≡ batch.now.declared.now.aggregates }
-    ensures { (a : ℕ) → a < length aggregates.now → (row : ℕ) → row < batch.now.rows
-        → is_i64 (put_number a (put_in batch.now row)) ≡ true }
-{
-    let mut left = batch.values;
-    for number in 0..aggregates.len() {
-        let (lane, others) = next_lane(aggregates[number], batch, left);
-        are_narrow(lane);
         left = others;
     }
 }

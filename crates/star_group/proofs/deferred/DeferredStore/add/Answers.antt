@@ -1,4 +1,4 @@
-use Rattle.star_group.proofs.Common.{◌≡◌, ◌≤◌, ◌∷◌, List, arith, rules, subst, sym, HasBaseWithRoom, IsBase, IsMerged, IsMergedAt, IsRowOfOnePut, MergeStays, RowsStay, entries_of, key_view, row_found, Update}
+use Rattle.star_group.proofs.Common.{◌≡◌, ◌∷◌, List, arith, rules, subst, sym, HasBaseWithRoom, IsBase, IsMerged, IsMergedAt, IsRowOfOnePut, MergeStays, RowsStay, entries_of, key_view, row_found, Update}
 use Rattle.star_group.proofs.{Bases.base_more, Bases.base_stays, Bases.total_stays, KeyedRows.base_narrow, deferred.DeferredStore.add.Goals.After-merge-2}
 use Rattle.star_group.specs.Deferred.{group_view}
 use Rattle.star_group.proofs.deferred.DeferredStore.add.Goals as goal

@@ -1,4 +1,4 @@
-use Rattle.star_group.proofs.Common.{◌≡◌, ◌<◌, ◌+◌, ◌∙◌, [], None, ap, arith, drop, get_or, length, set, subst, sym, drop-set-lt, slice_get-get_or, key_view, row_found, All, entries_of, listed_entries, all_hidden, IsMergedWhere, RowsStay}
+use Rattle.star_group.proofs.Common.{◌≡◌, ◌<◌, ◌∙◌, [], None, ap, arith, drop, get_or, length, set, subst, sym, drop-set-lt, slice_get-get_or, key_view, row_found, All, entries_of, listed_entries, all_hidden, IsMergedWhere, RowsStay}
 use Rattle.star_group.proofs.KeyedRows.{rows_once}
 use Rattle.star_group.proofs.Rolling.{IsMergedSoFar, none_before, rolls_up, turn_merges, turn_stays}
 use Rattle.star_group.proofs.deferred.coarser.coarser_rows.Goals as goal

@@ -1,4 +1,4 @@
-use Rattle.star_group.proofs.Common.{◌≡◌, ◌++◌, ◌∷◌, [], length, rules, set, subst, sym, take, IsTrie, keys_in, listed_keys}
+use Rattle.star_group.proofs.Common.{◌≡◌, ◌++◌, ◌∷◌, [], rules, set, subst, sym, take, IsTrie, keys_in, listed_keys}
 use Rattle.star_group.proofs.Tries.{is_trie_after}
 use Rattle.star_group.proofs.keyed.KeyedRows.push.Goals as goal
 

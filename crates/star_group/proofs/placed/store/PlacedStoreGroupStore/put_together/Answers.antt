@@ -1,5 +1,5 @@
 use Rattle.star_group.proofs.Common.{◌≡◌, ◌<◌, ℕ, Some, get_or, subst, put_in, cell_place}
-use Rattle.star_group.proofs.placed.store.PlacedStoreGroupStore.put_batch.Goals as goal
+use Rattle.star_group.proofs.placed.store.PlacedStoreGroupStore.put_together.Goals as goal
 
 pub put_at-requires-clause-at : goal.put_at-requires-clause-at
 put_at-requires-clause-at c =
