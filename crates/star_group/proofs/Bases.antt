@@ -2,7 +2,7 @@
 use Rattle.star_group.proofs.Common.{◌≡◌, ℕ, Bool, true, false, ℤ, List, [], ◌∷◌, Option, Some, None, length, get_or, cond, ap, sym, ◌∙◌, refl, subst, filter, unwrap_or, Aggregate, numbers_for, KeyValue, leaves, Update, aggregate_at, KeyPart, AreGrouped, HasAggregates, HasBaseWithRoom, IsBase}
 use Rattle.star_group.proofs.Common.{IsRowOver, key_view, puts_with, row_found, key_eq, padded, IsMerged, IsMergedAt, IsMergedInto, IsRowOfOnePut, MergeStays, RowsStay, cell_of_one_put, merged, Group, put_number, AreInBits, Sum, Count, Min, Max}
 use Rattle.star_group.specs.Cells.{held}
-use Rattle.star_group.proofs.GroupKeys.{key_decides, key_equiv}
+use Rattle.star_group.proofs.{Filters.filter_all, GroupKeys.key_decides, GroupKeys.key_equiv}
 use Rattle.star_group.proofs.Merging.{held_none, held_one, merged_comm, merged_more, no_puts, row_of_one}
 
 -- ---- look-ups after a row was merged in
@@ -23,10 +23,6 @@ module _ (gs : List Aggregate) (key : List (Option KeyValue)) (more : List (Opti
   other_row q apart = at.2 q ∙ ap (λ b. cond b (Some at.0) (row_found es q)) apart
 
 -- ---- one put more
-
-pub filter_all : (us : List Update) → filter (λ w. true) us ≡ us
-filter_all [] = refl
-filter_all (u ∷ us) = ap (λ ws. u ∷ ws) (filter_all us)
 
 module _ (d : Group) (us : List Update) (u : Update) (row : List (Option ℤ))
     (one : IsRowOfOnePut d.aggregates u.values row) where

@@ -28,10 +28,10 @@ pub use Rattle.star_schema.specs.{declared.column.ColumnId.TheVariants.PBrand1, 
 pub use Rattle.star_schema.specs.{declared.group.Shape.Shape, declared.group.Shape.TheVariants.Cube, declared.group.Shape.TheVariants.Plain, declared.group.Shape.TheVariants.Rollup}
 pub use Rattle.std.proofs.Common.{Bool, Err, FitsSigned, IfErr, IfOk, IfSome, IsOk, MatchBool, MatchOption, Ok, OnErr, OnOk, Result, [], add-one, ap, arith, below_more, cond, drop, false, get_or, inl, inr, map, nat_eq, nat_lt, negsuc, refl, replicate, rules, set, slice_get, slice_set}
 pub use Rattle.std.proofs.Common.{subst, suc, sym, take, true, true≢false, w64, zero, ⊎_elim, ◌%◌, ◌&&◌, ◌*◌, ◌++◌, ◌+ℤ◌, ◌+◌, ◌-ℤ◌, ◌-◌, ◌/◌, ◌<◌, ◌^◌, ◌||◌, ◌↔◌, ◌∙◌, ◌∷◌, ◌≡◌, ◌≢◌, ◌≤ℤ◌, ◌≤◌, ◌⊎◌}
-pub use Rattle.std.proofs.Math.Bool.{Bool-set, and-false, and-or_distrib_left, or-false, or_assoc}
+pub use Rattle.std.proofs.Math.Bool.{Bool-set, and-false, and-or_distrib_left, and-true, or-false, or_assoc}
 pub use Rattle.std.proofs.Math.Nat.{mul-div-le, mul-le-mul_left, mul-le-mul_right, mul_assoc, suc-mul, zero-mul}
 pub use Rattle.std.proofs.Math.Seq.{drop-cons, get_or-append_seam, take-length, take-suc, take-suc-set}
-pub use Rattle.std.proofs.lemmas.Bool.{MatchBool-at_false, MatchBool-at_true, and_parts, cases_eq, cases_lt, eq-eqb, eqb-true, false_from_ne_true, lt-ltb, ltb-false, ltb-true, or_cases, or_left, or_parts}
+pub use Rattle.std.proofs.lemmas.Bool.{MatchBool-at_false, MatchBool-at_true, and_parts, cases_eq, cases_lt, eq-eqb, eqb-true, false_from_ne_true, lt-ltb, ltb-false, ltb-true, or_cases, or_left, or_parts, or_right}
 pub use Rattle.std.proofs.lemmas.List.{append-nil, append_assoc, append_cancel_left, at_drop_more, drop-append-le, drop-drop, drop-set-lt, drop_at, get_or-drop, get_or-map, get_or-replicate, get_or-set_other, get_or-set_same, get_or-take, get_or_append_left, get_or_default, get_or_past}
 pub use Rattle.std.proofs.lemmas.List.{get_or_push, length-append, length-drop, length-map, length-replicate, length-set, length-take, length-take-le, map-append, map-id, map-set, map_more, take-append-drop, take-append-le, take-map, take_all, take_at, take_more_set, with_items_is}
 pub use Rattle.std.proofs.lemmas.List.Elements.{All-append, All-from_recursion, All-head, All-tail, filter-append, recursion_from_All}
@@ -44,6 +44,6 @@ pub use Rattle.std.proofs.{lemmas.Option.slice_get-get_or, lemmas.Option.slice_g
 pub use Rattle.std.specs.List.{AllByRecursion, Contains, IsDistinct, filter, list_all, list_any}
 pub use Rattle.std.specs.Option.{is_none, is_some, option_copied, option_eq, option_map, unwrap_or}
 pub use Rattle.std.specs.Prelude.{List, None, Option, Some, if◌then◌else◌, length, not, pos, slice_index_or, ℕ, ℤ}
-pub use Rattle.std.specs.{Bool.Decides, Borrow.Bor, Cmp.IsEquivalence, Cmp.signed_Decides, Cmp.unsigned_Decides, Cmp.unsigned_ties, Cmp.Lexicographic.lists_equiv, Cmp.Lexicographic.options_equiv, Cmp.Lexicographic.pointwise, Int.int_max, Int.int_min, Int.w128, Map.keys_of, Map.lookup}
+pub use Rattle.std.specs.{Bool.Decides, Borrow.Bor, Cmp.IsEquivalence, Cmp.both_ways, Cmp.signed_Decides, Cmp.unsigned_Decides, Cmp.unsigned_ties, Cmp.Lexicographic.lists_equiv, Cmp.Lexicographic.options_equiv, Cmp.Lexicographic.pointwise, Int.int_max, Int.int_min, Int.w128, Map.keys_of, Map.lookup}
 pub use Rattle.std.specs.{Ordering.is_eq, Vec.with_items}
 pub use borrow.Rule.Slice.PartMut.{put_mid}

@@ -1,7 +1,7 @@
 -- A content with one put more is a content of the puts and it.
 use Rattle.star_group.proofs.Common.{◌≡◌, ℕ, ◌<◌, Bool, true, false, ◌||◌, ℤ, List, [], ◌∷◌, Some, None, length, cond, ap, sym, ◌∙◌, subst, refl, true≢false, list_any, AllByRecursion, Aggregate, aggregate, numbers_for, KeyValue, same_keys, step, IsWithPut, Update, aggregate_at, Group}
-use Rattle.star_group.proofs.Common.{IsContent, key_lists, put_number, puts_of, if◌then◌else◌}
-use Rattle.star_group.proofs.{KeyLists.keys_decide, KeyLists.keys_equiv, KeyLists.some_put, ContentByKeys.all_more, Totals.some_aggregate}
+use Rattle.star_group.proofs.Common.{false_from_ne_true, IsContent, key_lists, put_number, puts_of, if◌then◌else◌}
+use Rattle.star_group.proofs.{KeyLists.keys_decide, KeyLists.keys_equiv, KeyLists.listed, KeyLists.some_put, Filters.filter_none, ContentByKeys.all_more, Totals.some_aggregate}
 use Rattle.std.specs.List.{IsDistinct}
 use Rattle.star_group.specs.{Cells.held, OneMore.group_aggregate}
 
@@ -29,14 +29,9 @@ absent keys place (e ∷ es) h = by (same_keys keys e.keys) h (absent keys place
 
 no_puts : (keys : List KeyValue) (us : List Update)
     → list_any (same_keys keys) (key_lists us) ≡ false → puts_of keys us ≡ []
-no_puts keys [] h = refl
-no_puts keys (u ∷ us) h = by (same_keys keys u.keys) h (no_puts keys us)
-  where
-    by : (b : Bool) → (b || list_any (same_keys keys) (key_lists us)) ≡ false
-        → (list_any (same_keys keys) (key_lists us) ≡ false → puts_of keys us ≡ [])
-        → cond b (u ∷ puts_of keys us) (puts_of keys us) ≡ []
-    by true p later = absurd (true≢false p)
-    by false p later = later p
+no_puts keys us h = filter_none us (λ u c. false_from_ne_true (same_keys keys u.keys) (λ e.
+    true≢false (sym (ap (λ ks. list_any (same_keys ks) (key_lists us))
+    ((keys_decide keys u.keys).0 e) ∙ listed us u c) ∙ h)))
 
 -- what holds of each entry's numbers holds of the number that is found
 found : (Told : List KeyValue → ℤ → Type 0) (keys : List KeyValue) (place : ℕ) (es : List Update)

@@ -1,4 +1,5 @@
 -- What stands in a row that a store gives.
+use Rattle.std.proofs.lemmas.List.{nil_from_length}
 use Rattle.star_group.proofs.Common.{◌≡◌, ℕ, zero, suc, ◌<◌, ◌≤◌, ℤ, List, [], ◌∷◌, ◌++◌, Option, Some, None, length, get_or, map, take, ap, refl, sym, ◌∙◌, arith, get_or-take, get_or_past, length-take, Aggregate, KeyPart, key_view, all_hidden, nothing_given, row_shown, shown, row_at}
 
 module _ (nothing : Option (List (Option ℤ))) (count : ℕ) where
@@ -29,14 +30,10 @@ nothing_shown row count [] number h = absurd (omega (arith, h))
 nothing_shown row count (e ∷ es) zero h = refl
 nothing_shown row count (e ∷ es) (suc number) h = nothing_shown row count es number (omega (arith, h))
 
-no_items : {A : Type 0} (xs : List A) → length xs ≡ 0 → xs ≡ []
-no_items [] e = refl
-no_items (x ∷ xs) e = absurd (omega (arith, e))
-
 -- the only row, over no puts
 pub nothing_row : (count : ℕ) (gs : List Aggregate) (shows row : List (Option ℤ))
     (es fs : List (List KeyPart × List (Option ℤ))) → length es ≡ 0
     → fs ≡ es ++ (all_hidden, row) ∷ [] → shows ≡ map (λ g. shown g None) gs
     → map (row_shown (Some shows) count) fs ≡ nothing_given count gs
 nothing_row count gs shows row es fs none is e = λ i. map (row_shown (Some (e i)) count)
-    ((is ∙ ap (λ xs. xs ++ (all_hidden, row) ∷ []) (no_items es none)) i)
+    ((is ∙ ap (λ xs. xs ++ (all_hidden, row) ∷ []) (nil_from_length es none)) i)

@@ -1,4 +1,5 @@
 pub mod Common
+pub mod Filters
 pub mod OwnKeyLemmas
 pub mod GroupKeys
 pub mod Contents

@@ -1,7 +1,7 @@
 -- One more row merged into those of some keys.
 use Rattle.star_group.proofs.Common.{◌≡◌, ◌⊎◌, inl, inr, ℕ, zero, suc, ◌+◌, ◌<◌, Bool, true, false, ◌||◌, ℤ, List, [], ◌∷◌, Option, Some, None, length, get_or, take, map, MatchBool, ap, sym, ◌∙◌, subst, refl, true≢false, arith, ◌*◌, list_any, IsDistinct, unwrap_or, get_or-map, length-map}
 use Rattle.star_group.proofs.Common.{list_any_at, list_any_more, apart_from_distinct, IsDistinct-tail, or_parts, Aggregate, KeyValue, KeyPart, KeyedRows, key_view, row_found, key_eq, IsMergedAt, IsMergedInto, MergeLeaves, MergeStays, RowsStay, AreNarrow, HasSpace, IsNarrow, suc-mul}
-use Rattle.star_group.proofs.Common.{zero-mul, AllStay, MergesAll, SomeLeaves}
+use Rattle.star_group.proofs.Common.{mul-le-mul_right, get_or_default, at_each, ◌≤◌, AllStay, MergesAll, SomeLeaves}
 use Rattle.star_group.proofs.{Bases.other_row, Bases.own_row, GroupKeys.key_decides, GroupKeys.key_equiv}
 
 -- ---- one more key of a list without repeats
@@ -117,28 +117,18 @@ module _ (own : List (List (Option KeyValue))) (i : ℕ) (key : List (Option Key
 
 pub narrow_at : (width : ℕ) (keys : List (List KeyPart)) (i : ℕ) (d : List KeyPart)
     → i < length keys → AreNarrow width keys → IsNarrow width (get_or keys i d)
-narrow_at width [] i d h are = absurd (omega (arith, h))
-narrow_at width (key ∷ keys) zero d h are = are.0
-narrow_at width (key ∷ keys) (suc i) d h are = narrow_at width keys i d (omega (arith, h)) are.1
+narrow_at width keys i d h are =
+    at_each (IsNarrow width) keys (get_or keys i d) are (i, h, get_or_default keys i _ d h)
 
 -- room for some rows is room for one
-pub fewer_space : (rows : KeyedRows) (count : ℕ) → 0 < count → HasSpace rows count
+pub fewer_space : (rows : KeyedRows) (count : ℕ) → 1 ≤ count → HasSpace rows count
     → HasSpace rows 1
-fewer_space rows zero some space = absurd (omega (arith, some))
-fewer_space rows (suc n) some space = record {
+fewer_space rows count some space = record {
   listed = record {
     len = omega (arith, space.listed.len);
-    keys = omega (arith, space.listed.keys, suc-mul n rows.listed.width, one rows.listed.width);
-    cells = omega (
-      arith,
-      space.listed.cells,
-      suc-mul n rows.listed.aggregate_count,
-      one rows.listed.aggregate_count,
-    );
+    keys = omega (arith, space.listed.keys, mul-le-mul_right rows.listed.width some);
+    cells = omega (arith, space.listed.cells, mul-le-mul_right rows.listed.aggregate_count some);
   };
   links = omega (arith, space.links);
   nodes = omega (arith, space.nodes);
 }
-  where
-    one : (w : ℕ) → 1 * w ≡ w
-    one w = omega (arith, suc-mul 0 w, zero-mul w)

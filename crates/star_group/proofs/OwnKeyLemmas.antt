@@ -2,6 +2,7 @@
 use Rattle.star_group.proofs.Common.{◌≡◌, ℕ, zero, suc, ◌+◌, ◌<◌, ◌≤◌, Bool, true, false, not, ◌&&◌, cond, true≢false, List, [], ◌∷◌, ◌++◌, Option, Some, None, take, drop, set, length, get_or, map, ap, sym, ◌∙◌, refl, arith, append_assoc, take-append-drop, AllByRecursion, filter, list_all}
 use Rattle.star_group.proofs.Common.{options_equiv, laws-law, is_none, is_some, Rollup, is_grouping, drop-cons, take-suc, get_or-append, false_from_ne_true, All-append, All-from_recursion, filter-append, recursion_from_All, map-append, map-set, KeyValue, KeyPart, All, key_view, key_value_view}
 use Rattle.star_group.proofs.Common.{key_eq}
+use Rattle.std.proofs.lemmas.Simd.{map-map}
 use Rattle.std.specs.List.{IsDistinct}
 use Rattle.star_group.specs.OwnKeys.{padded, vary}
 
@@ -33,11 +34,6 @@ module _ {A : Type 0} where
   set_there (x ∷ xs) zero y s h = refl
   set_there (x ∷ xs) (suc p) y s h = ap (λ t. x ∷ t) (set_there xs p y s (omega arith))
 
-  map_map : {B C : Type 0} (f : B → C) (g : A → B) (xs : List A)
-      → map f (map g xs) ≡ map (λ x. f (g x)) xs
-  map_map f g [] = refl
-  map_map f g (x ∷ xs) = ap (λ t. f (g x) ∷ t) (map_map f g xs)
-
 pub vary-start : (key : List (Option KeyValue)) (n : ℕ)
     → map (λ s. take n key ++ s) (vary 0 (drop n key)) ≡ key ∷ []
 unfolding vary
@@ -53,14 +49,14 @@ vary-more key p n xs h e =
     let first : xs ≡ map (λ s. take p key ++ (x ∷ s)) v =
     e ∙ (λ i. map (λ s. one_more key p None s h i) v) in
     let second : map (λ k. set k p None) xs ≡ map (λ s. take p key ++ (None ∷ s)) v =
-    ap (map (λ k. set k p None)) e ∙ map_map (λ k. set k p None) (λ s. take (suc p) key ++ s) v
+    ap (map (λ k. set k p None)) e ∙ map-map (λ k. set k p None) (λ s. take (suc p) key ++ s) v
     ∙ (λ i. map (λ s. set_there key p None s h i) v) in
     let left : map (λ s. take p key ++ (x ∷ s)) v
     ≡ map (λ s. take p key ++ s) (map (λ s. x ∷ s) v) =
-    sym (map_map (λ s. take p key ++ s) (λ s. x ∷ s) v) in
+    sym (map-map (λ s. take p key ++ s) (λ s. x ∷ s) v) in
     let right : map (λ s. take p key ++ (None ∷ s)) v
     ≡ map (λ s. take p key ++ s) (map (λ s. None ∷ s) v) =
-    sym (map_map (λ s. take p key ++ s) (λ s. None ∷ s) v) in
+    sym (map-map (λ s. take p key ++ s) (λ s. None ∷ s) v) in
     (λ i. (first ∙ left) i ++ (second ∙ right) i)
     ∙ sym (map-append (λ s. take p key ++ s) (map (λ s. x ∷ s) v) (map (λ s. None ∷ s) v))
     ∙ ap (λ k. map (λ s. take p key ++ s) (vary (suc n) k)) (sym (drop-cons key p None h))

@@ -2,7 +2,7 @@
 use Rattle.star_group.proofs.Common.{◌≡◌, ℕ, suc, ◌*◌, ◌<◌, ◌≤◌, Bool, true, false, ◌&&◌, nat_lt, ℤ, pos, List, [], ◌∷◌, ◌++◌, Option, Some, None, length, map, take, get_or, refl, ap, sym, ◌∙◌, arith, true≢false, filter, AllByRecursion, nat_tests, at_each, Aggregate, Shape}
 use Rattle.star_group.proofs.Common.{KeyValue, Update, cut, KeyPart, Span, IsRowOver, key_view, row_found, IsPlaced, has_puts, key_eq, padded, cell_place, is_at, places, group_with, AreOnce, IsListed, Group, Contains}
 use Rattle.star_group.proofs.PlacedRows.{below_place, in_row, is_below, none_there, own_place, row_there, rows_first, rows_last, rows_more, rows_same}
-use Rattle.star_group.proofs.{GroupKeys.key_decides, GroupKeys.padded_keys, AllRows.base_rolled, KeyedRows.merged_new, KeyedRows.once_more, Merging.put_of, Passes.AreOver, Passes.filter_none, PlacedCells.puts_there}
+use Rattle.star_group.proofs.{GroupKeys.key_decides, GroupKeys.padded_keys, AllRows.base_rolled, KeyedRows.merged_new, KeyedRows.once_more, Merging.put_of, Passes.AreOver, Filters.filter_none, PlacedCells.puts_there}
 
 -- ---- keys of a place
 

@@ -4,7 +4,7 @@ use Rattle.star_group.proofs.Common.{option_eq, get_or-replicate, length-replica
 use Rattle.star_group.proofs.Common.{neutral, is_at, is_outside, cell_place, offset_of, group_with, group_view, entries_of, Has, IsRolledUp, AreCellsTaken, AreWithin, CanTake, after_rows, batch_lanes, column_after, lanes_of, Update, aggregate_at, Group, put_number, IsRolledUpWithRoom}
 use Rattle.star_group.proofs.Common.{IsListed, AreInBits, numbers_for, leaves, HasNarrow}
 use Rattle.star_group.proofs.PlacedCells.{IsLane, can_take, column_at, length-after_rows, seen_at}
-use Rattle.star_group.proofs.{CutRows.cut_wide, PlacedLanes.lane_number, PlacedRows.filter_twice, Rooms.held_stays, SpanPlaces.above_parts, SpanPlaces.within, KeyedRows.rows_once}
+use Rattle.star_group.proofs.{CutRows.cut_wide, PlacedLanes.lane_number, Filters.filter_twice, Rooms.held_stays, SpanPlaces.above_parts, SpanPlaces.within, KeyedRows.rows_once}
 use Rattle.star_group.specs.Cells.{held}
 use Rattle.star_group.specs.declared.deferred.DeferredStore.{DeferredStore}
 use Rattle.star_group.specs.Deferred as deferred

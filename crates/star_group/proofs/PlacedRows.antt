@@ -1,8 +1,8 @@
 -- The rows and the total of puts, some of which stand by their places.
 use Rattle.star_group.proofs.Common.{◌≡◌, ℕ, suc, ◌*◌, ◌<◌, Bool, true, false, ◌&&◌, ◌||◌, nat_eq, nat_lt, cond, ℤ, pos, List, [], ◌∷◌, Option, Some, None, length, get_or, refl, ap, sym, ◌∙◌, subst, arith, true≢false, filter, option_eq, is_none, unwrap_or, Bool-set, Contains}
-use Rattle.star_group.proofs.Common.{and-false, ∥∥₁_elim, eqb-true, lt-ltb, nat_tests, of_each, false_from_ne_true, Aggregate, numbers_for, KeyValue, leaves, Update, aggregate_at, KeyPart, Span, HasAggregates, IsRowOver, key_view, puts_with, row_found, has_puts, key_eq, padded, IsPlaced}
+use Rattle.star_group.proofs.Common.{and-true, or-false, ∥∥₁_elim, eqb-true, lt-ltb, nat_tests, of_each, false_from_ne_true, Aggregate, numbers_for, KeyValue, leaves, Update, aggregate_at, KeyPart, Span, HasAggregates, IsRowOver, key_view, puts_with, row_found, has_puts, key_eq, padded, IsPlaced}
 use Rattle.star_group.proofs.Common.{aggregate_cells, neutral, is_at, is_outside, cell_place, places, IsMerged, IsMergedAt, MergeStays, merged, Group, PlacedStore, Has, group_view}
-use Rattle.star_group.proofs.{Bases.filter_all, Bases.other_row, Bases.own_row, CutRows.cut_wide, GroupKeys.key_decides, Merging.AreSplit, Merging.has_put, Merging.held_parts, Merging.no_puts, Merging.over_parts, Passes.AreOver, Passes.filter_each, PlacedCells.puts_there, SpanPlaces.within}
+use Rattle.star_group.proofs.{Filters.filter_all, Filters.filter_twice, Bases.other_row, Bases.own_row, CutRows.cut_wide, GroupKeys.key_decides, Merging.AreSplit, Merging.has_put, Merging.held_parts, Merging.no_puts, Merging.over_parts, Passes.AreOver, Filters.filter_each, PlacedCells.puts_there, SpanPlaces.within}
 use Rattle.star_group.specs.Cells.{held}
 
 -- ---- the puts without a place, and those at the first places
@@ -53,17 +53,13 @@ pub split_at : (spans : List Span) (n : ℕ) (us : List Update)
     (λ w. is_below spans (suc n) w.keys) us
 split_at spans n us = of_each _ us (λ w c. one_place spans n w.keys)
 
-or-no : (a b : Bool) → b ≡ false → (a || b) ≡ a
-or-no true b h = refl
-or-no false b h = h
-
 -- no puts at a place
 none_more : (spans : List Span) (n : ℕ) (us : List Update) → puts_there spans n us ≡ []
     → (w : Update) → Contains us w → is_below spans (suc n) w.keys ≡ is_below spans n w.keys
 none_more spans n us none w c =
     let apart : is_at spans n w.keys ≡ false = false_from_ne_true (is_at spans n w.keys) (λ h.
     true≢false (sym (has_put (λ u. is_at spans n u.keys) us w c h) ∙ ap has_puts none)) in
-    (one_place spans n w.keys).0 ∙ or-no (is_below spans n w.keys) (is_at spans n w.keys) apart
+    (one_place spans n w.keys).0 ∙ ap (λ b. is_below spans n w.keys || b) apart ∙ or-false _
 
 -- ---- the row at a place
 
@@ -101,23 +97,6 @@ module _ (d : Group) (spans : List Span) (seen : List Bool) (cells : List ℤ)
 -- a put without a place, or at the first places, is in the row of its keys
 abbrev pub in_row : List Span → ℕ → List (Option KeyValue) → List KeyValue → Bool
 in_row spans n q keys = key_eq q (padded 6 keys) && is_below spans n keys
-
-and-true : (b : Bool) → (b && true) ≡ b
-and-true true = refl
-and-true false = refl
-
-pub filter_twice : {A : Type 0} (p r : A → Bool) (xs : List A)
-    → filter r (filter p xs) ≡ filter (λ x. r x && p x) xs
-filter_twice p r [] = refl
-filter_twice p r (x ∷ xs) = by (p x) (filter_twice p r xs)
-  where
-    by : (b : Bool) → filter r (filter p xs) ≡ filter (λ x. r x && p x) xs
-        → filter r (cond b (x ∷ filter p xs) (filter p xs))
-        ≡ cond (r x && b) (x ∷ filter (λ x. r x && p x) xs) (filter (λ x. r x && p x) xs)
-    by true rest = (λ i. cond (sym (and-true (r x)) i) (x ∷ rest i) (rest i))
-    by false rest = rest ∙ ap
-        (λ b. cond b (x ∷ filter (λ x. r x && p x) xs) (filter (λ x. r x && p x) xs))
-        (sym (and-false (r x)))
 
 module _ (d : Group) (spans : List Span) (us : List Update) where
   pub rows_first : (es : List (List KeyPart × List (Option ℤ)))
@@ -158,7 +137,7 @@ module _ (d : Group) (spans : List Span) (us : List Update) where
 
     apart : (k b a c : Bool) → c ≡ (b || a) → (a ≡ true → k ≡ false) → (k && c) ≡ (k && b)
     apart k b true c e other = subst (λ j. (j && c) ≡ (j && b)) (sym (other refl)) refl
-    apart k b false c e other = ap (λ x. k && x) (e ∙ or-no b false refl)
+    apart k b false c e other = ap (λ x. k && x) (e ∙ or-false b)
 
     pub rows_more : (key : List KeyPart)
         → ((keys : List KeyValue) → is_at spans n keys ≡ true → padded 6 keys ≡ key_view key)

@@ -1,6 +1,7 @@
 -- Places of key lists: how many there are, and those of the last keys.
 use Rattle.star_group.proofs.Common.{◌≡◌, ℕ, zero, suc, ◌+◌, ◌*◌, ◌/◌, ◌%◌, ◌<◌, ◌≤◌, ◌^◌, Bool, true, false, ℤ, pos, negsuc, ◌-ℤ◌, List, [], ◌∷◌, Option, Some, None, IfSome, MatchOption, nat_lt, cond, ◌++◌, map, length, take, drop, drop-cons, get_or, refl, ap, sym, ◌∙◌, arith, mul-div-le}
-use Rattle.star_group.proofs.Common.{mul-le-mul_left, mul_assoc, ltb-false, div-mul-add, div-add-mod', GroupKey, KeyValue, Number, Code, Span, IsKeyWord, key_word, batch_keys, IsOf, above, offset_of, cell_place, places, place_up_to}
+use Rattle.star_group.proofs.Common.{mul-le-mul_left, mul_assoc, ltb-false, false_from_ne_true, length-map, subst, div-mul-add, div-add-mod', GroupKey, KeyValue, Number, Code, PutBatch, Span, IsPutBatch, put_in, word_in, IsKeyWord, key_word, batch_keys, IsOf, above, offset_of, cell_place, places, place_up_to}
+use Rattle.std.proofs.lemmas.Bool.{true_from_ne_false}
 use Rattle.star_program.specs.declared.group.GroupKey.TheVariants as declared
 
 -- ---- how many places there are
@@ -189,7 +190,7 @@ few_places ss i s ks p h is few e =
     (let l : p + 1 ≤ places (drop (suc i) ss) = omega (arith, less) in l) in
     omega (arith, most, places_from ss i s h is, fewer ss i, few)
 
-pub length-keys_of : (kinds : List GroupKey) (zs : List ℤ) → length kinds ≡ length zs
+length-keys_of : (kinds : List GroupKey) (zs : List ℤ) → length kinds ≡ length zs
     → length (batch_keys kinds zs) ≡ length zs
 length-keys_of [] [] e = refl
 length-keys_of [] (z ∷ zs) e = absurd (omega (arith, e))
@@ -214,33 +215,11 @@ offset_word s (declared.Text c) (pos n) own fits =
 offset_word s (declared.Text c) (negsuc n) own fits =
     absurd (let e = fits.2 in let no : ⊥ = cc e in no)
 
-pub batch_place : (ss : List Span) (s : Span) (i : ℕ) (kinds : List GroupKey) (zs : List ℤ) (z : ℤ)
-    (p q : ℕ) → i < length ss → length kinds ≡ length ss → length zs ≡ length ss → s ≡ get_or ss i s
-    → IsOf s (get_or kinds i declared.Number)
-    → IsKeyWord (get_or kinds i declared.Number) (get_or zs i (pos 0)) → get_or zs i (pos 0) ≡ z
-    → cell_place (drop (suc i) ss) (drop (suc i) (batch_keys kinds zs)) ≡ Some p
-    → above (place_up_to s.last (z -ℤ s.low)) (s.last + 1) (Some p) ≡ Some q
-    → cell_place (drop i ss) (drop i (batch_keys kinds zs)) ≡ Some q
-batch_place ss s i kinds zs z p q h many wide is own fits same behind next =
-    let here : i < length (batch_keys kinds zs) =
-    omega (arith, h, many, wide, length-keys_of kinds zs (omega (arith, many, wide))) in
-    let g = get_or kinds i declared.Number in
-    more ss (batch_keys kinds zs) i s (Number (pos 0)) h here
-    ∙ (λ j. above (offset_of (sym is j)
-    (key_there kinds zs i (Number (pos 0)) (omega (arith, h, many)) (omega (arith, h, wide)) j))
-    ((sym is j).last + 1) (behind j))
-    ∙ ap (λ o. above o (s.last + 1) (Some p))
-    (offset_word s g (get_or zs i (pos 0)) own fits
-    ∙ ap (λ w. place_up_to s.last (w -ℤ s.low)) same)
-    ∙ next
-
-pub word_there : (f : ℕ → ℤ) (rs : List ℕ) (i : ℕ) → i < length rs
+word_there : (f : ℕ → ℤ) (rs : List ℕ) (i : ℕ) → i < length rs
     → get_or (map f rs) i (pos 0) ≡ f (get_or rs i 0)
 word_there f [] i h = absurd (omega (arith, h))
 word_there f (r ∷ rs) zero h = refl
 word_there f (r ∷ rs) (suc i) h = word_there f rs i (omega (arith, h))
-
--- ---- rows with no place
 
 above_none : (o : Option ℕ) (size : ℕ) → above o size None ≡ None
 above_none (Some n) size = refl
@@ -257,39 +236,70 @@ none_before (s ∷ ss) (k ∷ ks) (suc i) e =
     ap (above (offset_of s k) (s.last + 1)) (none_before ss ks i e)
     ∙ above_none (offset_of s k) (s.last + 1)
 
-pub offset_other : (s : Span) (g : GroupKey) (z : ℤ) → (IsOf s g → ⊥) → IsKeyWord g z
+offset_other : (s : Span) (g : GroupKey) (z : ℤ) → (IsOf s g → ⊥) → IsKeyWord g z
     → offset_of s (key_word g z) ≡ None
-offset_other s declared.Number z other fits = by s.is_code refl
-  where
-    by : (b : Bool) → s.is_code ≡ b → cond s.is_code None (place_up_to s.last (z -ℤ s.low)) ≡ None
-    by true e = ap (λ b. cond b None (place_up_to s.last (z -ℤ s.low))) e
-    by false e = absurd (other e)
-offset_other s (declared.Text c) (pos n) other fits = by s.is_code refl
-  where
-    by : (b : Bool) → s.is_code ≡ b
-        → cond s.is_code (place_up_to s.last (pos n -ℤ s.low)) None ≡ None
-    by true e = absurd (other e)
-    by false e = ap (λ b. cond b (place_up_to s.last (pos n -ℤ s.low)) None) e
+offset_other s declared.Number z other fits = ap (λ b. cond b None (place_up_to s.last (z -ℤ s.low)))
+    (true_from_ne_false s.is_code other)
+offset_other s (declared.Text c) (pos n) other fits =
+    ap (λ b. cond b (place_up_to s.last (pos n -ℤ s.low)) None) (false_from_ne_true s.is_code other)
 offset_other s (declared.Text c) (negsuc n) other fits =
     absurd (let e = fits.2 in let no : ⊥ = cc e in no)
 
--- a word that isn't in its range
-pub offset_outside : (s : Span) (g : GroupKey) (z w : ℤ) → IsOf s g → IsKeyWord g z → z ≡ w
-    → place_up_to s.last (w -ℤ s.low) ≡ None → offset_of s (key_word g z) ≡ None
-offset_outside s g z w own fits same e =
-    offset_word s g z own fits ∙ ap (λ n. place_up_to s.last (n -ℤ s.low)) same ∙ e
+-- a row of a batch
+module _ (b : PutBatch) (batch : IsPutBatch b) (spans : List Span)
+    (keys : length spans ≡ length b.keys.now) (row : ℕ) (h : row < b.rows) where
+  abbrev zs : List ℤ
+  zs = map (word_in b.lanes.now row) b.keys.now
 
-pub batch_none : (ss : List Span) (s : Span) (i : ℕ) (kinds : List GroupKey) (zs : List ℤ)
-    → i < length ss → length kinds ≡ length ss → length zs ≡ length ss → s ≡ get_or ss i s
-    → offset_of s (key_word (get_or kinds i declared.Number) (get_or zs i (pos 0))) ≡ None
-    → cell_place ss (batch_keys kinds zs) ≡ None
-batch_none ss s i kinds zs h many wide is none =
-    let here : i < length (batch_keys kinds zs) =
-    omega (arith, h, many, wide, length-keys_of kinds zs (omega (arith, many, wide))) in
-    let rest = cell_place (drop (suc i) ss) (drop (suc i) (batch_keys kinds zs)) in
-    none_before ss (batch_keys kinds zs) i
-    (more ss (batch_keys kinds zs) i s (Number (pos 0)) h here
-    ∙ (λ j. above (offset_of (sym is j)
-    (key_there kinds zs i (Number (pos 0)) (omega (arith, h, many)) (omega (arith, h, wide)) j))
-    ((sym is j).last + 1) rest)
-    ∙ ap (λ o. above o (s.last + 1) rest) none)
+  abbrev ks : List KeyValue
+  ks = (put_in b row).keys
+
+  wide : length zs ≡ length spans
+  wide = length-map b.keys.now (word_in b.lanes.now row) ∙ sym keys
+
+  pub batch_long : length ks ≡ length spans
+  batch_long = length-keys_of b.declared.now.keys zs (omega (arith, batch.keys, wide, keys)) ∙ wide
+
+  module _ (i : ℕ) (here : i < length spans) (s : Span) (is : s ≡ get_or spans i s) where
+    abbrev kind : GroupKey
+    kind = get_or b.declared.now.keys i declared.Number
+
+    abbrev word : ℤ
+    word = word_in b.lanes.now row (get_or b.keys.now i 0)
+
+    known : get_or zs i (pos 0) ≡ word
+    known = word_there (word_in b.lanes.now row) b.keys.now i (omega (arith, here, keys))
+
+    fits : IsKeyWord kind (get_or zs i (pos 0))
+    fits = subst (IsKeyWord kind) (sym known) (batch.words row h i (omega (arith, here, keys)))
+
+    first : cell_place (drop i spans) (drop i ks)
+        ≡ above (offset_of s (key_word kind (get_or zs i (pos 0)))) (s.last + 1)
+        (cell_place (drop (suc i) spans) (drop (suc i) ks))
+    first = more spans ks i s (Number (pos 0)) here (omega (arith, here, batch_long))
+        ∙ (λ j. above (offset_of (sym is j) (key_there b.declared.now.keys zs i (Number (pos 0))
+        (omega (arith, here, keys, batch.keys)) (omega (arith, here, wide)) j))
+        ((sym is j).last + 1) (cell_place (drop (suc i) spans) (drop (suc i) ks)))
+
+    inside : IsOf s kind → (z : ℤ) → z ≡ word
+        → offset_of s (key_word kind (get_or zs i (pos 0))) ≡ place_up_to s.last (z -ℤ s.low)
+    inside own z same = offset_word s kind (get_or zs i (pos 0)) own fits
+        ∙ ap (λ w. place_up_to s.last (w -ℤ s.low)) (known ∙ sym same)
+
+    none : offset_of s (key_word kind (get_or zs i (pos 0))) ≡ None → cell_place spans ks ≡ None
+    none e = none_before spans ks i
+        (first ∙ ap (λ o. above o (s.last + 1) (cell_place (drop (suc i) spans) (drop (suc i) ks))) e)
+
+    pub batch_place : IsOf s kind → (z : ℤ) → z ≡ word → (p q : ℕ)
+        → cell_place (drop (suc i) spans) (drop (suc i) ks) ≡ Some p
+        → above (place_up_to s.last (z -ℤ s.low)) (s.last + 1) (Some p) ≡ Some q
+        → cell_place (drop i spans) (drop i ks) ≡ Some q
+    batch_place own z same p q behind next =
+        first ∙ (λ j. above (inside own z same j) (s.last + 1) (behind j)) ∙ next
+
+    pub batch_other : (IsOf s kind → ⊥) → cell_place spans ks ≡ None
+    batch_other other = none (offset_other s kind (get_or zs i (pos 0)) other fits)
+
+    pub batch_outside : IsOf s kind → (z : ℤ) → z ≡ word → place_up_to s.last (z -ℤ s.low) ≡ None
+        → cell_place spans ks ≡ None
+    batch_outside own z same e = none (inside own z same ∙ e)

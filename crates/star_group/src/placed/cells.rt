@@ -53,18 +53,6 @@ fn taken_in(aggregate: Aggregate, cell: i128, lane: &[i64], row: usize) -> i128
     taken(aggregate, cell, lane[row])
 }
 
-// The cell of a group id with the number of a row.
-fn taken_at(aggregate: Aggregate, cells: &[i128], place: u32, lane: &[i64], row: usize) -> i128
-    requires within { place < length cells.now }
-    requires row { row < length lane.now }
-    requires stays { leaves aggregate (Some (step aggregate (slice_index_or lane.now row (pos 0))
-        (Some (slice_index_or cells.now place (pos 0))))) ≡ false }
-    ensures { result ≡ step aggregate (slice_index_or lane.now row (pos 0))
-        (Some (slice_index_or cells.now place (pos 0))) }
-{
-    taken_in(aggregate, cells[place as usize], lane, row)
-}
-
 // The cells of one aggregate with a number more at the group id of each row.
 #[inline(always)]
 fn take_lane(aggregate: Aggregate, cells: &mut [i128], at: &[u32], lane: &[i64])
@@ -76,7 +64,7 @@ fn take_lane(aggregate: Aggregate, cells: &mut [i128], at: &[u32], lane: &[i64])
 {
     for row in 0..at.len() {
         let place = at[row];
-        cells[place as usize] = taken_at(aggregate, cells, place, lane, row);
+        cells[place as usize] = taken_in(aggregate, cells[place as usize], lane, row);
     }
 }
 
