@@ -1,5 +1,5 @@
 -- The rows of a deferred store in the end are those of an eager one.
-use Rattle.star_group.proofs.Common.{◌≡◌, ℕ, ◌-◌, ◌≤◌, Bool, true, false, ◌&&◌, ℤ, List, [], ◌∷◌, Option, length, take, ap, sym, ◌∙◌, subst, refl, arith, list_any, AllByRecursion, and-false, or-false, ∥∥₁_map, map-id, at_each, Aggregate, Shape, Plain, Cube, Rollup, is_grouping}
+use Rattle.star_group.proofs.Common.{Entry, Row, RowKey, ◌≡◌, ℕ, ◌-◌, ◌≤◌, Bool, true, false, ◌&&◌, ℤ, List, [], ◌∷◌, Option, length, take, ap, sym, ◌∙◌, subst, refl, arith, list_any, AllByRecursion, and-false, or-false, ∥∥₁_map, map-id, at_each, Aggregate, Shape, Plain, Cube, Rollup, is_grouping}
 use Rattle.star_group.proofs.Common.{KeyValue, KeyPart, AreGrouped, HasBaseWithRoom, IsRowOver, puts_with, row_found, is_of_put, key_eq, padded, vary, IsRolledUp, IsRolledUpWithRoom, first_hidden, is_among, keys_from, group_with, Update, Group, AreOnce}
 use Rattle.star_group.proofs.{GroupKeys.key_decides, GroupKeys.own_grouping, GroupKeys.plain_among, OwnKeyLemmas.vary-start, Filters.filter_each}
 
@@ -10,7 +10,7 @@ base_keys count ks =
     let none : count - count ≡ 0 = omega arith in
     rw none (vary-start (padded 6 ks) count)
 
-base_among : (s : Shape) (count : ℕ) (q : List (Option KeyValue)) (ks : List KeyValue)
+base_among : (s : Shape) (count : ℕ) (q : RowKey) (ks : List KeyValue)
     → length ks ≡ count → count ≤ 6 → is_among s count count q ks ≡ key_eq q (padded 6 ks)
 base_among s count q ks fits few =
     ap (λ b. is_grouping s (take count q) && b)
@@ -23,9 +23,9 @@ base_among s count q ks fits few =
         ∙ own_grouping s ks count fits few)
     by false e = and-false (is_grouping s (take count q))
 
-pub base_rolled : (d : Group) (es : List (List KeyPart × List (Option ℤ))) (us : List Update)
+pub base_rolled : (d : Group) (es : List Entry) (us : List Update)
     → d.count ≤ 6 → AllByRecursion (λ u. length u.keys ≡ d.count) us
-    → ((q : List (Option KeyValue)) → IsRowOver d (puts_with q us) (row_found es q)) → AreOnce es
+    → ((q : RowKey) → IsRowOver d (puts_with q us) (row_found es q)) → AreOnce es
     → IsRolledUp d d.count es us
 base_rolled d es us few fit rows once = record {
   fit = fit;
@@ -37,7 +37,7 @@ base_rolled d es us few fit rows once = record {
 }
 
 pub base_room : (shape : Shape) (count : ℕ) (gs : List Aggregate)
-    (es : List (List KeyPart × List (Option ℤ))) (all : List (Option ℤ)) → count ≤ 6
+    (es : List Entry) (all : Row) → count ≤ 6
     → HasBaseWithRoom (group_with shape count gs) es all → AreOnce es
     → ∥ IsRolledUpWithRoom shape count gs count es ∥₁
 base_room shape count gs es all few room once = ∥∥₁_map room (λ r. record {
@@ -55,8 +55,7 @@ cube_keys count ks =
     let all : count - 0 ≡ count = omega arith in
     rw all (map-id (vary count (padded 6 ks)))
 
-same_rows : (d : Group) (q : List (Option KeyValue)) (u : Update) → length u.keys ≡ d.count
-    → d.count ≤ 6
+same_rows : (d : Group) (q : RowKey) (u : Update) → length u.keys ≡ d.count → d.count ≤ 6
     → is_among d.shape (first_hidden d.shape d.count) d.count q u.keys ≡ is_of_put d.shape u.keys q
 same_rows d q u fits few =
     by d.shape
@@ -74,7 +73,7 @@ same_rows d q u fits few =
         ∙ ap (λ n. is_grouping Plain (take n q) && list_any (key_eq q) (vary n (padded 6 u.keys)))
         fits
 
-pub grouped : (d : Group) (us : List Update) (es : List (List KeyPart × List (Option ℤ)))
+pub grouped : (d : Group) (us : List Update) (es : List Entry)
     → d.count ≤ 6 → IsRolledUp d (first_hidden d.shape d.count) es us → AreGrouped d es us
 grouped d us es few rolled = record {
   fit = rolled.fit;

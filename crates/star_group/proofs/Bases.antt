@@ -1,5 +1,5 @@
 -- The base rows of puts, with one put more.
-use Rattle.star_group.proofs.Common.{◌≡◌, ℕ, Bool, true, false, ℤ, List, [], ◌∷◌, Option, Some, None, length, get_or, cond, ap, sym, ◌∙◌, refl, subst, filter, unwrap_or, Aggregate, numbers_for, KeyValue, leaves, Update, aggregate_at, KeyPart, AreGrouped, HasAggregates, HasBaseWithRoom, IsBase}
+use Rattle.star_group.proofs.Common.{Entry, Row, RowKey, ◌≡◌, ℕ, Bool, true, false, ℤ, List, [], ◌∷◌, Option, Some, None, length, get_or, cond, ap, sym, ◌∙◌, refl, subst, filter, unwrap_or, Aggregate, numbers_for, KeyValue, leaves, Update, aggregate_at, KeyPart, AreGrouped, HasAggregates, HasBaseWithRoom, IsBase}
 use Rattle.star_group.proofs.Common.{IsRowOver, key_view, puts_with, row_found, key_eq, padded, IsMerged, IsMergedAt, IsMergedInto, IsRowOfOnePut, MergeStays, RowsStay, cell_of_one_put, merged, Group, put_number, AreInBits, Sum, Count, Min, Max}
 use Rattle.star_group.specs.Cells.{held}
 use Rattle.star_group.proofs.{Filters.filter_all, GroupKeys.key_decides, GroupKeys.key_equiv}
@@ -7,10 +7,9 @@ use Rattle.star_group.proofs.Merging.{held_none, held_one, merged_comm, merged_m
 
 -- ---- look-ups after a row was merged in
 
-module _ (gs : List Aggregate) (key : List (Option KeyValue)) (more : List (Option ℤ))
-    (es fs : List (List KeyPart × List (Option ℤ))) (at : IsMergedAt gs key more es fs) where
-  pub own_row : (q : List (Option KeyValue)) → q ≡ key
-      → IsMergedInto gs more (row_found es q) (row_found fs q)
+module _ (gs : List Aggregate) (key : RowKey) (more : Row)
+    (es fs : List Entry) (at : IsMergedAt gs key more es fs) where
+  pub own_row : (q : RowKey) → q ≡ key → IsMergedInto gs more (row_found es q) (row_found fs q)
   own_row q e = (
     at.0,
     at.2 q ∙ ap (λ b. cond b (Some at.0) (row_found es q))
@@ -18,15 +17,14 @@ module _ (gs : List Aggregate) (key : List (Option KeyValue)) (more : List (Opti
     subst (λ k. IsMerged gs (unwrap_or (row_found es k) []) more at.0) (sym e) at.1,
   )
 
-  pub other_row : (q : List (Option KeyValue)) → key_eq q key ≡ false
-      → row_found fs q ≡ row_found es q
+  pub other_row : (q : RowKey) → key_eq q key ≡ false → row_found fs q ≡ row_found es q
   other_row q apart = at.2 q ∙ ap (λ b. cond b (Some at.0) (row_found es q)) apart
 
 -- ---- one put more
 
-module _ (d : Group) (us : List Update) (u : Update) (row : List (Option ℤ))
+module _ (d : Group) (us : List Update) (u : Update) (row : Row)
     (one : IsRowOfOnePut d.aggregates u.values row) where
-  pub more_over : (found new : Option (List (Option ℤ))) → IsRowOver d us found
+  pub more_over : (found new : Option Row) → IsRowOver d us found
       → IsMergedInto d.aggregates row found new → IsRowOver d (u ∷ us) new
   more_over None new was m =
       subst (IsRowOver d (u ∷ us)) (sym m.1) (
@@ -40,7 +38,7 @@ module _ (d : Group) (us : List Update) (u : Update) (row : List (Option ℤ))
 
   -- no SUM and no COUNT leaves its bits
   pub merge_stays : (all : List Update) (p : List KeyValue → Bool) → AreInBits d all
-      → filter (λ w. p w.keys) all ≡ u ∷ us → (held_row : List (Option ℤ))
+      → filter (λ w. p w.keys) all ≡ u ∷ us → (held_row : Row)
       → HasAggregates d us held_row → MergeStays d.aggregates held_row row
   merge_stays all p room is held_row so_far = λ place h.
       let g = aggregate_at d.aggregates place in
@@ -53,29 +51,27 @@ module _ (d : Group) (us : List Update) (u : Update) (row : List (Option ℤ))
       ∙ room p place h
 
   pub rows_stay : (all : List Update) (p : List KeyValue → Bool) → AreInBits d all
-      → filter (λ w. p w.keys) all ≡ u ∷ us → (found : Option (List (Option ℤ)))
+      → filter (λ w. p w.keys) all ≡ u ∷ us → (found : Option Row)
       → IsRowOver d us found → RowsStay d.aggregates found row
   rows_stay all p room is None was = tt
   rows_stay all p room is (Some held_row) was = merge_stays all p room is held_row was.1
 
-  pub total_stays : AreInBits d (u ∷ us) → (all : List (Option ℤ)) → HasAggregates d us all
+  pub total_stays : AreInBits d (u ∷ us) → (all : Row) → HasAggregates d us all
       → MergeStays d.aggregates all row
   total_stays room = merge_stays (u ∷ us) (λ ks. true) room (filter_all (u ∷ us))
 
-module _ (d : Group) (us : List Update) (u : Update) (key : List KeyPart) (row : List (Option ℤ))
+module _ (d : Group) (us : List Update) (u : Update) (key : List KeyPart) (row : Row)
     (is_key : key_view key ≡ padded 6 u.keys) (one : IsRowOfOnePut d.aggregates u.values row)
-    (es : List (List KeyPart × List (Option ℤ))) (all : List (Option ℤ))
-    (base : IsBase d es all us) where
-  with_own : (q : List (Option KeyValue)) → key_eq q (padded 6 u.keys) ≡ true
+    (es : List Entry) (all : Row) (base : IsBase d es all us) where
+  with_own : (q : RowKey) → key_eq q (padded 6 u.keys) ≡ true
       → puts_with q (u ∷ us) ≡ u ∷ puts_with q us
   with_own q e = ap (λ b. cond b (u ∷ puts_with q us) (puts_with q us)) e
 
-  with_other : (q : List (Option KeyValue)) → key_eq q (padded 6 u.keys) ≡ false
+  with_other : (q : RowKey) → key_eq q (padded 6 u.keys) ≡ false
       → puts_with q (u ∷ us) ≡ puts_with q us
   with_other q e = ap (λ b. cond b (u ∷ puts_with q us) (puts_with q us)) e
 
-  pub base_more : length u.keys ≡ d.count
-      → (fs : List (List KeyPart × List (Option ℤ))) (total : List (Option ℤ))
+  pub base_more : length u.keys ≡ d.count → (fs : List Entry) (total : Row)
       → IsMergedAt d.aggregates (key_view key) row es fs → IsMerged d.aggregates all row total
       → IsBase d fs total (u ∷ us)
   base_more fits fs total at is_total = record {
@@ -84,7 +80,7 @@ module _ (d : Group) (us : List Update) (u : Update) (key : List KeyPart) (row :
     total = merged_more d u us all row total one base.total is_total;
   }
     where
-      by : (q : List (Option KeyValue)) (b : Bool) → key_eq q (padded 6 u.keys) ≡ b
+      by : (q : RowKey) (b : Bool) → key_eq q (padded 6 u.keys) ≡ b
           → IsRowOver d (puts_with q (u ∷ us)) (row_found fs q)
       by q true e = subst (λ ps. IsRowOver d ps (row_found fs q)) (sym (with_own q e))
           (more_over d (puts_with q us) u row one (row_found es q) (row_found fs q) (base.rows q)
@@ -97,18 +93,17 @@ module _ (d : Group) (us : List Update) (u : Update) (key : List KeyPart) (row :
 
   pub base_stays : AreInBits d (u ∷ us) → RowsStay d.aggregates (row_found es (key_view key)) row
   base_stays room =
-      let q : List (Option KeyValue) = padded 6 u.keys in
+      let q : RowKey = padded 6 u.keys in
       subst (λ r. RowsStay d.aggregates r row) (sym (ap (row_found es) is_key))
       (rows_stay d (puts_with q us) u row one (u ∷ us) (λ ks. key_eq q (padded 6 ks)) room
       (with_own q (key_equiv.refl q)) (row_found es q) (base.rows q))
 
 -- no puts
-pub no_rows : (d : Group) (es : List (List KeyPart × List (Option ℤ))) → es ≡ []
-    → AreGrouped d es []
+pub no_rows : (d : Group) (es : List Entry) → es ≡ [] → AreGrouped d es []
 no_rows d es e =
     subst (λ xs. AreGrouped d xs []) (sym e) (record { fit = tt; rows = λ q. refl })
 
-pub no_base : (d : Group) (es : List (List KeyPart × List (Option ℤ))) (blank : List (Option ℤ))
+pub no_base : (d : Group) (es : List Entry) (blank : Row)
     → es ≡ [] → ((place : ℕ) → get_or blank place None ≡ None) → IsBase d es blank []
 no_base d es blank e none =
     subst (λ xs. IsBase d xs blank []) (sym e)
@@ -131,6 +126,6 @@ no_room d p place h = by (aggregate_at d.aggregates place)
     by Min = refl
     by Max = refl
 
-pub new_room : (d : Group) (es : List (List KeyPart × List (Option ℤ))) (blank : List (Option ℤ))
+pub new_room : (d : Group) (es : List Entry) (blank : Row)
     → es ≡ [] → ((place : ℕ) → get_or blank place None ≡ None) → HasBaseWithRoom d es blank
 new_room d es blank e none = ∣ ([], no_base d es blank e none, no_room d) ∣₁

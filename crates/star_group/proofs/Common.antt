@@ -13,7 +13,7 @@ pub use Rattle.star_group.specs.Private.Rows.{AllStay, IsBlank, MergesAll, PutsR
 pub use Rattle.star_group.specs.Private.Taken.{AreCellsTaken, AreWithin, CanTake, CanTakeAll, HasNarrow, after_rows, batch_lanes, column_after, lanes_of, numbers_from, taking}
 pub use Rattle.star_group.specs.Private.Tries.{IsHeld, IsKeyFound, IsMissing, IsTrie, Leads, child, digit_at, key_at, part_digit, turn_at, word_from, word_with}
 pub use Rattle.star_group.specs.Stores.{AddUp, AreOfContent, Group, HasRoom, IsContent, combined, group_declared, key_lists, put_number, puts_of}
-pub use Rattle.star_group.specs.{Cells.held, Cells.step, Entries.entries_of, Entries.listed_entries, Held.has_puts, Keyed.all_hidden, Keyed.filled, Keyed.keyed, OneMore.IsWithPut, OwnKeys.is_of_put, OwnKeys.key_eq, OwnKeys.padded, OwnKeys.vary, Placed.Has, Placed.group_view}
+pub use Rattle.star_group.specs.{Cells.held, Cells.step, Entries.entries_of, Entries.listed_entries, Held.has_puts, Keyed.Entry, Keyed.Row, Keyed.all_hidden, Keyed.filled, Keyed.keyed, OneMore.IsWithPut, OwnKeys.RowKey, OwnKeys.is_of_put, OwnKeys.key_eq, OwnKeys.padded, OwnKeys.vary, Placed.Has, Placed.group_view}
 pub use Rattle.star_group.specs.{Private.Given.nothing_given, Private.Given.row_shown, Private.Given.shown, Private.PlacedPut.AreAtPlaces, Private.PlacedPut.IsListed, StoreRows.AreRows, StoreRows.row_at, StoreRows.row_view, contracts.keyed.key.KeyPartPartialEq.TheImpl.eq-value}
 pub use Rattle.star_group.specs.{declared.batch.PutBatch.PutBatch, declared.eager.EagerStore.EagerStore, declared.group_row.GroupRow.GroupRow, declared.keyed.KeyedRows.KeyedRows, declared.keyed.ListedRows.ListedRows, declared.keyed.key.KeyPart.KeyPart}
 pub use Rattle.star_group.specs.{declared.keyed.key.KeyPart.TheVariants.All, declared.placed.PlacedStore.PlacedStore, declared.placed.span.Span.Span, declared.rows.PutFault.TheVariants.OutOfMemory}

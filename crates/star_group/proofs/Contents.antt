@@ -1,5 +1,5 @@
 -- From the rows of a map to the content of a store.
-use Rattle.star_group.proofs.Common.{◌≡◌, ◌⊎◌, ℕ, ◌<◌, ◌≤◌, Bool, true, false, ℤ, List, [], ◌∷◌, Option, Some, None, Result, Ok, Err, OnOk, IfErr, IfOk, length, get_or, replicate, ap, sym, ◌∙◌, subst, refl, cond, arith, inl, inr, true≢false, unwrap_or, false_from_ne_true, UnlessMemory}
+use Rattle.star_group.proofs.Common.{Entry, Row, RowKey, ◌≡◌, ◌⊎◌, ℕ, ◌<◌, ◌≤◌, Bool, true, false, ℤ, List, [], ◌∷◌, Option, Some, None, Result, Ok, Err, OnOk, IfErr, IfOk, length, get_or, replicate, ap, sym, ◌∙◌, subst, refl, cond, arith, inl, inr, true≢false, unwrap_or, false_from_ne_true, UnlessMemory}
 use Rattle.star_group.proofs.Common.{Aggregate, IsMasked, aggregate, is_grouping, members, numbers_for, KeyValue, key_value_cmp, IsOwn, leaves, Update, overflows, aggregate_at, overflow_somewhere, somewhere_overflows, held, AreGrouped, HasAggregates, IsRowOver, puts_in, row_found}
 use Rattle.star_group.proofs.Common.{EagerStore, KeyPart, entries_of, is_of_put, IsMerged, IsRowOfOnePut, MergeLeaves, MergeStays, cell_of_one_put, merged, merged_at, AllStay, MergesAll, PutsRows, SomeLeaves, Group, put_number}
 use Rattle.star_group.proofs.GroupKeys.{all_members, in_places, masked_length, members_at, of_put, own_belongs, put_belongs}
@@ -23,7 +23,7 @@ if_leaves memory P Q (Err e) f (inl none) = inl none
 if_leaves memory P Q (Err e) f (inr some) = inr (f some)
 
 -- what is found has the aggregates of its puts
-found_held : (d : Group) (ws : List Update) (found : Option (List (Option ℤ))) (place : ℕ)
+found_held : (d : Group) (ws : List Update) (found : Option Row) (place : ℕ)
     → place < length d.aggregates → IsRowOver d ws found
     → get_or (unwrap_or found []) place None
     ≡ held (aggregate_at d.aggregates place) (numbers_for place ws)
@@ -34,18 +34,17 @@ found_held d ws (Some row) place h was = was.1 place h
 
 -- ---- one more put
 
-module _ (d : Group) (us : List Update) (u : Update) (row : List (Option ℤ))
+module _ (d : Group) (us : List Update) (u : Update) (row : Row)
     (one : IsRowOfOnePut d.aggregates u.values row) (fits : length u.keys ≡ d.count)
-    (es : List (List KeyPart × List (Option ℤ))) (was : AreGrouped d es us) where
-  abbrev own : List (Option KeyValue) → Bool
+    (es : List Entry) (was : AreGrouped d es us) where
+  abbrev own : RowKey → Bool
   own q = is_of_put d.shape u.keys q
 
-  grouped_more : (fs : List (List KeyPart × List (Option ℤ)))
+  grouped_more : (fs : List Entry)
       → MergesAll own d.aggregates row (row_found es) (row_found fs) → AreGrouped d fs (u ∷ us)
   grouped_more fs merges = record { fit = (fits, was.fit); rows = λ q. by q (own q) refl }
     where
-      by : (q : List (Option KeyValue)) (b : Bool) → own q ≡ b
-          → IsRowOver d (puts_in d q (u ∷ us)) (row_found fs q)
+      by : (q : RowKey) (b : Bool) → own q ≡ b → IsRowOver d (puts_in d q (u ∷ us)) (row_found fs q)
       by q true e = subst (λ ps. IsRowOver d ps (row_found fs q))
           (sym (ap (λ b. cond b (u ∷ puts_in d q us) (puts_in d q us)) e))
           (more_over d (puts_in d q us) u row one (row_found es q) (row_found fs q) (was.rows q)
@@ -66,13 +65,13 @@ module _ (d : Group) (us : List Update) (u : Update) (row : List (Option ℤ))
       ∙ sym (held_one g (put_number place u) (numbers_for place ws))
       ∙ some_aggregate g (put_number place u) (numbers_for place ws)
 
-  module _ (all : List (Option ℤ)) (few : d.count ≤ 6) (total : HasAggregates d us all) where
-    abbrev now : List (Option KeyValue) → ℕ → Option ℤ
+  module _ (all : Row) (few : d.count ≤ 6) (total : HasAggregates d us all) where
+    abbrev now : RowKey → ℕ → Option ℤ
     now m place = aggregate (aggregate_at d.aggregates place)
         (numbers_for place (members key_value_cmp m (u ∷ us)))
 
     -- a row of a group of the put, and the total
-    row_now : (m : List (Option KeyValue)) → is_grouping d.shape m ≡ true → IsMasked m u.keys
+    row_now : (m : RowKey) → is_grouping d.shape m ≡ true → IsMasked m u.keys
         → (place : ℕ) → place < length d.aggregates
         → merged_at d.aggregates (unwrap_or (row_found es (in_places 6 m)) []) row place
         ≡ now m place
@@ -86,7 +85,7 @@ module _ (d : Group) (us : List Update) (u : Update) (row : List (Option ℤ))
         ∙ sym (ap (λ b. cond b (u ∷ members key_value_cmp m us) (members key_value_cmp m us))
         (own_belongs d m u (inl (grouping, masked)))))
 
-    total_now : (m : List (Option KeyValue)) → m ≡ replicate (length u.keys) None → (place : ℕ)
+    total_now : (m : RowKey) → m ≡ replicate (length u.keys) None → (place : ℕ)
         → place < length d.aggregates → merged_at d.aggregates all row place ≡ now m place
     total_now m e place h =
         cell_more us (get_or all place None) place h (total place h)
@@ -100,8 +99,7 @@ module _ (d : Group) (us : List Update) (u : Update) (row : List (Option ℤ))
         let l = overflow_somewhere (declared d) us u over in
         true≢false (sym l.leaves_there ∙ there l.group l.place l.own l.declared))
       where
-        there : (m : List (Option KeyValue)) (place : ℕ) → IsOwn d.shape u.keys m
-            → place < length d.aggregates
+        there : (m : RowKey) (place : ℕ) → IsOwn d.shape u.keys m → place < length d.aggregates
             → leaves (aggregate_at d.aggregates place) (now m place) ≡ false
         there m place (inl in_row) h =
             ap (leaves (aggregate_at d.aggregates place))
@@ -140,7 +138,7 @@ module _ (d : Group) (us : List Update) (u : Update) (row : List (Option ℤ))
 
 -- ---- one more put into an eager store
 
-module _ (s : EagerStore) (u : Update) (gs : List Aggregate) (row : List (Option ℤ))
+module _ (s : EagerStore) (u : Update) (gs : List Aggregate) (row : Row)
     (is_gs : gs ≡ s.aggregates.items) (is_row : IsRowOfOnePut gs u.values row)
     (fits : length u.keys ≡ s.key_count) where
   one_put : IsRowOfOnePut s.aggregates.items u.values row
@@ -149,7 +147,7 @@ module _ (s : EagerStore) (u : Update) (gs : List Aggregate) (row : List (Option
   few_keys : s.key_count ≤ 6
   few_keys = omega (arith, s.wide, s.rows.listed.few)
 
-  abbrev Puts : List Aggregate → (List (Option KeyValue) → Option (List (Option ℤ))) → Type 0
+  abbrev Puts : List Aggregate → (RowKey → Option Row) → Type 0
   Puts g new = PutsRows (is_of_put s.shape u.keys) g row (row_found (entries_of s.rows)) new
 
   abbrev Leaves : List Aggregate → Type 0
@@ -171,8 +169,7 @@ module _ (s : EagerStore) (u : Update) (gs : List Aggregate) (row : List (Option
   }
   put_has (Err e) new same puts merges = tt
 
-  pub put_stays : {T E : Type 0} (r : Result T E)
-      (new : List (Option KeyValue) → Option (List (Option ℤ))) → OnOk r (Puts gs new)
+  pub put_stays : {T E : Type 0} (r : Result T E) (new : RowKey → Option Row) → OnOk r (Puts gs new)
       → OnOk r (MergeStays gs s.total row)
       → OnOk r ((us : List Update) → Has s us
       → overflows (group_view s).shape (group_view s).aggregates us u ≡ false)

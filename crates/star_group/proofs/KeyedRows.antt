@@ -1,5 +1,5 @@
 -- Rows in flat storage with their keys: what stands at a number, one row more, and one changed.
-use Rattle.star_group.proofs.Common.{◌≡◌, ◌⊎◌, inl, inr, cases_lt, get_or-map, is_some, ℕ, zero, suc, ◌<◌, ◌≤◌, Bool, true, false, ℤ, List, [], ◌∷◌, ◌++◌, Option, Some, None, Result, Ok, Err, OnOk, cond, length, get_or, get_or-set_same, set, slice_get, map, take, drop, ap, sym, ◌∙◌, subst, refl, arith, true≢false}
+use Rattle.star_group.proofs.Common.{Entry, Row, RowKey, ◌≡◌, ◌⊎◌, inl, inr, cases_lt, get_or-map, is_some, ℕ, zero, suc, ◌<◌, ◌≤◌, Bool, true, false, ℤ, List, [], ◌∷◌, ◌++◌, Option, Some, None, Result, Ok, Err, OnOk, cond, length, get_or, get_or-set_same, set, slice_get, map, take, drop, ap, sym, ◌∙◌, subst, refl, arith, true≢false}
 use Rattle.star_group.proofs.Common.{AllByRecursion, filter, list_any, keys_of, lookup, get_or-take, length-map, length-set, take_at, lookup_from_place, place_from_lookup, slice_get-get_or, slice_get-map, slice_get_within, KeyValue, KeyPart, All, KeyedRows, key_view, row_found}
 use Rattle.star_group.proofs.Common.{key_value_view, entries_of, all_hidden, filled, key_eq, padded, vary, AreOnce, shown_entries, IsMerged, IsMergedAt, IsWithRow, Aggregate, Shape, option_map, unwrap_or, with_items, and_parts, false_from_ne_true, list_any-from_Contains, contains_mapped}
 use Rattle.star_group.proofs.Common.{of_each, AreNarrow, IsNarrow, is_row_key, IsHeld, IsMissing, keys_in, IsDistinct-push, get_or_from_slice_get, append_assoc, cut, append-nil}
@@ -13,47 +13,41 @@ use Rattle.star_group.specs.{declared.keyed.key.KeyPart.TheVariants.Number, decl
 
 -- ---- entries, each of whose keys is there once
 
-pub shown_lookup : (q : List (Option KeyValue)) (es : List (List KeyPart × List (Option ℤ)))
+pub shown_lookup : (q : RowKey) (es : List Entry)
     → lookup (key_eq q) (shown_entries es) ≡ row_found es q
 shown_lookup q [] = refl
 shown_lookup q (e ∷ es) = ap (cond (key_eq q (key_view e.0)) (Some e.1)) (shown_lookup q es)
 
-abbrev show : List KeyPart × List (Option ℤ) → List (Option KeyValue) × List (Option ℤ)
+abbrev show : Entry → RowKey × Row
 show e = (key_view e.0, e.1)
 
-shown_count : (es : List (List KeyPart × List (Option ℤ)))
-    → length (keys_of (shown_entries es)) ≡ length es
+shown_count : (es : List Entry) → length (keys_of (shown_entries es)) ≡ length es
 shown_count es = length-map (shown_entries es) _ ∙ length-map es show
 
-key_at : (es : List (List KeyPart × List (Option ℤ))) (n : ℕ) (d : List (Option KeyValue))
-    → n < length es
+key_at : (es : List Entry) (n : ℕ) (d : RowKey) → n < length es
     → get_or (keys_of (shown_entries es)) n d ≡ key_view (get_or es n ([], [])).0
-key_at es n d h = get_or-map (λ (p : List (Option KeyValue) × List (Option ℤ)). p.0)
+key_at es n d h = get_or-map (λ (p : RowKey × Row). p.0)
     (shown_entries es) n ([], []) d (omega (arith, h, length-map es show))
-    ∙ ap (λ (p : List (Option KeyValue) × List (Option ℤ)). p.0)
-    (get_or-map show es n ([], []) ([], []) h)
+    ∙ ap (λ (p : RowKey × Row). p.0) (get_or-map show es n ([], []) ([], []) h)
 
 -- an entry is found by its key
-pub row_once : (es : List (List KeyPart × List (Option ℤ))) → AreOnce es
-    → (j : ℕ) (e : List KeyPart × List (Option ℤ)) → slice_get es j ≡ Some e
+pub row_once : (es : List Entry) → AreOnce es → (j : ℕ) (e : Entry) → slice_get es j ≡ Some e
     → row_found es (key_view e.0) ≡ Some e.1
 row_once es once j e at =
-    let show : List KeyPart × List (Option ℤ) → List (Option KeyValue) × List (Option ℤ) =
-    λ f. (key_view f.0, f.1) in
+    let show : Entry → RowKey × Row = λ f. (key_view f.0, f.1) in
     sym (shown_lookup (key_view e.0) es)
     ∙ lookup_from_place key_equiv (shown_entries es) j (key_view e.0) e.1
     once (slice_get-map show es j ∙ ap (option_map show) at)
 
-pub once_at : (es : List (List KeyPart × List (Option ℤ))) → AreOnce es → IsOnceAt es
+pub once_at : (es : List Entry) → AreOnce es → IsOnceAt es
 once_at es once i j e f at_i at_j same = by (cases_lt i j) (cases_lt j i)
   where
-    view : (n : ℕ) (g : List KeyPart × List (Option ℤ)) → slice_get es n ≡ Some g
+    view : (n : ℕ) (g : Entry) → slice_get es n ≡ Some g
         → get_or (keys_of (shown_entries es)) n [] ≡ key_view g.0
-    view n g at = key_at es n [] (slice_get_within es n g at)
-        ∙ ap (λ (h : List KeyPart × List (Option ℤ)). key_view h.0)
+    view n g at = key_at es n [] (slice_get_within es n g at) ∙ ap (λ (h : Entry). key_view h.0)
         (get_or_from_slice_get es n g ([], []) at)
 
-    apart : (m n : ℕ) (g h : List KeyPart × List (Option ℤ)) → slice_get es m ≡ Some g
+    apart : (m n : ℕ) (g h : Entry) → slice_get es m ≡ Some g
         → slice_get es n ≡ Some h → key_view g.0 ≡ key_view h.0 → m < n → ⊥
     apart m n g h at_m at_n is less =
         true≢false (sym ((key_decides _ _).1 (view m g at_m ∙ is ∙ sym (view n h at_n)))
@@ -68,8 +62,7 @@ once_at es once i j e f at_i at_j same = by (cases_lt i j) (cases_lt j i)
 -- ---- keys beside rows
 
 -- a row of another key is as it was
-others_set : (ks : List (List KeyPart)) (cs : List (List (Option ℤ))) (n : ℕ)
-    (row : List (Option ℤ)) (q : List (Option KeyValue))
+others_set : (ks : List (List KeyPart)) (cs : List Row) (n : ℕ) (row : Row) (q : RowKey)
     → key_eq q (key_view (filled (get_or ks n []))) ≡ false
     → row_found (keyed ks (set cs n row)) q ≡ row_found (keyed ks cs) q
 unfolding keyed
@@ -82,21 +75,21 @@ others_set (k ∷ ks) (c ∷ cs) (suc n) row q apart =
     ap (cond (key_eq q (key_view (filled k))) (Some c)) (others_set ks cs n row q apart)
 
 -- one row more
-pub row_more : (es : List (List KeyPart × List (Option ℤ))) (k : List KeyPart) (c : List (Option ℤ))
-    (q : List (Option KeyValue)) → (key_eq q (key_view k) ≡ true → row_found es q ≡ None)
+pub row_more : (es : List Entry) (k : List KeyPart) (c : Row)
+    (q : RowKey) → (key_eq q (key_view k) ≡ true → row_found es q ≡ None)
     → row_found (es ++ (k, c) ∷ []) q ≡ cond (key_eq q (key_view k)) (Some c) (row_found es q)
 row_more es k c q new = found_append es ((k, c) ∷ []) q
     ∙ by (key_eq q (key_view k)) (row_found es q) new
   where
-    by : (b : Bool) (found : Option (List (Option ℤ))) → (b ≡ true → found ≡ None)
+    by : (b : Bool) (found : Option Row) → (b ≡ true → found ≡ None)
         → first_of found (cond b (Some c) None) ≡ cond b (Some c) found
     by true found new = ap (λ r. first_of r (Some c)) (new refl)
     by false None new = refl
     by false (Some row) new = refl
 
 -- a row of a key that no row has
-pub merged_new : (gs : List Aggregate) (es : List (List KeyPart × List (Option ℤ)))
-    (k : List KeyPart) (more row : List (Option ℤ)) → row_found es (key_view k) ≡ None
+pub merged_new : (gs : List Aggregate) (es : List Entry)
+    (k : List KeyPart) (more row : Row) → row_found es (key_view k) ≡ None
     → ((place : ℕ) → place < length gs → get_or row place None ≡ get_or more place None)
     → IsMergedAt gs (key_view k) more es (es ++ (k, row) ∷ [])
 merged_new gs es k more row none all = (
@@ -105,25 +98,25 @@ merged_new gs es k more row none all = (
   λ q. row_more es k row q (λ e. ap (row_found es) ((key_decides q (key_view k)).0 e) ∙ none),
 )
 
-keys_more : (fs : List (List KeyPart × List (Option ℤ))) (k : List KeyPart) (r : List (Option ℤ))
+keys_more : (fs : List Entry) (k : List KeyPart) (r : Row)
     → keys_of (shown_entries (fs ++ (k, r) ∷ [])) ≡ keys_of (shown_entries fs) ++ key_view k ∷ []
 keys_more [] k r = refl
 keys_more (f ∷ fs) k r = ap (λ ks. key_view f.0 ∷ ks) (keys_more fs k r)
 
-none_among : (fs : List (List KeyPart × List (Option ℤ))) (q : List (Option KeyValue))
+none_among : (fs : List Entry) (q : RowKey)
     → row_found fs q ≡ None → list_any (key_eq q) (keys_of (shown_entries fs)) ≡ false
 none_among fs q e = sym (is_some-lookup (key_eq q) (shown_entries fs))
     ∙ ap is_some (shown_lookup q fs ∙ e)
 
-pub once_more : (fs : List (List KeyPart × List (Option ℤ))) (k : List KeyPart) (r : List (Option ℤ))
+pub once_more : (fs : List Entry) (k : List KeyPart) (r : Row)
     → row_found fs (key_view k) ≡ None → AreOnce fs → AreOnce (fs ++ (k, r) ∷ [])
 once_more fs k r none once =
     subst (IsDistinct key_eq) (sym (keys_more fs k r))
     (IsDistinct-push key_equiv (keys_of (shown_entries fs)) (key_view k) once
     (none_among fs (key_view k) none))
 
-all_after : (es fs : List (List KeyPart × List (Option ℤ))) (k : List KeyPart)
-    (c : List (Option ℤ)) → AllByRecursion (λ f. row_found es (key_view f.0) ≡ None) fs
+all_after : (es fs : List Entry) (k : List KeyPart)
+    (c : Row) → AllByRecursion (λ f. row_found es (key_view f.0) ≡ None) fs
     → AllByRecursion (λ m. key_eq (key_view k) m ≡ false) (keys_of (shown_entries fs))
     → AllByRecursion (λ f. row_found (es ++ (k, c) ∷ []) (key_view f.0) ≡ None) fs
 all_after es [] k c none apart = tt
@@ -134,7 +127,7 @@ all_after es (f ∷ fs) k c none apart = (
 )
 
 -- rows after others whose keys they do not have
-pub once_joined : (es fs : List (List KeyPart × List (Option ℤ))) → AreOnce es → AreOnce fs
+pub once_joined : (es fs : List Entry) → AreOnce es → AreOnce fs
     → AllByRecursion (λ f. row_found es (key_view f.0) ≡ None) fs → AreOnce (es ++ fs)
 unfolding IsDistinct
 once_joined es [] once others none = subst AreOnce (sym (append-nil es)) once
@@ -164,14 +157,14 @@ key_once ps rs e = sym (parts_back ps) ∙ ap (map part_of) e ∙ parts_back rs
 
 -- ---- rows with each key once
 
-module _ (w : ℕ) (ks : List (List KeyPart)) (cs : List (List (Option ℤ)))
+module _ (w : ℕ) (ks : List (List KeyPart)) (cs : List Row)
     (same : length ks ≡ length cs) (wide : (i : ℕ) → i < length ks → length (get_or ks i []) ≡ w)
     (once : (i j : ℕ) → i < length ks → j < length ks → get_or ks i [] ≡ get_or ks j []
     → i ≡ j) where
   own_parts : (i : ℕ) → i < length ks → take w (filled (get_or ks i [])) ≡ get_or ks i []
   own_parts i h = take_at (get_or ks i []) (drop (length (get_or ks i [])) all_hidden) w (wide i h)
 
-  entry_is : (i : ℕ) (e : List KeyPart × List (Option ℤ)) → slice_get (keyed ks cs) i ≡ Some e
+  entry_is : (i : ℕ) (e : Entry) → slice_get (keyed ks cs) i ≡ Some e
       → (i < length ks) × (e ≡ (filled (get_or ks i []), get_or cs i []))
   entry_is i e at =
       let among = slice_get_within (keyed ks cs) i e at in
@@ -180,10 +173,10 @@ module _ (w : ℕ) (ks : List (List KeyPart)) (cs : List (List (Option ℤ)))
       let is : e ≡ get_or (keyed ks cs) i ([], []) = cc (some, at) in
       (within, is ∙ keyed_at ks cs i same within)
 
-  view_at : (i : ℕ) (d : List (Option KeyValue)) → i < length ks
+  view_at : (i : ℕ) (d : RowKey) → i < length ks
       → get_or (keys_of (shown_entries (keyed ks cs))) i d ≡ key_view (filled (get_or ks i []))
   view_at i d h = key_at (keyed ks cs) i d (omega (arith, h, length-keyed ks cs same))
-      ∙ ap (λ (e : List KeyPart × List (Option ℤ)). key_view e.0) (keyed_at ks cs i same h)
+      ∙ ap (λ (e : Entry). key_view e.0) (keyed_at ks cs i same h)
 
   pub once_keyed : AreOnce (keyed ks cs)
   once_keyed = IsDistinct-from_apart key_eq (keys_of (shown_entries (keyed ks cs)))
@@ -209,8 +202,7 @@ module _ (w : ℕ) (ks : List (List KeyPart)) (cs : List (List (Option ℤ)))
       → row_found (keyed ks cs) (key_view key) ≡ None
   no_row key none = by (row_found (keyed ks cs) (key_view key)) refl
     where
-      by : (found : Option (List (Option ℤ))) → row_found (keyed ks cs) (key_view key) ≡ found
-          → found ≡ None
+      by : (found : Option Row) → row_found (keyed ks cs) (key_view key) ≡ found → found ≡ None
       by None e = refl
       by (Some row) e =
           let f = place_from_lookup (λ parts. key_eq (key_view key) (key_view parts)) (keyed ks cs)
@@ -218,21 +210,21 @@ module _ (w : ℕ) (ks : List (List KeyPart)) (cs : List (List (Option ℤ)))
           let a = entry_is f.0 (f.1, row) f.2 in
           let parts : key ≡ filled (get_or ks f.0 []) =
           key_once key f.1 ((key_decides (key_view key) (key_view f.1)).0 f.3)
-          ∙ ap (λ (x : List KeyPart × List (Option ℤ)). x.0) a.1 in
+          ∙ ap (λ (x : Entry). x.0) a.1 in
           absurd (none f.0 a.0 (sym (own_parts f.0 a.0) ∙ ap (take w) (sym parts)))
 
-module _ (w : ℕ) (ks : List (List KeyPart)) (cs : List (List (Option ℤ)))
+module _ (w : ℕ) (ks : List (List KeyPart)) (cs : List Row)
     (same : length ks ≡ length cs) (wide : (i : ℕ) → i < length ks → length (get_or ks i []) ≡ w)
     (once : (i j : ℕ) → i < length ks → j < length ks → get_or ks i [] ≡ get_or ks j []
     → i ≡ j) where
-  set_found : (n : ℕ) (row : List (Option ℤ)) → n < length ks
+  set_found : (n : ℕ) (row : Row) → n < length ks
       → row_found (keyed ks (set cs n row)) (key_view (filled (get_or ks n []))) ≡ Some row
   set_found n row h =
       held_row w ks (set cs n row) (same ∙ sym (length-set cs n row)) wide once n h
       ∙ ap Some (get_or-set_same cs n row [] (omega (arith, h, same)))
 
   -- the row of a number in place of the one that is there
-  pub with_set : (n : ℕ) (key : List KeyPart) (row : List (Option ℤ)) → n < length ks
+  pub with_set : (n : ℕ) (key : List KeyPart) (row : Row) → n < length ks
       → filled (get_or ks n []) ≡ key
       → IsWithRow (key_view key) row (keyed ks cs) (keyed ks (set cs n row))
   with_set n key row h is q = by (key_eq q (key_view key)) refl
@@ -249,7 +241,7 @@ module _ (rows : KeyedRows) where
   abbrev ks : List (List KeyPart)
   ks = keys_in rows
 
-  abbrev cs : List (List (Option ℤ))
+  abbrev cs : List Row
   cs = cut rows.listed.aggregate_count rows.listed.len rows.listed.cells.items
 
   wide : (i : ℕ) → i < length ks → length (get_or ks i []) ≡ rows.listed.width
@@ -276,7 +268,7 @@ module _ (rows : KeyedRows) where
           ∙ held_row rows.listed.width ks cs (same rows.listed) wide rows.trie.once number
           held.within
 
-      pub set_held : (row : List (Option ℤ)) (ns : List (Option ℤ))
+      pub set_held : (row : Row) (ns : Row)
           → cut rows.listed.aggregate_count rows.listed.len ns ≡ set cs number row
           → length ns ≡ rows.listed.cells.len
           → IsWithRow (key_view key) row (entries_of rows)
@@ -298,8 +290,7 @@ module _ (rows : KeyedRows) where
 
       -- what is merged in is all that there is
       pub merged_missing : {T E : Type 0} (r : Result T E) (gs : List Aggregate)
-          (more : List (Option ℤ)) (fs : List (List KeyPart × List (Option ℤ)))
-          → length gs ≡ rows.listed.aggregate_count
+          (more : Row) (fs : List Entry) → length gs ≡ rows.listed.aggregate_count
           → OnOk r (fs ≡ entries_of rows ++ (key, take rows.listed.aggregate_count more) ∷ [])
           → OnOk r (IsMergedAt gs (key_view key) more (entries_of rows) fs)
       merged_missing (Err x) gs more fs count is = tt
@@ -315,7 +306,7 @@ all_of : ℕ → List KeyPart
 all_of zero = []
 all_of (suc n) = All ∷ all_of n
 
-narrow_of : (n w : ℕ) (ps : List KeyPart) (m : List (Option KeyValue)) → key_view ps ≡ in_places n m
+narrow_of : (n w : ℕ) (ps : List KeyPart) (m : RowKey) → key_view ps ≡ in_places n m
     → length m ≤ w → drop w ps ≡ drop w (all_of n)
 unfolding in_places all_of
 narrow_of zero w [] m e h = refl
@@ -345,7 +336,7 @@ pub row_keys_narrow : (s : Shape) (ks : List KeyValue) (own : List (List KeyPart
     → AreNarrow w own
 unfolding all_of
 row_keys_narrow s ks own w wide few is = of_each (IsNarrow w) own (λ key c.
-    let q : List (Option KeyValue) = key_view key in
+    let q : RowKey = key_view key in
     let there : list_any (key_eq q) (map key_view own) ≡ true =
     list_any-from_Contains key_equiv q (map key_view own)
     (contains_mapped key_view own key c) in

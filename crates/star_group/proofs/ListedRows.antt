@@ -1,5 +1,5 @@
 -- What stands at a number in rows that nothing finds by their keys.
-use Rattle.star_group.proofs.Common.{◌≡◌, ◌≤◌, ◌<◌, ◌+◌, ◌++◌, ◌∷◌, ◌∙◌, ℕ, zero, suc, ℤ, List, [], None, Option, Some, ap, arith, drop, get_or, length, refl, slice_get, sym, take, ⊎_elim, AllByRecursion, get_or_past, length-take-le, cases_lt, get_or_from_slice_get, slice_get_within}
+use Rattle.star_group.proofs.Common.{Entry, Row, ◌≡◌, ◌≤◌, ◌<◌, ◌+◌, ◌++◌, ◌∷◌, ◌∙◌, ℕ, zero, suc, ℤ, List, [], None, Option, Some, ap, arith, drop, get_or, length, refl, slice_get, sym, take, ⊎_elim, AllByRecursion, get_or_past, length-take-le, cases_lt, get_or_from_slice_get, slice_get_within}
 use Rattle.star_group.proofs.Common.{key_value_view, key_view, KeyPart, ListedRows, listed_entries, all_hidden, filled, length-cut, take-append-drop, drop_at}
 use Rattle.star_program.specs.Rows.{cut}
 use Rattle.star_group.specs.Keyed.{keyed}
@@ -7,14 +7,14 @@ use Rattle.star_group.proofs.CutRows.{cut_one, cut_wide, cut_append}
 
 -- ---- keys beside rows
 
-pub length-keyed : (ks : List (List KeyPart)) (cs : List (List (Option ℤ))) → length ks ≡ length cs
+pub length-keyed : (ks : List (List KeyPart)) (cs : List Row) → length ks ≡ length cs
     → length (keyed ks cs) ≡ length ks
 unfolding keyed
 length-keyed [] cs e = refl
 length-keyed (k ∷ ks) [] e = absurd (omega (arith, e))
 length-keyed (k ∷ ks) (c ∷ cs) e = ap suc (length-keyed ks cs (omega (arith, e)))
 
-pub keyed_at : (ks : List (List KeyPart)) (cs : List (List (Option ℤ))) (i : ℕ)
+pub keyed_at : (ks : List (List KeyPart)) (cs : List Row) (i : ℕ)
     → length ks ≡ length cs → i < length ks
     → get_or (keyed ks cs) i ([], []) ≡ (filled (get_or ks i []), get_or cs i [])
 unfolding keyed
@@ -23,7 +23,7 @@ keyed_at (k ∷ ks) [] i e h = absurd (omega (arith, e))
 keyed_at (k ∷ ks) (c ∷ cs) zero e h = refl
 keyed_at (k ∷ ks) (c ∷ cs) (suc i) e h = keyed_at ks cs i (omega (arith, e)) (omega (arith, h))
 
-pub keyed_append : (ks js : List (List KeyPart)) (cs ds : List (List (Option ℤ)))
+pub keyed_append : (ks js : List (List KeyPart)) (cs ds : List Row)
     → length ks ≡ length cs → keyed (ks ++ js) (cs ++ ds) ≡ keyed ks cs ++ keyed js ds
 unfolding keyed
 keyed_append [] js [] ds e = refl
@@ -32,12 +32,11 @@ keyed_append (j ∷ ks) js [] ds e = absurd (omega (arith, e))
 keyed_append (j ∷ ks) js (x ∷ cs) ds e =
     ap (λ es. (filled j, x) ∷ es) (keyed_append ks js cs ds (omega (arith, e)))
 
-none_keyed : (w m : ℕ) (ps : List KeyPart) (ns : List (Option ℤ))
-    → keyed (cut w 0 ps) (cut m 0 ns) ≡ []
+none_keyed : (w m : ℕ) (ps : List KeyPart) (ns : Row) → keyed (cut w 0 ps) (cut m 0 ns) ≡ []
 unfolding cut keyed
 none_keyed w m ps ns = refl
 
-pub no_entries : (w m n : ℕ) (ps : List KeyPart) (ns : List (Option ℤ)) → n ≡ 0
+pub no_entries : (w m n : ℕ) (ps : List KeyPart) (ns : Row) → n ≡ 0
     → keyed (cut w n ps) (cut m n ns) ≡ []
 no_entries w m n ps ns e = ap (λ k. keyed (cut w k ps) (cut m k ns)) e ∙ none_keyed w m ps ns
 
@@ -77,7 +76,7 @@ module _ (rows : ListedRows) where
   abbrev ks : List (List KeyPart)
   ks = cut rows.width rows.len rows.keys.items
 
-  abbrev cs : List (List (Option ℤ))
+  abbrev cs : List Row
   cs = cut rows.aggregate_count rows.len rows.cells.items
 
   pub key_count : length ks ≡ rows.len
@@ -104,11 +103,11 @@ module _ (rows : ListedRows) where
   cells_wide number h = cut_wide rows.aggregate_count rows.len rows.cells.items number
       rows.long_cells (omega (arith, h, row_count))
 
-  pub row_wide : (number : ℕ) (e : List KeyPart × List (Option ℤ))
+  pub row_wide : (number : ℕ) (e : Entry)
       → slice_get (listed_entries rows) number ≡ Some e → length e.1 ≡ rows.aggregate_count
   row_wide number e at =
       let there = slice_get_within (listed_entries rows) number e at in
-      ap (λ (f : List KeyPart × List (Option ℤ)). length f.1)
+      ap (λ (f : Entry). length f.1)
       (sym (get_or_from_slice_get (listed_entries rows) number e ([], []) at)
       ∙ entry_at number there) ∙ cells_wide number there
 
@@ -124,11 +123,10 @@ module _ (rows : ListedRows) where
       {P = λ n. get_or (key_view (get_or ks n [])) place None
       ≡ get_or (key_view (get_or (listed_entries rows) n ([], [])).0) place None}
       (λ n h. part_filled (length (get_or ks n [])) (get_or ks n []) place
-      ∙ sym (ap (λ (e : List KeyPart × List (Option ℤ)). get_or (key_view e.0) place None)
-      (entry_at n h)))
+      ∙ sym (ap (λ (e : Entry). get_or (key_view e.0) place None) (entry_at n h)))
       (λ n h. ap (λ ps. get_or (key_view ps) place None)
       (get_or_past ks n [] (omega (arith, h, row_count, key_count)))
-      ∙ sym (ap (λ (e : List KeyPart × List (Option ℤ)). get_or (key_view e.0) place None)
+      ∙ sym (ap (λ (e : Entry). get_or (key_view e.0) place None)
       (get_or_past (listed_entries rows) n ([], []) h)))
       number
 
@@ -136,10 +134,9 @@ module _ (rows : ListedRows) where
       ≡ (get_or (listed_entries rows) number ([], [])).1
   row_at number = by_number
       {P = λ n. get_or cs n [] ≡ (get_or (listed_entries rows) n ([], [])).1}
-      (λ n h. sym (ap (λ (e : List KeyPart × List (Option ℤ)). e.1) (entry_at n h)))
+      (λ n h. sym (ap (λ (e : Entry). e.1) (entry_at n h)))
       (λ n h. get_or_past cs n [] (omega (arith, h, row_count, key_count, same))
-      ∙ sym (ap (λ (e : List KeyPart × List (Option ℤ)). e.1)
-      (get_or_past (listed_entries rows) n ([], []) h)))
+      ∙ sym (ap (λ (e : Entry). e.1) (get_or_past (listed_entries rows) n ([], []) h)))
       number
 
   -- more rows
@@ -149,7 +146,7 @@ module _ (rows : ListedRows) where
   keys_more count qs js keys n more = ap (cut rows.width n) keys
       ∙ cut_append rows.width count rows.len n rows.keys.items qs more rows.long_keys
 
-  pub entries_more : (count : ℕ) (qs js : List KeyPart) (row ds : List (Option ℤ))
+  pub entries_more : (count : ℕ) (qs js : List KeyPart) (row ds : Row)
       → js ≡ rows.keys.items ++ qs → ds ≡ rows.cells.items ++ row
       → (n : ℕ) → n ≡ rows.len + count
       → keyed (cut rows.width n js) (cut rows.aggregate_count n ds)
@@ -162,7 +159,7 @@ module _ (rows : ListedRows) where
       ∙ keyed_append ks (cut rows.width count qs) cs (cut rows.aggregate_count count row) same
 
 -- the only one of some rows
-pub one_entry : (w m : ℕ) (key : List KeyPart) (row : List (Option ℤ)) → w ≤ length key
+pub one_entry : (w m : ℕ) (key : List KeyPart) (row : Row) → w ≤ length key
     → drop w key ≡ drop w all_hidden → length row ≡ m
     → keyed (cut w 1 (take w key)) (cut m 1 row) ≡ (key, row) ∷ []
 unfolding keyed

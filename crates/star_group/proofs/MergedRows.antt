@@ -1,22 +1,21 @@
 -- One more row merged into those of some keys.
-use Rattle.star_group.proofs.Common.{◌≡◌, ◌⊎◌, inl, inr, ℕ, zero, suc, ◌+◌, ◌<◌, Bool, true, false, ◌||◌, ℤ, List, [], ◌∷◌, Option, Some, None, length, get_or, take, map, MatchBool, ap, sym, ◌∙◌, subst, refl, true≢false, arith, ◌*◌, list_any, IsDistinct, unwrap_or, get_or-map, length-map}
+use Rattle.star_group.proofs.Common.{Entry, Row, RowKey, ◌≡◌, ◌⊎◌, inl, inr, ℕ, zero, suc, ◌+◌, ◌<◌, Bool, true, false, ◌||◌, ℤ, List, [], ◌∷◌, Option, Some, None, length, get_or, take, map, MatchBool, ap, sym, ◌∙◌, subst, refl, true≢false, arith, ◌*◌, list_any, IsDistinct, unwrap_or, get_or-map, length-map}
 use Rattle.star_group.proofs.Common.{list_any_at, list_any_more, apart_from_distinct, IsDistinct-tail, or_parts, Aggregate, KeyValue, KeyPart, KeyedRows, key_view, row_found, key_eq, IsMergedAt, IsMergedInto, MergeLeaves, MergeStays, RowsStay, AreNarrow, HasSpace, IsNarrow, suc-mul}
 use Rattle.star_group.proofs.Common.{mul-le-mul_right, get_or_default, at_each, ◌≤◌, AllStay, MergesAll, SomeLeaves}
 use Rattle.star_group.proofs.{Bases.other_row, Bases.own_row, GroupKeys.key_decides, GroupKeys.key_equiv}
 
 -- ---- one more key of a list without repeats
 
-abbrev pub among : List (List (Option KeyValue)) → List (Option KeyValue) → Bool
+abbrev pub among : List RowKey → RowKey → Bool
 among own q = list_any (key_eq q) own
 
 -- an element is not among those before it
-fresh_at : (own : List (List (Option KeyValue))) (i : ℕ) (d : List (Option KeyValue))
-    → IsDistinct key_eq own → i < length own
+fresh_at : (own : List RowKey) (i : ℕ) (d : RowKey) → IsDistinct key_eq own → i < length own
     → list_any (key_eq (get_or own i d)) (take i own) ≡ false
 fresh_at [] i d distinct h = absurd (omega (arith, h))
 fresh_at (x ∷ xs) zero d distinct h = refl
 fresh_at (x ∷ xs) (suc j) d distinct h =
-    let k : List (Option KeyValue) = get_or xs j d in
+    let k : RowKey = get_or xs j d in
     let apart : key_eq x k ≡ false =
     apart_from_distinct key_eq (x ∷ xs) 0 (suc j) d distinct (omega arith) h in
     ap (λ b. b || list_any (key_eq k) (take j xs)) (key_equiv.symm k x ∙ apart)
@@ -30,7 +29,7 @@ pub key_within : (own : List (List KeyPart)) (i : ℕ) → i < length own
     → i < length (map key_view own)
 key_within own i h = omega (arith, h, length-map own key_view)
 
-module _ (own : List (List (Option KeyValue))) (i : ℕ) (key : List (Option KeyValue))
+module _ (own : List RowKey) (i : ℕ) (key : RowKey)
     (within : i < length own) (here : get_or own i key ≡ key) where
   among_here : list_any (key_eq key) own ≡ true
   among_here = list_any_at (key_eq key) own i key within (ap (key_eq key) here ∙ key_equiv.refl key)
@@ -40,7 +39,7 @@ module _ (own : List (List (Option KeyValue))) (i : ℕ) (key : List (Option Key
       (fresh_at own i key distinct within)
 
   -- a key among the first i + 1 is among the first i, or is the one at i
-  split : (q : List (Option KeyValue)) → list_any (key_eq q) (take (i + 1) own) ≡ true
+  split : (q : RowKey) → list_any (key_eq q) (take (i + 1) own) ≡ true
       → (list_any (key_eq q) (take i own) ≡ true) ⊎ (q ≡ key)
   split q e = by (list_any (key_eq q) (take i own)) refl
     where
@@ -51,15 +50,15 @@ module _ (own : List (List (Option KeyValue))) (i : ℕ) (key : List (Option Key
           (sym (ap (λ b. b || key_eq q (get_or own i key)) p)
           ∙ sym (list_any_more (key_eq q) own i key within) ∙ e) ∙ here)
 
-  not_among : (q : List (Option KeyValue)) → list_any (key_eq q) (take (i + 1) own) ≡ false
+  not_among : (q : RowKey) → list_any (key_eq q) (take (i + 1) own) ≡ false
       → (list_any (key_eq q) (take i own) ≡ false) × (key_eq q key ≡ false)
   not_among q none =
       let both = or_parts _ _ (sym (list_any_more (key_eq q) own i key within) ∙ none) in
       (both.0, ap (key_eq q) (sym here) ∙ both.1)
 
-  module _ (gs : List Aggregate) (more : List (Option ℤ)) where
+  module _ (gs : List Aggregate) (more : Row) where
     -- whether the row at i stays tells whether those of the first i + 1 keys do
-    pub told_more : (look : List (Option KeyValue) → Option (List (Option ℤ)))
+    pub told_more : (look : RowKey → Option Row)
         → AllStay look (among (take i own)) gs more → (stays : Bool)
         → MatchBool stays (MergeStays gs (unwrap_or (look key) []) more)
         (MergeLeaves gs (unwrap_or (look key) []) more)
@@ -68,19 +67,17 @@ module _ (own : List (List (Option KeyValue))) (i : ℕ) (key : List (Option Key
     told_more look so_far false leaves = record { key = key; among = among_here; leaves = leaves }
     told_more look so_far true now = record { stay = λ q e. by q (split q e) }
       where
-        by : (q : List (Option KeyValue)) → (list_any (key_eq q) (take i own) ≡ true) ⊎ (q ≡ key)
+        by : (q : RowKey) → (list_any (key_eq q) (take i own) ≡ true) ⊎ (q ≡ key)
             → MergeStays gs (unwrap_or (look q) []) more
         by q (inl earlier) = so_far.stay q earlier
         by q (inr same) = subst (λ k. MergeStays gs (unwrap_or (look k) []) more) (sym same) now
 
-    stays_found : (found : Option (List (Option ℤ))) → MergeStays gs (unwrap_or found []) more
+    stays_found : (found : Option Row) → MergeStays gs (unwrap_or found []) more
         → RowsStay gs found more
     stays_found None h = tt
     stays_found (Some row) h = h
 
-    module _ (distinct : IsDistinct key_eq own)
-        (old : List (Option KeyValue) → Option (List (Option ℤ)))
-        (es : List (List KeyPart × List (Option ℤ)))
+    module _ (distinct : IsDistinct key_eq own) (old : RowKey → Option Row) (es : List Entry)
         (so_far : MergesAll (among (take i own)) gs more old (row_found es)) where
       found_here : row_found es key ≡ old key
       found_here = so_far.same key (fresh distinct)
@@ -89,7 +86,7 @@ module _ (own : List (List (Option KeyValue))) (i : ℕ) (key : List (Option Key
       stays_here all = subst (λ found. RowsStay gs found more) (sym found_here)
           (stays_found (old key) (all.stay key among_here))
 
-      pub merges_more : (fs : List (List KeyPart × List (Option ℤ))) → IsMergedAt gs key more es fs
+      pub merges_more : (fs : List Entry) → IsMergedAt gs key more es fs
           → MergesAll (among (take (i + 1) own)) gs more old (row_found fs)
       merges_more fs at = record {
         changed = λ q e. by q (split q e);
@@ -97,8 +94,7 @@ module _ (own : List (List (Option KeyValue))) (i : ℕ) (key : List (Option Key
             other_row gs key more es fs at q both.1 ∙ so_far.same q both.0;
       }
         where
-          apart : (q : List (Option KeyValue)) → list_any (key_eq q) (take i own) ≡ true
-              → key_eq q key ≡ false
+          apart : (q : RowKey) → list_any (key_eq q) (take i own) ≡ true → key_eq q key ≡ false
           apart q earlier = is (key_eq q key) refl
             where
               is : (b : Bool) → key_eq q key ≡ b → key_eq q key ≡ false
@@ -107,7 +103,7 @@ module _ (own : List (List (Option KeyValue))) (i : ℕ) (key : List (Option Key
                   (sym earlier ∙ ap (λ k. list_any (key_eq k) (take i own))
                   ((key_decides q key).0 e) ∙ fresh distinct))
 
-          by : (q : List (Option KeyValue)) → (list_any (key_eq q) (take i own) ≡ true) ⊎ (q ≡ key)
+          by : (q : RowKey) → (list_any (key_eq q) (take i own) ≡ true) ⊎ (q ≡ key)
               → IsMergedInto gs more (old q) (row_found fs q)
           by q (inl earlier) = subst (IsMergedInto gs more (old q))
               (sym (other_row gs key more es fs at q (apart q earlier))) (so_far.changed q earlier)

@@ -1,5 +1,5 @@
 -- Aggregates over puts where some pass one test and the others another.
-use Rattle.star_group.proofs.Common.{◌≡◌, ℕ, Bool, true, false, ◌&&◌, ◌||◌, ℤ, pos, List, [], ◌∷◌, Option, Some, None, cond, ap, sym, ◌∙◌, refl, subst, true≢false, list_any, filter, AllByRecursion, Aggregate, Sum, Count, Min, Max, numbers_for, HasAggregates, IsRowOver, step, has_puts}
+use Rattle.star_group.proofs.Common.{Row, ◌≡◌, ℕ, Bool, true, false, ◌&&◌, ◌||◌, ℤ, pos, List, [], ◌∷◌, Option, Some, None, cond, ap, sym, ◌∙◌, refl, subst, true≢false, list_any, filter, AllByRecursion, Aggregate, Sum, Count, Min, Max, numbers_for, HasAggregates, IsRowOver, step, has_puts}
 use Rattle.star_group.proofs.Common.{merged_total, cell_of_one_put, merged, IsMerged, IsMergedInto, IsRowOfOnePut, Update, aggregate_at, Group, put_number, Contains, Any-from_list_any, list_any-from_Any, or_right}
 use Rattle.star_group.specs.Cells.{held}
 use Rattle.star_group.proofs.ContentByKeys.{plus_comm, plus_assoc, least_comm, least_assoc, greatest_comm, greatest_assoc}
@@ -118,7 +118,7 @@ held_parts g place ta tb tc (u ∷ us) parts =
 -- ---- rows
 
 -- the row of one put
-pub row_of_one : (d : Group) (u : Update) (row : List (Option ℤ))
+pub row_of_one : (d : Group) (u : Update) (row : Row)
     → IsRowOfOnePut d.aggregates u.values row → HasAggregates d (u ∷ []) row
 row_of_one d u row is = λ place h.
     is place h ∙ sym (held_one (aggregate_at d.aggregates place) (put_number place u) []
@@ -127,7 +127,7 @@ row_of_one d u row is = λ place h.
     (held_none (aggregate_at d.aggregates place)))
 
 -- one put more
-pub merged_more : (d : Group) (u : Update) (us : List Update) (held_row row new : List (Option ℤ))
+pub merged_more : (d : Group) (u : Update) (us : List Update) (held_row row new : Row)
     → IsRowOfOnePut d.aggregates u.values row → HasAggregates d us held_row
     → IsMerged d.aggregates held_row row new → HasAggregates d (u ∷ us) new
 merged_more d u us held_row row new one so_far is = λ place h.
@@ -155,7 +155,7 @@ any_parts ta tb tc (u ∷ us) parts h =
 
 -- a row over some puts, with one over others merged into it
 pub over_parts : (d : Group) (us : List Update) (ta tb tc : Update → Bool)
-    (found new : Option (List (Option ℤ))) (more : List (Option ℤ)) → AreSplit ta tb tc us
+    (found new : Option Row) (more : Row) → AreSplit ta tb tc us
     → IsRowOver d (filter ta us) found → IsRowOver d (filter tb us) (Some more)
     → IsMergedInto d.aggregates more found new → IsRowOver d (filter tc us) new
 over_parts d us ta tb tc found new more parts was adds merges = by found was merges
@@ -163,7 +163,7 @@ over_parts d us ta tb tc found new more parts was adds merges = by found was mer
     there : has_puts (filter tc us) ≡ true
     there = any_filter tc us ∙ any_parts ta tb tc us parts (sym (any_filter tb us) ∙ adds.0)
 
-    by : (found : Option (List (Option ℤ))) → IsRowOver d (filter ta us) found
+    by : (found : Option Row) → IsRowOver d (filter ta us) found
         → IsMergedInto d.aggregates more found new → IsRowOver d (filter tc us) new
     by None was m = subst (IsRowOver d (filter tc us)) (sym m.1) (
       there,

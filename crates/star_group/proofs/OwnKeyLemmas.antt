@@ -1,5 +1,5 @@
 -- How the keys of an update's rows are made.
-use Rattle.star_group.proofs.Common.{◌≡◌, ℕ, zero, suc, ◌+◌, ◌<◌, ◌≤◌, Bool, true, false, not, ◌&&◌, cond, true≢false, List, [], ◌∷◌, ◌++◌, Option, Some, None, take, drop, set, length, get_or, map, ap, sym, ◌∙◌, refl, arith, append_assoc, take-append-drop, AllByRecursion, filter, list_all}
+use Rattle.star_group.proofs.Common.{RowKey, ◌≡◌, ℕ, zero, suc, ◌+◌, ◌<◌, ◌≤◌, Bool, true, false, not, ◌&&◌, cond, true≢false, List, [], ◌∷◌, ◌++◌, Option, Some, None, take, drop, set, length, get_or, map, ap, sym, ◌∙◌, refl, arith, append_assoc, take-append-drop, AllByRecursion, filter, list_all}
 use Rattle.star_group.proofs.Common.{options_equiv, laws-law, is_none, is_some, Rollup, is_grouping, drop-cons, take-suc, get_or-append, false_from_ne_true, All-append, All-from_recursion, filter-append, recursion_from_All, map-append, map-set, KeyValue, KeyPart, All, key_view, key_value_view}
 use Rattle.star_group.proofs.Common.{key_eq}
 use Rattle.std.proofs.lemmas.Simd.{map-map}
@@ -34,17 +34,17 @@ module _ {A : Type 0} where
   set_there (x ∷ xs) zero y s h = refl
   set_there (x ∷ xs) (suc p) y s h = ap (λ t. x ∷ t) (set_there xs p y s (omega arith))
 
-pub vary-start : (key : List (Option KeyValue)) (n : ℕ)
+pub vary-start : (key : RowKey) (n : ℕ)
     → map (λ s. take n key ++ s) (vary 0 (drop n key)) ≡ key ∷ []
 unfolding vary
 vary-start key n = ap (λ k. k ∷ []) (take-append-drop n key)
 
-pub vary-more : (key : List (Option KeyValue)) (p n : ℕ) (xs : List (List (Option KeyValue)))
+pub vary-more : (key : RowKey) (p n : ℕ) (xs : List RowKey)
     → p < length key → xs ≡ map (λ s. take (suc p) key ++ s) (vary n (drop (suc p) key))
     → xs ++ map (λ k. set k p None) xs ≡ map (λ s. take p key ++ s) (vary (suc n) (drop p key))
 unfolding vary
 vary-more key p n xs h e =
-    let v : List (List (Option KeyValue)) = vary n (drop (suc p) key) in
+    let v : List RowKey = vary n (drop (suc p) key) in
     let x : Option KeyValue = get_or key p None in
     let first : xs ≡ map (λ s. take p key ++ (x ∷ s)) v =
     e ∙ (λ i. map (λ s. one_more key p None s h i) v) in
@@ -84,7 +84,7 @@ next_hidden P p i xs now d h e =
     ∙ ap (filter P) (sym (map-append (λ key. set key p All) (take i xs) (get_or xs i d ∷ []))
     ∙ ap (map (λ key. set key p All)) (sym (take-suc xs i d h) ∙ ap (λ n. take n xs) (sym next))))
 
-module _ (G : List (Option KeyValue) → Bool) (p : ℕ) where
+module _ (G : RowKey → Bool) (p : ℕ) where
   hidden_keys : (xs : List (List KeyPart))
       → map key_view (filter (λ key. G (key_view key)) (map (λ key. set key p All) xs))
       ≡ filter G (map (λ key. set key p None) (map key_view xs))
@@ -93,7 +93,7 @@ module _ (G : List (Option KeyValue) → Bool) (p : ℕ) where
       ∙ (λ i. cond (G (map-set key_value_view x p All i)) (map-set key_value_view x p All i ∷ rest)
       rest)
     where
-      rest : List (List (Option KeyValue))
+      rest : List RowKey
       rest = filter G (map (λ key. set key p None) (map key_view xs))
 
       by : (b : Bool) → map key_view
@@ -154,7 +154,7 @@ pub part_more : (parts : List KeyPart) (i : ℕ) (d : KeyPart) (hides shown : Bo
     → goes_on (not shown) (key_view (drop (i + 1) parts)) ≡ is_grouping Rollup (key_view parts)
 part_more parts i d hides shown within e h so_far =
     let next : i + 1 ≡ suc i = omega arith in
-    let rest : List (Option KeyValue) = key_view (drop (i + 1) parts) in
+    let rest : RowKey = key_view (drop (i + 1) parts) in
     let here : key_view (drop i parts) ≡ key_value_view (get_or parts i d) ∷ rest =
     ap key_view (drop-cons parts i d within)
     ∙ ap (λ n. key_value_view (get_or parts i d) ∷ key_view (drop n parts)) (sym next) in
@@ -163,26 +163,26 @@ part_more parts i d hides shown within e h so_far =
 
 -- ---- the keys are distinct
 
-all_put : (a : Option KeyValue) (x : List (Option KeyValue)) (ys : List (List (Option KeyValue)))
+all_put : (a : Option KeyValue) (x : RowKey) (ys : List RowKey)
     → AllByRecursion (λ y. key_eq x y ≡ false) ys
     → AllByRecursion (λ y. key_eq (a ∷ x) y ≡ false) (map (λ s. a ∷ s) ys)
 all_put a x [] h = tt
 all_put a x (y ∷ ys) h =
     (ap (λ b. b && key_eq x y) ((options_equiv laws-law).refl a) ∙ h.0, all_put a x ys h.1)
 
-distinct_put : (a : Option KeyValue) (xs : List (List (Option KeyValue))) → IsDistinct key_eq xs
+distinct_put : (a : Option KeyValue) (xs : List RowKey) → IsDistinct key_eq xs
     → IsDistinct key_eq (map (λ s. a ∷ s) xs)
 unfolding IsDistinct
 distinct_put a [] h = tt
 distinct_put a (x ∷ xs) h = (all_put a x xs h.0, distinct_put a xs h.1)
 
-all_apart : (v : KeyValue) (x : List (Option KeyValue)) (ys : List (List (Option KeyValue)))
+all_apart : (v : KeyValue) (x : RowKey) (ys : List RowKey)
     → AllByRecursion (λ y. key_eq (Some v ∷ x) y ≡ false) (map (λ s. None ∷ s) ys)
 all_apart v x [] = tt
 all_apart v x (y ∷ ys) = (refl, all_apart v x ys)
 
 -- lists that begin with different cells are apart
-distinct_both : (v : KeyValue) (xs ys : List (List (Option KeyValue)))
+distinct_both : (v : KeyValue) (xs ys : List RowKey)
     → IsDistinct key_eq (map (λ s. Some v ∷ s) xs) → IsDistinct key_eq (map (λ s. None ∷ s) ys)
     → IsDistinct key_eq (map (λ s. Some v ∷ s) xs ++ map (λ s. None ∷ s) ys)
 unfolding IsDistinct

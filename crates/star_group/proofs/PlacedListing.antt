@@ -1,5 +1,5 @@
 -- The rows of a plain group, one after another: those beside the places, and that of each place.
-use Rattle.star_group.proofs.Common.{◌≡◌, ℕ, suc, ◌*◌, ◌<◌, ◌≤◌, Bool, true, false, ◌&&◌, nat_lt, ℤ, pos, List, [], ◌∷◌, ◌++◌, Option, Some, None, length, map, take, get_or, refl, ap, sym, ◌∙◌, arith, true≢false, filter, AllByRecursion, nat_tests, at_each, Aggregate, Shape}
+use Rattle.star_group.proofs.Common.{Entry, Row, ◌≡◌, ℕ, suc, ◌*◌, ◌<◌, ◌≤◌, Bool, true, false, ◌&&◌, nat_lt, ℤ, pos, List, [], ◌∷◌, ◌++◌, Option, Some, None, length, map, take, get_or, refl, ap, sym, ◌∙◌, arith, true≢false, filter, AllByRecursion, nat_tests, at_each, Aggregate, Shape}
 use Rattle.star_group.proofs.Common.{KeyValue, Update, cut, KeyPart, Span, IsRowOver, key_view, row_found, IsPlaced, has_puts, key_eq, padded, cell_place, is_at, places, group_with, AreOnce, IsListed, Group, Contains}
 use Rattle.star_group.proofs.PlacedRows.{below_place, in_row, is_below, none_there, own_place, row_there, rows_first, rows_last, rows_more, rows_same}
 use Rattle.star_group.proofs.{GroupKeys.key_decides, GroupKeys.padded_keys, AllRows.base_rolled, KeyedRows.merged_new, KeyedRows.once_more, Merging.put_of, Passes.AreOver, Filters.filter_none, PlacedCells.puts_there}
@@ -26,7 +26,7 @@ not_below n = grind (arith, nat_tests)
 
 module _ (d : Group) (spans : List Span) (n : ℕ) where
   -- of the rows of the first places none has the keys of the next one
-  none_yet : (us : List Update) (key : List KeyPart) (found : Option (List (Option ℤ)))
+  none_yet : (us : List Update) (key : List KeyPart) (found : Option Row)
       → d.count ≤ 6 → AllByRecursion (λ u. length u.keys ≡ d.count) us
       → ((keys : List KeyValue) → cell_place spans keys ≡ Some n → key_view key ≡ padded 6 keys)
       → has_puts (puts_there spans n us) ≡ true
@@ -53,9 +53,9 @@ module _ (d : Group) (spans : List Span) (n : ℕ) where
 -- ---- the rows of the first places
 
 module _ (gs : List Aggregate) (spans : List Span) (seen : List Bool) (cells : List ℤ)
-    (es : List (List KeyPart × List (Option ℤ))) where
-  abbrev pub IsListedTo : ℕ → List (List KeyPart × List (Option ℤ)) → Type 0
-  IsListedTo n fs = (shape : Shape) (rest : List (Option ℤ)) (puts : List Update)
+    (es : List Entry) where
+  abbrev pub IsListedTo : ℕ → List Entry → Type 0
+  IsListedTo n fs = (shape : Shape) (rest : Row) (puts : List Update)
       → IsPlaced (group_with shape (length spans) gs) spans seen cells es rest puts
       → AreOnce fs × AreOver (group_with shape (length spans) gs) puts (in_row spans n) fs
 
@@ -63,8 +63,7 @@ module _ (gs : List Aggregate) (spans : List Span) (seen : List Bool) (cells : L
   list_start once shape rest puts is =
       (once, rows_first (group_with shape (length spans) gs) spans puts es is.rest.rows)
 
-  pub list_end : length spans ≤ 6 → (n : ℕ) → n ≡ places spans
-      → (fs : List (List KeyPart × List (Option ℤ))) → IsListedTo n fs
+  pub list_end : length spans ≤ 6 → (n : ℕ) → n ≡ places spans → (fs : List Entry) → IsListedTo n fs
       → IsListed gs spans seen cells es fs
   list_end few n same fs listed shape rest puts is =
       let d = group_with shape (length spans) gs in
@@ -72,7 +71,7 @@ module _ (gs : List Aggregate) (spans : List Span) (seen : List Bool) (cells : L
       base_rolled d fs puts few is.fit (rows_last d spans puts n same fs now.1) now.0
 
   module _ (long : length cells ≡ length gs * length seen) (n : ℕ) (here : n < length seen)
-      (fs : List (List KeyPart × List (Option ℤ))) (listed : IsListedTo n fs) where
+      (fs : List Entry) (listed : IsListedTo n fs) where
     pub list_skip : get_or seen n false ≡ false → IsListedTo (suc n) fs
     list_skip marked shape rest puts is =
         let d = group_with shape (length spans) gs in
@@ -84,7 +83,7 @@ module _ (gs : List Aggregate) (spans : List Span) (seen : List Bool) (cells : L
 
     pub list_more : length spans ≤ 6 → (key : List KeyPart)
         → ((keys : List KeyValue) → cell_place spans keys ≡ Some n
-        → key_view key ≡ padded 6 keys) → (row : List (Option ℤ)) → get_or seen n false ≡ true
+        → key_view key ≡ padded 6 keys) → (row : Row) → get_or seen n false ≡ true
         → ((a : ℕ) → a < length gs
         → get_or row a None ≡ Some
         (get_or (get_or (cut (length seen) (length gs) cells) a []) n (pos 0)))

@@ -1,5 +1,5 @@
 -- The rows and the total of puts, some of which stand by their places.
-use Rattle.star_group.proofs.Common.{◌≡◌, ℕ, suc, ◌*◌, ◌<◌, Bool, true, false, ◌&&◌, ◌||◌, nat_eq, nat_lt, cond, ℤ, pos, List, [], ◌∷◌, Option, Some, None, length, get_or, refl, ap, sym, ◌∙◌, subst, arith, true≢false, filter, option_eq, is_none, unwrap_or, Bool-set, Contains}
+use Rattle.star_group.proofs.Common.{Entry, Row, RowKey, ◌≡◌, ℕ, suc, ◌*◌, ◌<◌, Bool, true, false, ◌&&◌, ◌||◌, nat_eq, nat_lt, cond, ℤ, pos, List, [], ◌∷◌, Option, Some, None, length, get_or, refl, ap, sym, ◌∙◌, subst, arith, true≢false, filter, option_eq, is_none, unwrap_or, Bool-set, Contains}
 use Rattle.star_group.proofs.Common.{and-true, or-false, ∥∥₁_elim, eqb-true, lt-ltb, nat_tests, of_each, false_from_ne_true, Aggregate, numbers_for, KeyValue, leaves, Update, aggregate_at, KeyPart, Span, HasAggregates, IsRowOver, key_view, puts_with, row_found, has_puts, key_eq, padded, IsPlaced}
 use Rattle.star_group.proofs.Common.{aggregate_cells, neutral, is_at, is_outside, cell_place, places, IsMerged, IsMergedAt, MergeStays, merged, Group, PlacedStore, Has, group_view}
 use Rattle.star_group.proofs.{Filters.filter_all, Filters.filter_twice, Bases.other_row, Bases.own_row, CutRows.cut_wide, GroupKeys.key_decides, Merging.AreSplit, Merging.has_put, Merging.held_parts, Merging.no_puts, Merging.over_parts, Passes.AreOver, Filters.filter_each, PlacedCells.puts_there, SpanPlaces.within}
@@ -70,16 +70,16 @@ some_cell g a [] h = absurd (true≢false (sym h))
 some_cell g a (w ∷ ws) h = refl
 
 -- what a row has of the cells at a place
-abbrev pub IsRowAt : Group → List Bool → List ℤ → ℕ → List (Option ℤ) → Type 0
+abbrev pub IsRowAt : Group → List Bool → List ℤ → ℕ → Row → Type 0
 IsRowAt d seen cells n row =
     (a : ℕ) → a < length d.aggregates
     → get_or row a None ≡ Some (get_or (aggregate_cells d seen cells a) n (pos 0))
 
 module _ (d : Group) (spans : List Span) (seen : List Bool) (cells : List ℤ)
-    (es : List (List KeyPart × List (Option ℤ))) (all : List (Option ℤ)) (us : List Update)
+    (es : List Entry) (all : Row) (us : List Update)
     (is : IsPlaced d spans seen cells es all us) (n : ℕ) (here : n < length seen)
     (long : length cells ≡ length d.aggregates * length seen) where
-  pub row_there : (row : List (Option ℤ)) → get_or seen n false ≡ true → IsRowAt d seen cells n row
+  pub row_there : (row : Row) → get_or seen n false ≡ true → IsRowAt d seen cells n row
       → IsRowOver d (puts_there spans n us) (Some row)
   row_there row marked at =
       let some = sym (is.seen_at n here) ∙ marked in (
@@ -95,12 +95,12 @@ module _ (d : Group) (spans : List Span) (seen : List Bool) (cells : List ℤ)
 -- ---- the rows
 
 -- a put without a place, or at the first places, is in the row of its keys
-abbrev pub in_row : List Span → ℕ → List (Option KeyValue) → List KeyValue → Bool
+abbrev pub in_row : List Span → ℕ → RowKey → List KeyValue → Bool
 in_row spans n q keys = key_eq q (padded 6 keys) && is_below spans n keys
 
 module _ (d : Group) (spans : List Span) (us : List Update) where
-  pub rows_first : (es : List (List KeyPart × List (Option ℤ)))
-      → ((q : List (Option KeyValue))
+  pub rows_first : (es : List Entry)
+      → ((q : RowKey)
       → IsRowOver d (puts_with q (filter (λ w. is_outside spans w.keys) us)) (row_found es q))
       → AreOver d us (in_row spans 0) es
   rows_first es rows q = subst (λ ws. IsRowOver d ws (row_found es q))
@@ -109,8 +109,8 @@ module _ (d : Group) (spans : List Span) (us : List Update) where
       ap (λ b. key_eq q (padded 6 w.keys) && b) (sym (none_below spans w.keys))))
       (rows q)
 
-  pub rows_last : (n : ℕ) → n ≡ places spans → (es : List (List KeyPart × List (Option ℤ)))
-      → AreOver d us (in_row spans n) es → (q : List (Option KeyValue))
+  pub rows_last : (n : ℕ) → n ≡ places spans → (es : List Entry)
+      → AreOver d us (in_row spans n) es → (q : RowKey)
       → IsRowOver d (puts_with q us) (row_found es q)
   rows_last n same es over q = subst (λ ws. IsRowOver d ws (row_found es q))
       (filter_each us (λ w c.
@@ -120,7 +120,7 @@ module _ (d : Group) (spans : List Span) (us : List Update) where
 
   module _ (n : ℕ) where
     -- a place without puts
-    pub rows_same : puts_there spans n us ≡ [] → (es : List (List KeyPart × List (Option ℤ)))
+    pub rows_same : puts_there spans n us ≡ [] → (es : List Entry)
         → AreOver d us (in_row spans n) es → AreOver d us (in_row spans (suc n)) es
     rows_same none es over q = coe 1 0 (i. IsRowOver d (filter_each us (λ w c.
         ap (λ b. key_eq q (padded 6 w.keys) && b) (none_more spans n us none w c)) i)
@@ -141,8 +141,7 @@ module _ (d : Group) (spans : List Span) (us : List Update) where
 
     pub rows_more : (key : List KeyPart)
         → ((keys : List KeyValue) → is_at spans n keys ≡ true → padded 6 keys ≡ key_view key)
-        → (row : List (Option ℤ)) → IsRowOver d (puts_there spans n us) (Some row)
-        → (es fs : List (List KeyPart × List (Option ℤ)))
+        → (row : Row) → IsRowOver d (puts_there spans n us) (Some row) → (es fs : List Entry)
         → IsMergedAt d.aggregates (key_view key) row es fs → AreOver d us (in_row spans n) es
         → AreOver d us (in_row spans (suc n)) fs
     rows_more key own row adds es fs at over q = by (key_eq q (key_view key)) refl
@@ -176,7 +175,7 @@ own_place spans n keys e = at_is (cell_place spans keys) n e
 
 -- ---- the total, with the rows of the first places merged in
 
-abbrev pub IsSummed : PlacedStore → ℕ → List (Option ℤ) → Type 0
+abbrev pub IsSummed : PlacedStore → ℕ → Row → Type 0
 IsSummed s n total =
     (puts : List Update) → Has s puts → HasAggregates (group_view s) (puts_below s.spans.items n puts) total
 
@@ -185,20 +184,20 @@ module _ (s : PlacedStore) where
   sum_start puts is = subst (λ ws. HasAggregates (group_view s) ws s.rest.total)
       (filter_each puts (λ w c. sym (none_below s.spans.items w.keys))) is.rest.total
 
-  pub sum_end : (n : ℕ) → n ≡ places s.spans.items → (total : List (Option ℤ)) → IsSummed s n total
+  pub sum_end : (n : ℕ) → n ≡ places s.spans.items → (total : Row) → IsSummed s n total
       → (puts : List Update) → Has s puts → HasAggregates (group_view s) puts total
   sum_end n same total summed puts is = subst (λ ws. HasAggregates (group_view s) ws total)
       (filter_each puts (λ w c. all_below s.spans.items w.keys n same) ∙ filter_all puts)
       (summed puts is)
 
-  module _ (n : ℕ) (here : n < length s.seen.items) (total : List (Option ℤ))
+  module _ (n : ℕ) (here : n < length s.seen.items) (total : Row)
       (summed : IsSummed s n total) where
     pub sum_skip : get_or s.seen.items n false ≡ false → IsSummed s (suc n) total
     sum_skip marked puts is = coe 1 0 (i. HasAggregates (group_view s) (filter_each puts
         (none_more s.spans.items n puts (none_there _ _ _ _ _ _ puts is n here s.long marked)) i)
         total) (summed puts is)
 
-    module _ (row : List (Option ℤ)) (marked : get_or s.seen.items n false ≡ true)
+    module _ (row : Row) (marked : get_or s.seen.items n false ≡ true)
         (at : IsRowAt (group_view s) s.seen.items s.cells.items n row) where
       -- an aggregate of the total and that of the row
       both : (puts : List Update) → Has s puts → (a : ℕ) → a < length (group_view s).aggregates
@@ -211,7 +210,7 @@ module _ (s : PlacedStore) where
           ∙ sym (held_parts (aggregate_at (group_view s).aggregates a) a _ _ _ puts
           (split_at s.spans.items n puts))
 
-      pub sum_more : (new : List (Option ℤ)) → IsMerged (group_view s).aggregates total row new
+      pub sum_more : (new : Row) → IsMerged (group_view s).aggregates total row new
           → IsSummed s (suc n) new
       sum_more new merges puts is a h = merges a h ∙ both puts is a h
 

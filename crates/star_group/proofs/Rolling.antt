@@ -1,5 +1,5 @@
 -- The rows with one more place that may be ALL.
-use Rattle.star_group.proofs.Common.{◌≡◌, ℕ, zero, suc, ◌+◌, ◌-◌, ◌<◌, ◌≤◌, Bool, true, false, ◌&&◌, ◌||◌, ℤ, List, [], ◌∷◌, ◌++◌, Option, Some, None, length, get_or, set, slice_get, map, take, drop, ap, sym, ◌∙◌, subst, refl, true≢false, arith, MatchBool, filter, list_any, Contains}
+use Rattle.star_group.proofs.Common.{Entry, Row, RowKey, ◌≡◌, ℕ, zero, suc, ◌+◌, ◌-◌, ◌<◌, ◌≤◌, Bool, true, false, ◌&&◌, ◌||◌, ℤ, List, [], ◌∷◌, ◌++◌, Option, Some, None, length, get_or, set, slice_get, map, take, drop, ap, sym, ◌∙◌, subst, refl, true≢false, arith, MatchBool, filter, list_any, Contains}
 use Rattle.star_group.proofs.Common.{AllByRecursion, append_cancel_left, list_any-append, filter-append, slice_get-get_or, place_from_lookup, any_passes_from_place, list_any-from_Contains, at_each, of_each, KeyValue, KeyPart, IsRowOver, key_view, row_found, has_puts, key_eq, vary}
 use Rattle.star_group.proofs.Common.{IsMergedWhere, IsRolledUp, IsRolledUpWithRoom, NoneCoarser, RollsUp, first_finer, is_among, keys_from, IsMergedAt, RowsStay, group_with, is_row_key, Aggregate, Shape, Plain, Cube, Rollup, is_grouping, finer, ∥∥₁_elim, ∥∥₁_map, Bool-set}
 use Rattle.star_group.proofs.Common.{and-or_distrib_left, both_ways, take-length, and_parts, Update, Group, AreOnce, length-take-le, get_or-append, get_or-take, get_or_append_left}
@@ -11,7 +11,7 @@ use Rattle.star_group.specs.OwnKeys.{padded}
 
 -- ---- the keys of one put's rows
 
-abbrev pub hide : ℕ → List (Option KeyValue) → List (Option KeyValue)
+abbrev pub hide : ℕ → RowKey → RowKey
 hide place k = set k place None
 
 module _ (place count : ℕ) (ks : List KeyValue) (within : place < count) (few : count ≤ 6) where
@@ -26,12 +26,11 @@ module _ (place count : ℕ) (ks : List KeyValue) (within : place < count) (few 
       rw (later, next) (vary-more (padded 6 ks) place (count - suc place) _ wide refl)
 
   -- a key is one of these: the first keys are the put's
-  record Begins (k : List (Option KeyValue)) : Type 0 where
-    pub rest : List (Option KeyValue)
+  record Begins (k : RowKey) : Type 0 where
+    pub rest : RowKey
     pub is : k ≡ take (suc place) (padded 6 ks) ++ rest
 
-  begins : (k : List (Option KeyValue))
-      → list_any (key_eq k) (keys_from (place + 1) count ks) ≡ true → Begins k
+  begins : (k : RowKey) → list_any (key_eq k) (keys_from (place + 1) count ks) ≡ true → Begins k
   begins k h =
       let next : place + 1 ≡ suc place = omega arith in
       let some = some_at (key_eq k) (keys_from (place + 1) count ks) h in
@@ -44,19 +43,18 @@ module _ (place count : ℕ) (ks : List KeyValue) (within : place < count) (few 
             ∙ ap (λ n. take n (padded 6 ks) ++ at.0) next;
       }
 
-  hidden_is : (k : List (Option KeyValue)) (b : Begins k)
-      → hide place k ≡ take place (padded 6 ks) ++ None ∷ b.rest
+  hidden_is : (k : RowKey) (b : Begins k) → hide place k ≡ take place (padded 6 ks) ++ None ∷ b.rest
   hidden_is k b = ap (hide place) b.is ∙ set_there (padded 6 ks) place None b.rest wide
 
 -- a hidden key and the one that is shown in its place, behind keys that are shown
-record Apart (count : ℕ) (hides shows : List (Option KeyValue)) : Type 0 where
+record Apart (count : ℕ) (hides shows : RowKey) : Type 0 where
   pub shown : List KeyValue
   pub key : KeyValue
-  pub rest : List (Option KeyValue)
+  pub rest : RowKey
   pub hidden_key : take count hides ≡ map Some shown ++ (None ∷ rest)
   pub shown_key : take count shows ≡ map Some shown ++ (Some key ∷ rest)
 
-apart_at : (n count place : ℕ) (ks : List KeyValue) (rest : List (Option KeyValue))
+apart_at : (n count place : ℕ) (ks : List KeyValue) (rest : RowKey)
     → place < length ks → length ks ≤ n → place < count
     → Apart count (take place (padded n ks) ++ None ∷ rest) (take (suc place) (padded n ks) ++ rest)
 unfolding padded
@@ -79,8 +77,7 @@ apart_at (suc n) (suc count) (suc place) (k ∷ ks) rest h few within =
 
 -- where the coarser key is a grouping, so is the key
 finer_key : (s : Shape) (place count : ℕ) (ks : List KeyValue) (within : place < count)
-    (few : count ≤ 6) → length ks ≡ count
-    → (k : List (Option KeyValue)) (b : Begins place count ks within few k)
+    (few : count ≤ 6) → length ks ≡ count → (k : RowKey) (b : Begins place count ks within few k)
     → is_grouping s (take count (hide place k)) ≡ true → is_grouping s (take count k) ≡ true
 finer_key s place count ks within few fits k b h =
     let a = apart_at 6 count place ks b.rest (omega (arith, within, fits))
@@ -92,13 +89,13 @@ finer_key s place count ks within few fits k b h =
 
 -- the keys of a put's rows, with one place more that may be hidden
 pub row_keys_more : (s : Shape) (place count : ℕ) (ks : List KeyValue) → place < count → count ≤ 6
-    → length ks ≡ count → (xs ys : List (List (Option KeyValue)))
+    → length ks ≡ count → (xs ys : List RowKey)
     → xs ≡ filter (is_row_key s count) (keys_from (place + 1) count ks)
     → ys ≡ xs ++ filter (is_row_key s count) (map (hide place) xs)
     → ys ≡ filter (is_row_key s count) (keys_from place count ks)
 row_keys_more s place count ks within few fits xs ys e f =
-    let own : List (List (Option KeyValue)) = keys_from (place + 1) count ks in
-    let G : List (Option KeyValue) → Bool = is_row_key s count in
+    let own : List RowKey = keys_from (place + 1) count ks in
+    let G : RowKey → Bool = is_row_key s count in
     let left = kept_before G (hide place) own
     (of_each _ own (λ k c h. finer_key s place count ks within few fits k
     (begins place count ks within few k (list_any-from_Contains key_equiv k own c)) h)) in
@@ -115,12 +112,12 @@ shown_key (suc n) (k ∷ ks) zero h few e = cc e
 shown_key (suc n) (k ∷ ks) (suc p) h few e =
     shown_key n ks p (omega (arith, h)) (omega (arith, few)) e
 
-hidden_none : (k : List (Option KeyValue)) (place : ℕ) → get_or (hide place k) place None ≡ None
+hidden_none : (k : RowKey) (place : ℕ) → get_or (hide place k) place None ≡ None
 hidden_none [] place = refl
 hidden_none (x ∷ k) zero = refl
 hidden_none (x ∷ k) (suc place) = hidden_none k place
 
-in_keys : (s : Shape) (place count : ℕ) (q : List (Option KeyValue)) (ks : List KeyValue)
+in_keys : (s : Shape) (place count : ℕ) (q : RowKey) (ks : List KeyValue)
     → is_among s place count q ks ≡ true → list_any (key_eq q) (keys_from place count ks) ≡ true
 in_keys s place count q ks h =
     (and_parts (is_grouping s (take count q)) (list_any (key_eq q) (keys_from place count ks)) h).1
@@ -137,7 +134,7 @@ keys_apart s us place count within few fit = record {
       (in_keys s (place + 1) count (hide place k) w.keys in_hidden);
 }
   where
-    differ : (u : Update) → Contains us u → (k l : List (Option KeyValue))
+    differ : (u : Update) → Contains us u → (k l : RowKey)
         → list_any (key_eq k) (keys_from (place + 1) count u.keys) ≡ true
         → list_any (key_eq l) (keys_from (place + 1) count u.keys) ≡ true
         → hide place k ≡ hide place l → k ≡ l
@@ -154,7 +151,7 @@ keys_apart s us place count within few fit = record {
         let rests : b.rest ≡ d.rest = cc tails in
         b.is ∙ ap (λ r. take (suc place) (padded 6 u.keys) ++ r) rests ∙ sym d.is
 
-    new : (u w : Update) → Contains us w → (k : List (Option KeyValue))
+    new : (u w : Update) → Contains us w → (k : RowKey)
         → list_any (key_eq k) (keys_from (place + 1) count u.keys) ≡ true
         → list_any (key_eq (hide place k)) (keys_from (place + 1) count w.keys) ≡ true → ⊥
     new u w c k in_k in_hidden =
@@ -171,7 +168,7 @@ keys_apart s us place count within few fit = record {
         (sym seen ∙ hidden_none k place)
 
 -- a hidden key and a shown one behind it are no grouping of a rollup
-gap : (n count p : ℕ) (ks : List KeyValue) (rest : List (Option KeyValue)) → suc p < length ks
+gap : (n count p : ℕ) (ks : List KeyValue) (rest : RowKey) → suc p < length ks
     → length ks ≤ n → suc p < count
     → is_grouping Rollup (take count
     (take p (padded n ks) ++ (None ∷ get_or (padded n ks) (suc p) None ∷ rest))) ≡ false
@@ -189,26 +186,24 @@ gap (suc n) (suc count) (suc p) (k ∷ ks) rest h few within =
 -- ---- all rows merged in
 
 module _ (d : Group) (us : List Update) (place : ℕ) (within : place < d.count) (few : d.count ≤ 6)
-    (es : List (List KeyPart × List (Option ℤ))) (rolled : IsRolledUp d (place + 1) es us) where
-  abbrev In : List (Option KeyValue) → List KeyValue → Bool
+    (es : List Entry) (rolled : IsRolledUp d (place + 1) es us) where
+  abbrev In : RowKey → List KeyValue → Bool
   In q ks = is_among d.shape (place + 1) d.count q ks
 
-  abbrev Made : List (Option KeyValue) → Bool
+  abbrev Made : RowKey → Bool
   Made q = is_grouping d.shape (take d.count q)
 
   -- a put's row is there
-  there : (u : Update) → Contains us u → (k : List (Option KeyValue)) → In k u.keys ≡ true
-      → (i : ℕ) × (e : List KeyPart × List (Option ℤ)) × (slice_get es i ≡ Some e)
-      × (k ≡ key_view e.0)
+  there : (u : Update) → Contains us u → (k : RowKey) → In k u.keys ≡ true
+      → (i : ℕ) × (e : Entry) × (slice_get es i ≡ Some e) × (k ≡ key_view e.0)
   there u c k in_row = by (row_found es k) refl (rolled.rows k)
     where
       some : has_puts (filter (λ w. In k w.keys) us) ≡ true
       some = has_put (λ w. In k w.keys) us u c in_row
 
-      by : (found : Option (List (Option ℤ))) → row_found es k ≡ found
+      by : (found : Option Row) → row_found es k ≡ found
           → IsRowOver d (filter (λ w. In k w.keys) us) found
-          → (i : ℕ) × (e : List KeyPart × List (Option ℤ)) × (slice_get es i ≡ Some e)
-          × (k ≡ key_view e.0)
+          → (i : ℕ) × (e : Entry) × (slice_get es i ≡ Some e) × (k ≡ key_view e.0)
       by None e is = absurd (true≢false (sym some ∙ is))
       by (Some row) e is =
           let at = place_from_lookup (λ parts. key_eq k (key_view parts)) es row e in
@@ -217,7 +212,7 @@ module _ (d : Group) (us : List Update) (place : ℕ) (within : place < d.count)
   fits_at : (u : Update) → Contains us u → length u.keys ≡ d.count
   fits_at u c = at_each (λ w. length w.keys ≡ d.count) us u rolled.fit c
 
-  now_in : (q : List (Option KeyValue)) (u : Update) → Contains us u
+  now_in : (q : RowKey) (u : Update) → Contains us u
       → (In q u.keys || so_far In Made (hide place) es (length es) q u.keys)
       ≡ is_among d.shape place d.count q u.keys
   now_in q u c =
@@ -228,7 +223,7 @@ module _ (d : Group) (us : List Update) (place : ℕ) (within : place < d.count)
       ∙ ap (λ b. Made q && b) (sym (list_any-append (key_eq q) own (map (hide place) own))
       ∙ ap (list_any (key_eq q)) (keys_more place d.count u.keys within few))
     where
-      own : List (List (Option KeyValue))
+      own : List RowKey
       own = keys_from (place + 1) d.count u.keys
 
       forth : list_any (comes In Made (hide place) q u.keys) es ≡ true
@@ -271,19 +266,18 @@ module _ (d : Group) (us : List Update) (place : ℕ) (within : place < d.count)
           ∙ ap (λ b. b && In mine.1 u.keys) mine.3 ∙ in_row)
 
   -- each row is over its puts
-  pub row_over : (j : ℕ) (e : List KeyPart × List (Option ℤ))
+  pub row_over : (j : ℕ) (e : Entry)
       → slice_get es j ≡ Some e → IsRowOver d (filter (λ u. In (key_view e.0) u.keys) us) (Some e.1)
   row_over j e at = subst (IsRowOver d (filter (λ u. In (key_view e.0) u.keys) us))
       (row_once es rolled.once j e at) (rolled.rows (key_view e.0))
 
-  module _ (fs : List (List KeyPart × List (Option ℤ)))
+  module _ (fs : List Entry)
       (over : AreOver d us (so_far In Made (hide place) es (length es)) fs) (once : AreOnce fs) where
     apart : AreApart us In (hide place)
     apart = keys_apart d.shape us place d.count within few rolled.fit
 
     -- none of the rows that were there has the key of a coarser one
-    new_key : (f : List KeyPart × List (Option ℤ)) → Contains fs f
-        → row_found es (key_view f.0) ≡ None
+    new_key : (f : Entry) → Contains fs f → row_found es (key_view f.0) ≡ None
     new_key f c = by (row_found es (key_view f.0)) refl (rolled.rows (key_view f.0))
       where
         made : IsRowOver d
@@ -294,7 +288,7 @@ module _ (d : Group) (us : List Update) (place : ℕ) (within : place < d.count)
             (row_once fs once c.0 f (slice_get-get_or fs c.0 f c.1 ∙ ap Some c.2))
             (over (key_view f.0))
 
-        by : (found : Option (List (Option ℤ))) → row_found es (key_view f.0) ≡ found
+        by : (found : Option Row) → row_found es (key_view f.0) ≡ found
             → IsRowOver d (filter (λ u. In (key_view f.0) u.keys) us) found
             → row_found es (key_view f.0) ≡ None
         by None e was = e
@@ -316,7 +310,7 @@ module _ (d : Group) (us : List Update) (place : ℕ) (within : place < d.count)
     }
 
   -- in a rollup no row has a coarser key with ALL one place before: the key at this place is shown
-  pub shows_next : (p : ℕ) → p + 1 ≡ place → (j : ℕ) (e : List KeyPart × List (Option ℤ))
+  pub shows_next : (p : ℕ) → p + 1 ≡ place → (j : ℕ) (e : Entry)
       → slice_get es j ≡ Some e → is_grouping Rollup (take d.count (hide p (key_view e.0))) ≡ false
   shows_next p next j e at =
       let some = put_of (λ u. In (key_view e.0) u.keys) us (row_over j e at).0 in
@@ -340,24 +334,22 @@ module _ (d : Group) (us : List Update) (place : ℕ) (within : place < d.count)
 
 -- ---- the turns of a pass
 
-abbrev IsMade : Shape → ℕ → List (Option KeyValue) → Bool
+abbrev IsMade : Shape → ℕ → RowKey → Bool
 IsMade shape count q = is_grouping shape (take count q)
 
 -- the first j rows are merged in
-abbrev pub IsMergedSoFar : Shape → ℕ → List Aggregate → ℕ → List (List KeyPart × List (Option ℤ))
-    → ℕ → List (List KeyPart × List (Option ℤ)) → Type 0
+abbrev pub IsMergedSoFar : Shape → ℕ → List Aggregate → ℕ → List Entry → ℕ → List Entry → Type 0
 IsMergedSoFar shape count gs place es j rows = (puts : List Update) → place + 1 ≤ count → count ≤ 6
     → IsRolledUp (group_with shape count gs) (place + 1) es puts
     → AreOver (group_with shape count gs) puts
     (so_far (is_among shape (place + 1) count) (IsMade shape count) (hide place) es j) rows
 
-pub stay_prop : (gs : List Aggregate) (found : Option (List (Option ℤ))) (more : List (Option ℤ))
+pub stay_prop : (gs : List Aggregate) (found : Option Row) (more : Row)
     → IsProp (RowsStay gs found more)
 stay_prop gs None more = hlevel
 stay_prop gs (Some held) more = hlevel Bool-set
 
-module _ (shape : Shape) (count : ℕ) (gs : List Aggregate) (place : ℕ)
-    (es : List (List KeyPart × List (Option ℤ))) where
+module _ (shape : Shape) (count : ℕ) (gs : List Aggregate) (place : ℕ) (es : List Entry) where
   abbrev d : Group
   d = group_with shape count gs
 
@@ -378,15 +370,15 @@ module _ (shape : Shape) (count : ℕ) (gs : List Aggregate) (place : ℕ)
       (get_or es j ([], [])) (slice_get-get_or es j ([], []) here) d
       (none j (omega arith)) [] (before puts below few rolled))
 
-  pub rolls_up : (fs : List (List KeyPart × List (Option ℤ))) → AreOnce fs
+  pub rolls_up : (fs : List Entry) → AreOnce fs
       → IsMergedSoFar shape count gs place es (length es) fs
       → RollsUp shape count gs (place + 1) es place (es ++ fs)
   rolls_up fs once over puts below few rolled =
       all_merged d puts place (omega (arith, below)) few es rolled fs (over puts below few rolled)
       once
 
-  module _ (j : ℕ) (e : List KeyPart × List (Option ℤ)) (at : slice_get es j ≡ Some e)
-      (before : List (List KeyPart × List (Option ℤ))) (key : List KeyPart)
+  module _ (j : ℕ) (e : Entry) (at : slice_get es j ≡ Some e)
+      (before : List Entry) (key : List KeyPart)
       (is_key : key_view key ≡ set (key_view e.0) place None)
       (over : IsMergedSoFar shape count gs place es j before) where
     pub turn_stays : ∥ IsRolledUpWithRoom shape count gs (place + 1) es ∥₁
@@ -405,7 +397,7 @@ module _ (shape : Shape) (count : ℕ) (gs : List Aggregate) (place : ℕ)
             (row_over d r.puts place within r.few es r.rows j e at) before key is_key r.room
             (over r.puts r.below r.few r.rows)
 
-    pub turn_merges : (after : List (List KeyPart × List (Option ℤ)))
+    pub turn_merges : (after : List Entry)
         → IsMergedWhere shape count gs (key_view key) e.1 before after
         → IsMergedSoFar shape count gs place es (j + 1) after
     turn_merges after merges puts below few rolled =
@@ -439,13 +431,13 @@ module _ (shape : Shape) (count : ℕ) (gs : List Aggregate) (place : ℕ)
 
 -- after the pass before
 pub next_none : (shape : Shape) (count : ℕ) (gs : List Aggregate) (place : ℕ)
-    (es fs : List (List KeyPart × List (Option ℤ))) → place < count
+    (es fs : List Entry) → place < count
     → ∥ IsRolledUpWithRoom shape count gs (place + 1) es ∥₁ → (p : ℕ) → p + 1 ≡ place
     → NoneCoarser shape count p (first_finer shape (length es)) (es ++ fs)
 next_none Plain count gs place es fs within room p next number h = absurd (omega (arith, h))
 next_none Cube count gs place es fs within room p next number h = absurd (omega (arith, h))
 next_none Rollup count gs place es fs within room p next number h =
-    ap (λ (e : List KeyPart × List (Option ℤ)). is_grouping Rollup (take count (hide p
+    ap (λ (e : Entry). is_grouping Rollup (take count (hide p
     (key_view e.0)))) (get_or_append_left es fs ([], []) number h)
     ∙ ∥∥₁_elim room (let prop :
     IsProp (is_grouping Rollup (take count (hide p (key_view (get_or es number ([], [])).0)))
@@ -454,7 +446,7 @@ next_none Rollup count gs place es fs within room p next number h =
     (get_or es number ([], [])) (slice_get-get_or es number ([], []) h))
 
 pub room_there : (shape : Shape) (count : ℕ) (gs : List Aggregate) (place : ℕ)
-    (es fs : List (List KeyPart × List (Option ℤ))) → place ≤ count
+    (es fs : List Entry) → place ≤ count
     → RollsUp shape count gs count es place fs → ∥ IsRolledUpWithRoom shape count gs count es ∥₁
     → ∥ IsRolledUpWithRoom shape count gs place fs ∥₁
 room_there shape count gs place es fs below rolls room = ∥∥₁_map room by

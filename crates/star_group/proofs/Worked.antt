@@ -1,6 +1,6 @@
 -- What cells hold, which rows a put changes, the keys and places of rows, batches, and which numbers
 -- add up, by computation; and what each relation says.
-use Rattle.star_group.proofs.Common.{◌≡◌, ◌↔◌, ◌<◌, ◌≤◌, ◌+◌, ◌*◌, ◌^◌, ◌-◌, ◌++◌, ◌||◌, ℕ, true, false, true≢false, ℤ, pos, negsuc, List, [], ◌∷◌, Option, Some, None, arith, length, map, replicate, sym, slice_index_or, refl, Bor, AllByRecursion, IsDistinct, list_any, Gives, Gives2}
+use Rattle.star_group.proofs.Common.{RowKey, ◌≡◌, ◌↔◌, ◌<◌, ◌≤◌, ◌+◌, ◌*◌, ◌^◌, ◌-◌, ◌++◌, ◌||◌, ℕ, true, false, true≢false, ℤ, pos, negsuc, List, [], ◌∷◌, Option, Some, None, arith, length, map, replicate, sym, slice_index_or, refl, Bor, AllByRecursion, IsDistinct, list_any, Gives, Gives2}
 use Rattle.star_group.proofs.Common.{Gives3, PBrand1, Sum, Count, Min, Max, Plain, Cube, Rollup, aggregate, numbers_for, GroupDecl, KeyValue, Number, Code, value_count, same_keys, IsSmall, Update, aggregate_at, PutBatch, Span, IsRowOver, key_value_view, puts_in, puts_with, row_found}
 use Rattle.star_group.proofs.Common.{HasRoomForRows, IsKeyWord, IsPutBatch, batch_keys, key_word, put_in, puts_after, word_in, cell_over, neutral, step, has_puts, IsWithPut, is_of_put, IsOf, cell_place, offset_of, places, AddUp, Group, HasRoom, IsContent, combined, group_declared}
 use Rattle.star_group.proofs.Common.{key_lists, put_number, puts_of}
@@ -45,10 +45,10 @@ rows_of_keys : Gives2 padded (
 unfolding padded vary
 rows_of_keys = (refl, refl)
 
-abbrev key : Option KeyValue → Option KeyValue → Option KeyValue → List (Option KeyValue)
+abbrev key : Option KeyValue → Option KeyValue → Option KeyValue → RowKey
 key a b c = a ∷ b ∷ c ∷ None ∷ None ∷ None ∷ []
 
-abbrev keys_asked : List (List (Option KeyValue))
+abbrev keys_asked : List RowKey
 keys_asked = key (Some (Code 2)) (Some (Number (pos 7))) (Some (Code 5))
     ∷ key (Some (Code 2)) (Some (Number (pos 7))) None ∷ key (Some (Code 2)) None None
     ∷ key None None None ∷ key None None (Some (Code 5))
@@ -85,7 +85,7 @@ sale key z = record { keys = Code key ∷ []; values = z ∷ z ∷ [] }
 abbrev puts : List Update
 puts = sale 1 (pos 4) ∷ sale 2 (pos 5) ∷ sale 1 (pos 3) ∷ []
 
-abbrev row_of : ℕ → List (Option KeyValue)
+abbrev row_of : ℕ → RowKey
 row_of n = key (Some (Code n)) None None
 
 changed : Gives (λ q. is_of_put sales.shape (sale 1 (pos 4)).keys q)

@@ -4,6 +4,7 @@ use Rattle.std.specs.{List.AllByRecursion, Option.unwrap_or}
 use Rattle.star_schema.specs.{declared.group.Aggregate.Aggregate, declared.group.Aggregate.TheVariants.Sum, declared.group.Aggregate.TheVariants.Count, declared.group.Aggregate.TheVariants.Min, declared.group.Aggregate.TheVariants.Max, Groups.numbers_for}
 use Rattle.star_program.specs.{Rows.cut, Puts.Update, Puts.aggregate_at}
 use Rattle.star_group.specs.{declared.keyed.key.KeyPart.KeyPart, declared.placed.span.Span.Span, Base.AreInBits, Base.IsBase, Cells.held, Held.has_puts, Places.is_at, Places.is_outside, Stores.Group}
+use Rattle.star_group.specs.{Keyed.Entry, Keyed.Row}
 
 -- what a cell has of an aggregate over no numbers: no number of 64 bits changes by it
 abbrev pub neutral : Aggregate → ℤ
@@ -27,7 +28,7 @@ aggregate_cells d seen cells a = slice_index_or (cut (length seen) (length d.agg
 
 -- which places have puts, and their cells; and the base rows of the puts whose keys have no place
 pub record IsPlaced (d : Group) (spans : List Span) (seen : List Bool) (cells : List ℤ)
-    (entries : List (List KeyPart × List (Option ℤ))) (all : List (Option ℤ)) (puts : List Update)
+    (entries : List Entry) (all : Row) (puts : List Update)
     : Type 0 where
   pub fit : AllByRecursion (λ put. length put.keys ≡ d.count) puts
   pub seen_at : AreAt false has_puts spans seen puts
@@ -36,5 +37,5 @@ pub record IsPlaced (d : Group) (spans : List Span) (seen : List Bool) (cells : 
   pub rest : IsBase d entries all (filter (λ put. is_outside spans put.keys) puts)
 
 -- they are those of some puts that stay in their bits
-abbrev pub IsPlacedWithRoom : Group → List Span → List Bool → List ℤ → List (List KeyPart × List (Option ℤ)) → List (Option ℤ) → Type 0
+abbrev pub IsPlacedWithRoom : Group → List Span → List Bool → List ℤ → List Entry → Row → Type 0
 IsPlacedWithRoom d spans seen cells entries all = ∥ ((puts : List Update) × IsPlaced d spans seen cells entries all puts × AreInBits d puts) ∥₁

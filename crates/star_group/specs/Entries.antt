@@ -2,10 +2,11 @@
 use Rattle.std.specs.Prelude.{ℤ, List, Option}
 use Rattle.star_group.specs.{declared.keyed.key.KeyPart.KeyPart, declared.keyed.KeyedRows.KeyedRows, declared.keyed.ListedRows.ListedRows, Keyed.keyed}
 use Rattle.star_program.specs.Rows.{cut}
+use Rattle.star_group.specs.{Keyed.Entry}
 
 -- the rows with their keys
-abbrev pub listed_entries : ListedRows → List (List KeyPart × List (Option ℤ))
+abbrev pub listed_entries : ListedRows → List Entry
 listed_entries rows = keyed (cut rows.width rows.len rows.keys.items) (cut rows.aggregate_count rows.len rows.cells.items)
 
-abbrev pub entries_of : KeyedRows → List (List KeyPart × List (Option ℤ))
+abbrev pub entries_of : KeyedRows → List Entry
 entries_of rows = listed_entries rows.listed

@@ -2,6 +2,13 @@
 use Rattle.std.specs.Prelude.{ℤ, List, [], ◌∷◌, ◌++◌, Option, length, drop}
 use Rattle.star_group.specs.{declared.keyed.key.KeyPart.KeyPart, declared.keyed.key.KeyPart.TheVariants.All}
 
+-- a row, and a row with its key
+abbrev pub Row : Type 0
+Row = List (Option ℤ)
+
+abbrev pub Entry : Type 0
+Entry = List KeyPart × Row
+
 abbrev pub all_hidden : List KeyPart
 all_hidden = All ∷ All ∷ All ∷ All ∷ All ∷ All ∷ []
 
@@ -10,7 +17,7 @@ abbrev pub filled : List KeyPart → List KeyPart
 filled parts = parts ++ drop (length parts) all_hidden
 
 -- each key in six places, and the aggregates of its row
-unfoldable pub keyed : List (List KeyPart) → List (List (Option ℤ)) → List (List KeyPart × List (Option ℤ))
+unfoldable pub keyed : List (List KeyPart) → List Row → List Entry
 keyed [] rows = []
 keyed (key ∷ keys) [] = []
 keyed (key ∷ keys) (row ∷ rows) = (filled key, row) ∷ keyed keys rows

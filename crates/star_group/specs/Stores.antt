@@ -3,6 +3,7 @@ use Rattle.std.specs.Prelude.{◌≡◌, ◌↔◌, ℕ, suc, ◌+◌, ◌<◌, 
 use Rattle.std.specs.{List.list_any, List.AllByRecursion, List.IsDistinct, Option.unwrap_or}
 use Rattle.star_schema.specs.{declared.group.Aggregate.Aggregate, declared.group.Aggregate.TheVariants.Sum, declared.group.Aggregate.TheVariants.Count, declared.group.Shape.Shape, Groups.IsGroup, Groups.members, Groups.aggregate, Groups.numbers_for}
 use Rattle.star_program.specs.{declared.group.GroupDecl.GroupDecl, declared.key.KeyValue.KeyValue, Keys.key_value_cmp, Keys.same_keys, Puts.Update, Puts.aggregate_at}
+use Rattle.star_group.specs.{OwnKeys.RowKey}
 
 -- what a store is made for: a shape, how many keys there are, and its aggregates
 pub record Group : Type 0 where
@@ -43,9 +44,9 @@ combined g numbers = aggregate g numbers
 
 -- the groups of the puts are those of the content's key lists, and their aggregates are combined from it
 pub record AreOfContent (d : Group) (puts content : List Update) : Type 0 where
-  pub groups : (keys : List (Option KeyValue))
+  pub groups : (keys : RowKey)
       → IsGroup d.shape d.count puts keys ↔ IsGroup d.shape d.count content keys
-  pub aggregates : (keys : List (Option KeyValue)) (place : ℕ) → place < length d.aggregates
+  pub aggregates : (keys : RowKey) (place : ℕ) → place < length d.aggregates
       → aggregate (aggregate_at d.aggregates place) (numbers_for place (members key_value_cmp keys puts))
       ≡ combined (aggregate_at d.aggregates place) (numbers_for place (members key_value_cmp keys content))
 

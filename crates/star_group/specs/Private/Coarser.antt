@@ -5,31 +5,32 @@ use Rattle.star_schema.specs.{declared.group.Aggregate.Aggregate, declared.group
 use Rattle.star_program.specs.{declared.key.KeyValue.KeyValue, Puts.Update}
 use Rattle.star_group.specs.Base.{AreInBits, IsRowOver, group_with, key_view, row_found}
 use Rattle.star_group.specs.{declared.keyed.key.KeyPart.KeyPart, OwnKeys.key_eq, OwnKeys.padded, OwnKeys.vary, Stores.Group, Private.Merged.IsMergedAt}
+use Rattle.star_group.specs.{Keyed.Entry, Keyed.Row, OwnKeys.RowKey}
 
 -- the keys of a put's rows, with each of its keys from this place on as it is or ALL
-abbrev pub keys_from : ℕ → ℕ → List KeyValue → List (List (Option KeyValue))
+abbrev pub keys_from : ℕ → ℕ → List KeyValue → List RowKey
 keys_from place count ks = map (λ rest. take place (padded 6 ks) ++ rest) (vary (count - place) (drop place (padded 6 ks)))
 
 -- the key is that of one of the put's rows, in which no key before this place is ALL: a grouping of its keys
-abbrev pub is_among : Shape → ℕ → ℕ → List (Option KeyValue) → List KeyValue → Bool
+abbrev pub is_among : Shape → ℕ → ℕ → RowKey → List KeyValue → Bool
 is_among s place count q ks = is_grouping s (take count q) && list_any (key_eq q) (keys_from place count ks)
 
 -- the rows with their keys as they are shown
-abbrev pub shown_entries : List (List KeyPart × List (Option ℤ)) → List (List (Option KeyValue) × List (Option ℤ))
+abbrev pub shown_entries : List Entry → List (RowKey × Row)
 shown_entries entries = map (λ e. (key_view e.0, e.1)) entries
 
 -- each key is there once
-abbrev pub AreOnce : List (List KeyPart × List (Option ℤ)) → Type 0
+abbrev pub AreOnce : List Entry → Type 0
 AreOnce entries = IsDistinct key_eq (keys_of (shown_entries entries))
 
 -- the rows are those of these puts in which no key before this place is ALL, each once
-pub record IsRolledUp (d : Group) (place : ℕ) (entries : List (List KeyPart × List (Option ℤ))) (puts : List Update) : Type 0 where
+pub record IsRolledUp (d : Group) (place : ℕ) (entries : List Entry) (puts : List Update) : Type 0 where
   pub fit : AllByRecursion (λ put. length put.keys ≡ d.count) puts
-  pub rows : (q : List (Option KeyValue)) → IsRowOver d (filter (λ put. is_among d.shape place d.count q put.keys) puts) (row_found entries q)
+  pub rows : (q : RowKey) → IsRowOver d (filter (λ put. is_among d.shape place d.count q put.keys) puts) (row_found entries q)
   pub once : AreOnce entries
 
 -- they are those of some puts that stay in their bits
-pub record IsRolledUpWithRoom (shape : Shape) (count : ℕ) (gs : List Aggregate) (place : ℕ) (entries : List (List KeyPart × List (Option ℤ))) : Type 0 where
+pub record IsRolledUpWithRoom (shape : Shape) (count : ℕ) (gs : List Aggregate) (place : ℕ) (entries : List Entry) : Type 0 where
   pub puts : List Update
   pub below : place ≤ count
   pub few : count ≤ 6
@@ -37,19 +38,19 @@ pub record IsRolledUpWithRoom (shape : Shape) (count : ℕ) (gs : List Aggregate
   pub room : AreInBits (group_with shape count gs) puts
 
 -- whichever puts the rows were those of, they now have those in which keys from the later place on are ALL too
-abbrev pub RollsUp : Shape → ℕ → List Aggregate → ℕ → List (List KeyPart × List (Option ℤ)) → ℕ → List (List KeyPart × List (Option ℤ)) → Type 0
+abbrev pub RollsUp : Shape → ℕ → List Aggregate → ℕ → List Entry → ℕ → List Entry → Type 0
 RollsUp shape count gs place entries place' entries' = (puts : List Update)
     → place ≤ count → count ≤ 6
     → IsRolledUp (group_with shape count gs) place entries puts
     → IsRolledUp (group_with shape count gs) place' entries' puts
 
 -- a row is merged into that of its coarser key, where that is a grouping; else nothing changes
-abbrev pub IsMergedWhere : Shape → ℕ → List Aggregate → List (Option KeyValue) → List (Option ℤ) → List (List KeyPart × List (Option ℤ)) → List (List KeyPart × List (Option ℤ)) → Type 0
+abbrev pub IsMergedWhere : Shape → ℕ → List Aggregate → RowKey → Row → List Entry → List Entry → Type 0
 IsMergedWhere shape count gs key more entries entries' =
     MatchBool (is_grouping shape (take count key)) (IsMergedAt gs key more entries entries') (entries' ≡ entries)
 
 -- of the rows before this one none has a coarser key, with ALL at this place, that is a grouping
-abbrev pub NoneCoarser : Shape → ℕ → ℕ → ℕ → List (List KeyPart × List (Option ℤ)) → Type 0
+abbrev pub NoneCoarser : Shape → ℕ → ℕ → ℕ → List Entry → Type 0
 NoneCoarser shape count place from entries = (number : ℕ) → number < from
     → is_grouping shape (take count (slice_set (key_view (slice_index_or entries number ([], [])).0) place None)) ≡ false
 

@@ -4,6 +4,7 @@ use Rattle.std.specs.{Int.int_min, Int.int_max, Option.unwrap_or}
 use Rattle.star_schema.specs.{declared.group.Aggregate.Aggregate, declared.group.Aggregate.TheVariants.Sum, declared.group.Aggregate.TheVariants.Count, declared.group.Aggregate.TheVariants.Min, declared.group.Aggregate.TheVariants.Max}
 use Rattle.star_program.specs.{Puts.leaves, declared.key.KeyValue.KeyValue}
 use Rattle.star_group.specs.{declared.keyed.key.KeyPart.KeyPart, Base.row_found, OwnKeys.key_eq}
+use Rattle.star_group.specs.{Keyed.Entry, Keyed.Row, OwnKeys.RowKey}
 
 -- an aggregate over some puts and over some others, as one over all of them: sums and counts are added
 abbrev pub merged_total : Aggregate → ℤ → ℤ → ℤ
@@ -18,38 +19,38 @@ merged g (Some x) None = Some x
 merged g (Some x) (Some y) = Some (merged_total g x y)
 
 -- one place of two rows merged
-abbrev pub merged_at : List Aggregate → List (Option ℤ) → List (Option ℤ) → ℕ → Option ℤ
+abbrev pub merged_at : List Aggregate → Row → Row → ℕ → Option ℤ
 merged_at gs held more place = merged (slice_index_or gs place Count) (slice_index_or held place None) (slice_index_or more place None)
 
-abbrev pub IsMerged : List Aggregate → List (Option ℤ) → List (Option ℤ) → List (Option ℤ) → Type 0
+abbrev pub IsMerged : List Aggregate → Row → Row → Row → Type 0
 IsMerged gs held more row = (place : ℕ) → place < length gs → slice_index_or row place None ≡ merged_at gs held more place
 
 -- no SUM or COUNT of two rows merged leaves its bits
-abbrev pub MergeStays : List Aggregate → List (Option ℤ) → List (Option ℤ) → Type 0
+abbrev pub MergeStays : List Aggregate → Row → Row → Type 0
 MergeStays gs held more = (place : ℕ) → place < length gs → leaves (slice_index_or gs place Count) (merged_at gs held more place) ≡ false
 
 -- a SUM or a COUNT of two rows merged does
-pub record MergeLeaves (gs : List Aggregate) (held more : List (Option ℤ)) : Type 0 where
+pub record MergeLeaves (gs : List Aggregate) (held more : Row) : Type 0 where
   pub place : ℕ
   pub declared : place < length gs
   pub over : leaves (slice_index_or gs place Count) (merged_at gs held more place) ≡ true
 
 -- nor does one of a row merged into the one that is found
-abbrev pub RowsStay : List Aggregate → Option (List (Option ℤ)) → List (Option ℤ) → Type 0
+abbrev pub RowsStay : List Aggregate → Option Row → Row → Type 0
 RowsStay gs None more = Unit {0}
 RowsStay gs (Some held) more = MergeStays gs held more
 
 -- what is found after a row was merged into what was found before
-abbrev pub IsMergedInto : List Aggregate → List (Option ℤ) → Option (List (Option ℤ)) → Option (List (Option ℤ)) → Type 0
-IsMergedInto gs more held found = (row : List (Option ℤ)) × (found ≡ Some row) × IsMerged gs (unwrap_or held []) more row
+abbrev pub IsMergedInto : List Aggregate → Row → Option Row → Option Row → Type 0
+IsMergedInto gs more held found = (row : Row) × (found ≡ Some row) × IsMerged gs (unwrap_or held []) more row
 
 -- the row with this key is this one, and the others are as they were
-abbrev pub IsWithRow : List (Option KeyValue) → List (Option ℤ) → List (List KeyPart × List (Option ℤ)) → List (List KeyPart × List (Option ℤ)) → Type 0
-IsWithRow key row entries entries' = (q : List (Option KeyValue)) → row_found entries' q ≡ (if key_eq q key then Some row else row_found entries q)
+abbrev pub IsWithRow : RowKey → Row → List Entry → List Entry → Type 0
+IsWithRow key row entries entries' = (q : RowKey) → row_found entries' q ≡ (if key_eq q key then Some row else row_found entries q)
 
 -- the row with this key has one more merged in, and the others are as they were
-abbrev pub IsMergedAt : List Aggregate → List (Option KeyValue) → List (Option ℤ) → List (List KeyPart × List (Option ℤ)) → List (List KeyPart × List (Option ℤ)) → Type 0
-IsMergedAt gs key more entries entries' = (row : List (Option ℤ)) × IsMerged gs (unwrap_or (row_found entries key) []) more row × IsWithRow key row entries entries'
+abbrev pub IsMergedAt : List Aggregate → RowKey → Row → List Entry → List Entry → Type 0
+IsMergedAt gs key more entries entries' = (row : Row) × IsMerged gs (unwrap_or (row_found entries key) []) more row × IsWithRow key row entries entries'
 
 -- what one put adds to an aggregate
 abbrev pub cell_of_one_put : Aggregate → ℤ → ℤ
@@ -57,5 +58,5 @@ cell_of_one_put Count v = pos 1
 cell_of_one_put g v = v
 
 -- the row of one put alone
-abbrev pub IsRowOfOnePut : List Aggregate → List ℤ → List (Option ℤ) → Type 0
+abbrev pub IsRowOfOnePut : List Aggregate → List ℤ → Row → Type 0
 IsRowOfOnePut gs vs row = (place : ℕ) → place < length gs → slice_index_or row place None ≡ Some (cell_of_one_put (slice_index_or gs place Count) (slice_index_or vs place (pos 0)))

@@ -4,6 +4,7 @@ use Rattle.std.specs.{List.AllByRecursion, Vec.vec_capacity}
 use Rattle.star_schema.specs.declared.group.Aggregate.{Aggregate}
 use Rattle.star_group.specs.{declared.keyed.key.KeyPart.KeyPart, declared.keyed.KeyedRows.KeyedRows, declared.keyed.ListedRows.ListedRows, Keyed.all_hidden}
 use Rattle.star_program.specs.Rows.{cut}
+use Rattle.star_group.specs.{Keyed.Row}
 
 abbrev pub listed_keys : ListedRows → List (List KeyPart)
 listed_keys rows = cut rows.width rows.len rows.keys.items
@@ -19,7 +20,7 @@ abbrev pub AreNarrow : ℕ → List (List KeyPart) → Type 0
 AreNarrow width keys = AllByRecursion (IsNarrow width) keys
 
 -- a row of these aggregates, or of more numbers than they, fits among the rows
-pub record FitsIn (rows : KeyedRows) (gs : List Aggregate) (row : List (Option ℤ)) : Type 0 where
+pub record FitsIn (rows : KeyedRows) (gs : List Aggregate) (row : Row) : Type 0 where
   pub many : length gs ≡ rows.listed.aggregate_count
   pub wide : rows.listed.aggregate_count ≤ length row
 

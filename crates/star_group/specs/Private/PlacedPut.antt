@@ -3,6 +3,7 @@ use Rattle.std.specs.Prelude.{◌≡◌, ◌<◌, ℕ, Bool, ℤ, List, Option, 
 use Rattle.star_schema.specs.{declared.group.Aggregate.Aggregate, declared.group.Shape.Shape}
 use Rattle.star_group.specs.{declared.batch.PutBatch.PutBatch, declared.keyed.key.KeyPart.KeyPart, declared.placed.span.Span.Span, Batches.put_in, ByPlace.IsPlaced, Places.cell_place, Base.group_with, Private.Coarser.IsRolledUp}
 use Rattle.star_program.specs.Puts.{Update}
+use Rattle.star_group.specs.{Keyed.Entry, Keyed.Row}
 
 -- the rows of a batch have these places
 abbrev pub AreAtPlaces : List Span → PutBatch → List ℕ → Type 0
@@ -11,8 +12,8 @@ AreAtPlaces spans b at = (row : ℕ) → row < b.rows
 
 -- whichever puts the cells and the rows beside them were those of, these are their rows, each key once
 abbrev pub IsListed : List Aggregate → List Span → List Bool → List ℤ
-    → List (List KeyPart × List (Option ℤ)) → List (List KeyPart × List (Option ℤ)) → Type 0
+    → List Entry → List Entry → Type 0
 IsListed gs spans seen cells es fs =
-    (shape : Shape) (rest : List (Option ℤ)) (puts : List Update)
+    (shape : Shape) (rest : Row) (puts : List Update)
     → IsPlaced (group_with shape (length spans) gs) spans seen cells es rest puts
     → IsRolledUp (group_with shape (length spans) gs) (length spans) fs puts

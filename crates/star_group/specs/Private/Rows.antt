@@ -4,35 +4,36 @@ use Rattle.std.specs.{List.list_any, Option.unwrap_or}
 use Rattle.star_schema.specs.{declared.group.Aggregate.Aggregate, declared.group.Shape.Shape, Groups.is_grouping}
 use Rattle.star_program.specs.declared.key.KeyValue.{KeyValue}
 use Rattle.star_group.specs.{declared.keyed.key.KeyPart.KeyPart, Base.key_view, OwnKeys.key_eq, Private.Merged.IsMergedInto, Private.Merged.MergeLeaves, Private.Merged.MergeStays}
+use Rattle.star_group.specs.{Keyed.Row, OwnKeys.RowKey}
 
 -- a row over no puts
-abbrev pub IsBlank : List (Option ℤ) → Type 0
+abbrev pub IsBlank : Row → Type 0
 IsBlank row = (place : ℕ) → slice_index_or row place None ≡ None
 
 -- a row has this key: a grouping
-abbrev pub is_row_key : Shape → ℕ → List (Option KeyValue) → Bool
+abbrev pub is_row_key : Shape → ℕ → RowKey → Bool
 is_row_key s count q = is_grouping s (take count q)
 
 -- the key is one of these
-abbrev pub is_one_of : List (List KeyPart) → List (Option KeyValue) → Bool
+abbrev pub is_one_of : List (List KeyPart) → RowKey → Bool
 is_one_of keys q = list_any (key_eq q) (map key_view keys)
 
 -- with one more row merged in no aggregate of a row of these keys leaves its bits
-pub record AllStay (look : List (Option KeyValue) → Option (List (Option ℤ))) (own : List (Option KeyValue) → Bool) (gs : List Aggregate) (more : List (Option ℤ)) : Type 0 where
-  pub stay : (key : List (Option KeyValue)) → own key ≡ true → MergeStays gs (unwrap_or (look key) []) more
+pub record AllStay (look : RowKey → Option Row) (own : RowKey → Bool) (gs : List Aggregate) (more : Row) : Type 0 where
+  pub stay : (key : RowKey) → own key ≡ true → MergeStays gs (unwrap_or (look key) []) more
 
 -- and here one does
-pub record SomeLeaves (look : List (Option KeyValue) → Option (List (Option ℤ))) (own : List (Option KeyValue) → Bool) (gs : List Aggregate) (more : List (Option ℤ)) : Type 0 where
-  pub key : List (Option KeyValue)
+pub record SomeLeaves (look : RowKey → Option Row) (own : RowKey → Bool) (gs : List Aggregate) (more : Row) : Type 0 where
+  pub key : RowKey
   pub among : own key ≡ true
   pub leaves : MergeLeaves gs (unwrap_or (look key) []) more
 
 -- the rows of these keys have one more merged in, and the others are as they were
-pub record MergesAll (own : List (Option KeyValue) → Bool) (gs : List Aggregate) (more : List (Option ℤ)) (old new : List (Option KeyValue) → Option (List (Option ℤ))) : Type 0 where
-  pub changed : (key : List (Option KeyValue)) → own key ≡ true → IsMergedInto gs more (old key) (new key)
-  pub same : (key : List (Option KeyValue)) → own key ≡ false → new key ≡ old key
+pub record MergesAll (own : RowKey → Bool) (gs : List Aggregate) (more : Row) (old new : RowKey → Option Row) : Type 0 where
+  pub changed : (key : RowKey) → own key ≡ true → IsMergedInto gs more (old key) (new key)
+  pub same : (key : RowKey) → own key ≡ false → new key ≡ old key
 
 -- and no aggregate of a row leaves its bits
-pub record PutsRows (own : List (Option KeyValue) → Bool) (gs : List Aggregate) (more : List (Option ℤ)) (old new : List (Option KeyValue) → Option (List (Option ℤ))) : Type 0 where
+pub record PutsRows (own : RowKey → Bool) (gs : List Aggregate) (more : Row) (old new : RowKey → Option Row) : Type 0 where
   pub merges : MergesAll own gs more old new
   pub stay : AllStay old own gs more

@@ -1,4 +1,4 @@
-use Rattle.star_group.proofs.Common.{◌≡◌, [], ℕ, ℤ, List, Option, Some, length, nat_eq, slice_get, subst, sym, take, ◌∙◌, and_parts, eqb-true, is_grouping, KeyPart, key_view, all_hidden, group_with, listed_entries, AreRows}
+use Rattle.star_group.proofs.Common.{Entry, ◌≡◌, [], ℕ, ℤ, List, Option, Some, length, nat_eq, slice_get, subst, sym, take, ◌∙◌, and_parts, eqb-true, is_grouping, KeyPart, key_view, all_hidden, group_with, listed_entries, AreRows}
 use Rattle.star_group.proofs.GivenGroups.{given_are_rows, hides_none, none_put, nothing_rows, some_put}
 use Rattle.star_group.proofs.{Contents.if_ok, ListedRows.row_wide}
 use Rattle.star_group.proofs.group_rows.given.Goals as goal
@@ -26,7 +26,7 @@ returns c = λ once puts grouped.
     let d = group_with c.args.shape c.args.key_count c.args.aggregates.now in
     let es = listed_entries c.args.rows in
     let few = c.requires.few_keys in
-    let wide = λ (i : ℕ) (e : List KeyPart × List (Option ℤ)) (at : slice_get es i ≡ Some e).
+    let wide = λ (i : ℕ) (e : Entry) (at : slice_get es i ≡ Some e).
     row_wide c.args.rows i e at ∙ sym c.requires.aggregate_count in
     given_are_rows d puts es few grouped once wide
     (λ none. hides_none (length es)

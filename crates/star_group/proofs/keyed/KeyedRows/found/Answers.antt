@@ -1,4 +1,4 @@
-use Rattle.star_group.proofs.Common.{◌≡◌, ◌∙◌, List, Option, Some, rules, ℤ, ap, length, subst, sym, take, KeyPart, keys_in, IsKeyFound}
+use Rattle.star_group.proofs.Common.{Entry, ◌≡◌, ◌∙◌, List, Option, Some, rules, ℤ, ap, length, subst, sym, take, KeyPart, keys_in, IsKeyFound}
 use Rattle.star_group.proofs.{KeyedRows.number_among, KeyedRows.row_held, KeyedRows.row_missing, ListedRows.entry_at}
 use Rattle.star_group.proofs.keyed.KeyedRows.found.Goals as goal
 
@@ -18,8 +18,7 @@ returns-in-Held-clause-row c =
     let six : length key ≡ 6 = search rules in
     let held = subst (IsKeyFound s.listed.width (keys_in s) s.links.items
     (take s.listed.width key)) c.in-Held.is c.find.ensures in
-    ap Some (c.row.ensures.row
-    ∙ ap (λ (e : List KeyPart × List (Option ℤ)). e.1) (entry_at s.listed c.in-Held.number
+    ap Some (c.row.ensures.row ∙ ap (λ (e : Entry). e.1) (entry_at s.listed c.in-Held.number
     (number_among s key six c.requires c.in-Held.number held)))
     ∙ sym (row_held s key six c.requires c.in-Held.number held)
 

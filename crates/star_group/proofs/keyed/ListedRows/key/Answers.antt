@@ -1,4 +1,4 @@
-use Rattle.star_group.proofs.Common.{◌∙◌, [], List, Option, ℤ, ap, arith, drop, get_or, length, sym, KeyPart, filled, cut}
+use Rattle.star_group.proofs.Common.{Entry, ◌∙◌, [], List, Option, ℤ, ap, arith, drop, get_or, length, sym, KeyPart, filled, cut}
 use Rattle.star_group.proofs.ListedRows.{entry_at, filled_narrow, key_wide}
 use Rattle.star_group.proofs.keyed.ListedRows.key.Goals as goal
 
@@ -14,8 +14,7 @@ returns-clause-key c =
     let s = c.args.self.now in
     let parts = c.row_of.ensures
     ∙ ap (λ ps. get_or (cut s.width s.len ps) c.args.number []) c.as_slice.ensures.value in
-    c.in_six_places.ensures ∙ ap filled parts
-    ∙ sym (ap (λ (e : List KeyPart × List (Option ℤ)). e.0)
+    c.in_six_places.ensures ∙ ap filled parts ∙ sym (ap (λ (e : Entry). e.0)
     (entry_at s c.args.number c.requires))
 
 pub returns-clause-narrow : goal.returns-clause-narrow

@@ -1,12 +1,11 @@
-use Rattle.star_group.proofs.Common.{◌≡◌, ◌<◌, Some, [], List, Option, ℤ, ℕ, suc, add-one, ap, arith, get_or, length, pos, subst, sym, false, ◌∙◌, cut, group_view, places, Aggregate, Bool, None, PlacedStore, IsMerged, MergeStays}
+use Rattle.star_group.proofs.Common.{Row, ◌≡◌, ◌<◌, Some, [], List, Option, ℤ, ℕ, suc, add-one, ap, arith, get_or, length, pos, subst, sym, false, ◌∙◌, cut, group_view, places, Aggregate, Bool, None, PlacedStore, IsMerged, MergeStays}
 use Rattle.star_group.proofs.PlacedRows.{IsRowAt, IsSummed, sum_end, sum_more, sum_skip, sum_start, sum_stays}
 use Rattle.star_group.proofs.placed.PlacedStore.whole_total.Goals.{then-seen-place, else-seen-place}
 use Rattle.star_group.proofs.placed.PlacedStore.whole_total.Goals as goal
 
 -- a row that was read from parts that are lent
 row_at : (s : PlacedStore) {gs : List Aggregate} {seen : List Bool} {cells : List ℤ}
-    (row : List (Option ℤ)) (n : ℕ) → gs ≡ s.rest.aggregates.items → seen ≡ s.seen.items
-    → cells ≡ s.cells.items
+    (row : Row) (n : ℕ) → gs ≡ s.rest.aggregates.items → seen ≡ s.seen.items → cells ≡ s.cells.items
     → ((a : ℕ) → a < length gs
     → get_or row a None ≡ Some (get_or (get_or (cut (length seen) (length gs) cells) a []) n (pos 0)))
     → IsRowAt (group_view s) s.seen.items s.cells.items n row
