@@ -1,8 +1,8 @@
 -- From the rows of a map to the content of a store.
-use Rattle.star_group.proofs.Common.{Entry, Row, RowKey, ◌≡◌, ◌⊎◌, ℕ, ◌<◌, ◌≤◌, Bool, true, false, ℤ, List, [], ◌∷◌, Option, Some, None, Result, Ok, Err, OnOk, IfErr, IfOk, length, get_or, replicate, ap, sym, ◌∙◌, subst, refl, cond, arith, inl, inr, true≢false, unwrap_or, false_from_ne_true, UnlessMemory}
+use Rattle.star_group.proofs.Common.{map, filter, list_any, padded, vary, key_eq, key_view, is_one_of, is_row_key, Entry, Row, RowKey, ◌≡◌, ◌⊎◌, ℕ, ◌<◌, ◌≤◌, Bool, true, false, ℤ, List, [], ◌∷◌, Option, Some, None, Result, Ok, Err, OnOk, IfErr, IfOk, length, get_or, replicate, ap, sym, ◌∙◌, subst, refl, cond, arith, inl, inr, true≢false, unwrap_or, false_from_ne_true, UnlessMemory}
 use Rattle.star_group.proofs.Common.{Aggregate, IsMasked, aggregate, is_grouping, members, numbers_for, KeyValue, key_value_cmp, IsOwn, leaves, Update, overflows, aggregate_at, overflow_somewhere, somewhere_overflows, held, AreGrouped, HasAggregates, IsRowOver, puts_in, row_found}
 use Rattle.star_group.proofs.Common.{EagerStore, KeyPart, entries_of, is_of_put, IsMerged, IsRowOfOnePut, MergeLeaves, MergeStays, cell_of_one_put, merged, merged_at, AllStay, MergesAll, PutsRows, SomeLeaves, Group, put_number}
-use Rattle.star_group.proofs.GroupKeys.{all_members, in_places, masked_length, members_at, of_put, own_belongs, put_belongs}
+use Rattle.star_group.proofs.GroupKeys.{all_members, any_kept, in_places, masked_length, members_at, of_put, own_belongs, put_belongs}
 use Rattle.star_group.proofs.Merging.{held_none, held_one, merged_comm, merged_more, no_puts}
 use Rattle.star_group.proofs.{Bases.more_over, Totals.declared, Totals.some_aggregate}
 use Rattle.star_group.specs.Eager.{group_view, Has}
@@ -15,12 +15,6 @@ pub if_ok : {T E : Type 0} (P Q : T → Type 0) (r : Result T E) → ((x : T) �
     → IfOk r Q
 if_ok P Q (Ok x) f h = f x h
 if_ok P Q (Err e) f h = tt
-
-pub if_leaves : {T E : Type 0} (memory : E) (P Q : Type 0) (r : Result T E) → (P → Q)
-    → IfErr r (λ e. UnlessMemory memory e P) → IfErr r (λ e. UnlessMemory memory e Q)
-if_leaves memory P Q (Ok x) f h = tt
-if_leaves memory P Q (Err e) f (inl none) = inl none
-if_leaves memory P Q (Err e) f (inr some) = inr (f some)
 
 -- what is found has the aggregates of its puts
 found_held : (d : Group) (ws : List Update) (found : Option Row) (place : ℕ)
@@ -147,43 +141,47 @@ module _ (s : EagerStore) (u : Update) (gs : List Aggregate) (row : Row)
   few_keys : s.key_count ≤ 6
   few_keys = omega (arith, s.wide, s.rows.listed.few)
 
-  abbrev Puts : List Aggregate → (RowKey → Option Row) → Type 0
-  Puts g new = PutsRows (is_of_put s.shape u.keys) g row (row_found (entries_of s.rows)) new
-
-  abbrev Leaves : List Aggregate → Type 0
-  Leaves g = MergeLeaves g s.total row
-      ⊎ SomeLeaves (row_found (entries_of s.rows)) (is_of_put s.shape u.keys) g row
-
-  pub put_has : {T E : Type 0} (r : Result T E) (new : EagerStore) → group_view new ≡ group_view s
-      → OnOk r (Puts gs (row_found (entries_of new.rows)))
-      → OnOk r (IsMerged gs s.total row new.total)
-      → OnOk r ((us : List Update) → Has s us → Has new (u ∷ us))
-  put_has (Ok x) new same puts merges = λ us has. record {
-    grouped = subst (λ d. AreGrouped d (entries_of new.rows) (u ∷ us)) (sym same)
-        (grouped_more (group_view s) us u row one_put fits (entries_of s.rows) has.grouped
-        (entries_of new.rows)
-        (subst (λ g. Puts g (row_found (entries_of new.rows))) is_gs puts).merges);
-    total = subst (λ d. HasAggregates d (u ∷ us) new.total) (sym same)
-        (merged_more (group_view s) u us s.total row new.total one_put has.total
-        (subst (λ g. IsMerged g s.total row new.total) is_gs merges));
-  }
-  put_has (Err e) new same puts merges = tt
-
-  pub put_stays : {T E : Type 0} (r : Result T E) (new : RowKey → Option Row) → OnOk r (Puts gs new)
-      → OnOk r (MergeStays gs s.total row)
-      → OnOk r ((us : List Update) → Has s us
-      → overflows (group_view s).shape (group_view s).aggregates us u ≡ false)
-  put_stays (Ok x) new puts kept = λ us has.
-      stays_all (group_view s) us u row one_put fits (entries_of s.rows) has.grouped s.total
-      few_keys has.total (subst (λ g. MergeStays g s.total row) is_gs kept)
-      (subst (λ g. Puts g new) is_gs puts).stay
-  put_stays (Err e) new puts kept = tt
-
-  pub put_leaves : {T E : Type 0} (memory : E) (r : Result T E)
-      → IfErr r (λ e. UnlessMemory memory e (Leaves gs))
-      → IfErr r (λ e. UnlessMemory memory e
-      ((us : List Update) → Has s us
-      → overflows (group_view s).shape (group_view s).aggregates us u ≡ true))
-  put_leaves memory r = if_leaves memory _ _ r (λ some us has.
+  pub put_leaves : MergeLeaves gs s.total row
+      ⊎ SomeLeaves (row_found (entries_of s.rows)) (is_of_put s.shape u.keys) gs row
+      → (us : List Update) → Has s us
+      → overflows (group_view s).shape (group_view s).aggregates us u ≡ true
+  put_leaves some us has =
       overflows_some (group_view s) us u row one_put fits (entries_of s.rows) has.grouped s.total
-      few_keys has.total (subst Leaves is_gs some))
+      few_keys has.total (subst (λ g. MergeLeaves g s.total row
+      ⊎ SomeLeaves (row_found (entries_of s.rows)) (is_of_put s.shape u.keys) g row) is_gs some)
+
+  module _ (keys : List (List KeyPart))
+      (are : map key_view keys ≡ filter (is_row_key s.shape (length u.keys))
+      (vary (length u.keys) (padded 6 u.keys))) where
+    -- the keys are those of the rows that the put changes
+    pub own_keys : is_one_of keys ≡ is_of_put s.shape u.keys
+    own_keys = λ i q. (ap (list_any (key_eq q)) are
+        ∙ any_kept (is_row_key s.shape (length u.keys)) q (vary (length u.keys) (padded 6 u.keys))) i
+
+    abbrev Puts : (RowKey → Option Row) → Type 0
+    Puts new = PutsRows (is_one_of keys) gs row (row_found (entries_of s.rows)) new
+
+    puts_own : (new : RowKey → Option Row) → Puts new
+        → PutsRows (is_of_put s.shape u.keys) s.aggregates.items row (row_found (entries_of s.rows))
+        new
+    puts_own new puts =
+        coe 0 1 (i. PutsRows (own_keys i) (is_gs i) row (row_found (entries_of s.rows)) new) puts
+
+    pub put_has : (new : EagerStore) → group_view new ≡ group_view s
+        → Puts (row_found (entries_of new.rows)) → IsMerged gs s.total row new.total
+        → (us : List Update) → Has s us → Has new (u ∷ us)
+    put_has new same puts merges us has = record {
+      grouped = subst (λ d. AreGrouped d (entries_of new.rows) (u ∷ us)) (sym same)
+          (grouped_more (group_view s) us u row one_put fits (entries_of s.rows) has.grouped
+          (entries_of new.rows) (puts_own _ puts).merges);
+      total = subst (λ d. HasAggregates d (u ∷ us) new.total) (sym same)
+          (merged_more (group_view s) u us s.total row new.total one_put has.total
+          (subst (λ g. IsMerged g s.total row new.total) is_gs merges));
+    }
+
+    pub put_stays : (new : RowKey → Option Row) → Puts new → MergeStays gs s.total row
+        → (us : List Update) → Has s us
+        → overflows (group_view s).shape (group_view s).aggregates us u ≡ false
+    put_stays new puts kept us has =
+        stays_all (group_view s) us u row one_put fits (entries_of s.rows) has.grouped s.total
+        few_keys has.total (subst (λ g. MergeStays g s.total row) is_gs kept) (puts_own new puts).stay

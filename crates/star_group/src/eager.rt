@@ -2,7 +2,6 @@
 
 ghost use Rattle.std.specs.Prelude.{◌≡◌, ◌≤◌, vec_len};
 
-mod put;
 mod row_keys;
 mod store;
 

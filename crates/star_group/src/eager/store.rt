@@ -3,12 +3,12 @@
 ghost use Rattle.star_group.specs.Eager.{group_view, Has};
 
 use super::EagerStore;
-use super::put::put_all;
+use super::row_keys::fill_row_keys;
 use crate::cell::{Total, shown};
 use crate::group_rows::given;
 use crate::keyed::KeyedRows;
 use crate::keyed::merge::row_of_put;
-use crate::rows::PutFault;
+use crate::rows::{PutFault, put_rows};
 use crate::store::{GroupStore, TryPut, aggregates_of};
 use crate::{GroupRows, KeyValue};
 use star_program::GroupDecl;
@@ -59,14 +59,12 @@ impl TryPut for EagerStore {
     fn try_put(&mut self, keys: &[KeyValue], values: &[i64]) -> Result<(), PutFault> {
         let aggregates = self.aggregates.as_slice();
         let more = row_of_put(aggregates, values);
-        put_all(
-            &mut self.rows,
-            &mut self.row_keys,
-            &mut self.total,
-            self.shape,
-            aggregates,
-            keys,
-            &more,
-        )
+        if !self.total.stays(aggregates, &more) {
+            return Err(PutFault::Overflow);
+        }
+        fill_row_keys(&mut self.row_keys, self.shape, keys)?;
+        put_rows(&mut self.rows, self.row_keys.as_slice(), aggregates, &more)?;
+        self.total.merge(aggregates, &more);
+        Ok(())
     }
 }
