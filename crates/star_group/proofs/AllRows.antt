@@ -1,6 +1,6 @@
 -- The rows of a deferred store in the end are those of an eager one.
-use Rattle.star_group.proofs.Common.{Entry, Row, RowKey, ◌≡◌, ℕ, ◌-◌, ◌≤◌, Bool, true, false, ◌&&◌, ℤ, List, [], ◌∷◌, Option, length, take, ap, sym, ◌∙◌, subst, refl, arith, list_any, AllByRecursion, and-false, or-false, ∥∥₁_map, map-id, at_each, Aggregate, Shape, Plain, Cube, Rollup, is_grouping}
-use Rattle.star_group.proofs.Common.{KeyValue, KeyPart, AreGrouped, HasBaseWithRoom, IsRowOver, puts_with, row_found, is_of_put, key_eq, padded, vary, IsRolledUp, IsRolledUpWithRoom, first_hidden, is_among, keys_from, group_with, Update, Group, AreOnce}
+use Rattle.star_group.proofs.Common.{Entry, Row, RowKey, ◌≡◌, ℕ, ◌-◌, ◌≤◌, Bool, true, false, ◌&&◌, List, [], ◌∷◌, length, take, ap, sym, ◌∙◌, subst, refl, arith, list_any, AllByRecursion, and-false, or-false, ∥∥₁_map, map-id, at_each, Aggregate, Shape, Plain, Cube, Rollup, is_grouping}
+use Rattle.star_group.proofs.Common.{KeyValue, AreGrouped, HasBaseWithRoom, IsRowOver, puts_with, row_found, is_of_put, key_eq, padded, vary, IsRolledUp, IsRolledUpWithRoom, first_hidden, is_among, keys_from, group_with, Update, Group, AreOnce}
 use Rattle.star_group.proofs.{GroupKeys.key_decides, GroupKeys.own_grouping, GroupKeys.plain_among, OwnKeyLemmas.vary-start, Filters.filter_each}
 
 -- ---- the base rows have no ALL

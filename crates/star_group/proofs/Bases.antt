@@ -1,5 +1,5 @@
 -- The base rows of puts, with one put more.
-use Rattle.star_group.proofs.Common.{Entry, Row, RowKey, ◌≡◌, ℕ, Bool, true, false, ℤ, List, [], ◌∷◌, Option, Some, None, length, get_or, cond, ap, sym, ◌∙◌, refl, subst, filter, unwrap_or, Aggregate, numbers_for, KeyValue, leaves, Update, aggregate_at, KeyPart, AreGrouped, HasAggregates, HasBaseWithRoom, IsBase}
+use Rattle.star_group.proofs.Common.{Entry, Row, RowKey, ◌≡◌, ℕ, Bool, true, false, List, [], ◌∷◌, Option, Some, None, length, get_or, cond, ap, sym, ◌∙◌, refl, subst, filter, unwrap_or, Aggregate, numbers_for, KeyValue, leaves, Update, aggregate_at, KeyPart, AreGrouped, HasAggregates, HasBaseWithRoom, IsBase}
 use Rattle.star_group.proofs.Common.{IsRowOver, key_view, puts_with, row_found, key_eq, padded, IsMerged, IsMergedAt, IsMergedInto, IsRowOfOnePut, MergeStays, RowsStay, cell_of_one_put, merged, Group, put_number, AreInBits, Sum, Count, Min, Max}
 use Rattle.star_group.specs.Cells.{held}
 use Rattle.star_group.proofs.{Filters.filter_all, GroupKeys.key_decides, GroupKeys.key_equiv}

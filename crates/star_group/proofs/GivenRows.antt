@@ -1,6 +1,6 @@
 -- What stands in a row that a store gives.
 use Rattle.std.proofs.lemmas.List.{nil_from_length}
-use Rattle.star_group.proofs.Common.{Entry, Row, ◌≡◌, ℕ, zero, suc, ◌<◌, ◌≤◌, ℤ, List, [], ◌∷◌, ◌++◌, Option, Some, None, length, get_or, map, take, ap, refl, sym, ◌∙◌, arith, get_or-take, get_or_past, length-take, Aggregate, KeyPart, key_view, all_hidden, nothing_given, row_shown, shown, row_at}
+use Rattle.star_group.proofs.Common.{Entry, Row, ◌≡◌, ℕ, zero, suc, ◌<◌, ◌≤◌, List, [], ◌∷◌, ◌++◌, Option, Some, None, length, get_or, map, take, ap, refl, sym, ◌∙◌, arith, get_or-take, get_or_past, length-take, Aggregate, key_view, all_hidden, nothing_given, row_shown, shown, row_at}
 
 module _ (nothing : Option Row) (count : ℕ) where
   pub key_shown : (es : List Entry) (number place : ℕ) → place < count

@@ -1,5 +1,5 @@
 -- Rows in flat storage with their keys: what stands at a number, one row more, and one changed.
-use Rattle.star_group.proofs.Common.{Entry, Row, RowKey, ◌≡◌, ◌⊎◌, inl, inr, cases_lt, get_or-map, is_some, ℕ, zero, suc, ◌<◌, ◌≤◌, Bool, true, false, ℤ, List, [], ◌∷◌, ◌++◌, Option, Some, None, Result, Ok, Err, OnOk, cond, length, get_or, get_or-set_same, set, slice_get, map, take, drop, ap, sym, ◌∙◌, subst, refl, arith, true≢false}
+use Rattle.star_group.proofs.Common.{Entry, Row, RowKey, ◌≡◌, ◌⊎◌, inl, inr, cases_lt, get_or-map, is_some, ℕ, zero, suc, ◌<◌, ◌≤◌, Bool, true, false, List, [], ◌∷◌, ◌++◌, Option, Some, None, Result, Ok, Err, OnOk, cond, length, get_or, get_or-set_same, set, slice_get, map, take, drop, ap, sym, ◌∙◌, subst, refl, arith, true≢false}
 use Rattle.star_group.proofs.Common.{AllByRecursion, filter, list_any, keys_of, lookup, get_or-take, length-map, length-set, take_at, lookup_from_place, place_from_lookup, slice_get-get_or, slice_get-map, slice_get_within, KeyValue, KeyPart, All, KeyedRows, key_view, row_found}
 use Rattle.star_group.proofs.Common.{key_value_view, entries_of, all_hidden, filled, key_eq, padded, vary, AreOnce, shown_entries, IsMerged, IsMergedAt, IsWithRow, Aggregate, Shape, option_map, unwrap_or, with_items, and_parts, false_from_ne_true, list_any-from_Contains, contains_mapped}
 use Rattle.star_group.proofs.Common.{of_each, AreNarrow, IsNarrow, is_row_key, IsHeld, IsMissing, keys_in, IsDistinct-push, get_or_from_slice_get, append_assoc, cut, append-nil}

@@ -1,5 +1,5 @@
 -- What stands at a number in rows that nothing finds by their keys.
-use Rattle.star_group.proofs.Common.{Entry, Row, ◌≡◌, ◌≤◌, ◌<◌, ◌+◌, ◌++◌, ◌∷◌, ◌∙◌, ℕ, zero, suc, ℤ, List, [], None, Option, Some, ap, arith, drop, get_or, length, refl, slice_get, sym, take, ⊎_elim, AllByRecursion, get_or_past, length-take-le, cases_lt, get_or_from_slice_get, slice_get_within}
+use Rattle.star_group.proofs.Common.{Entry, Row, ◌≡◌, ◌≤◌, ◌<◌, ◌+◌, ◌++◌, ◌∷◌, ◌∙◌, ℕ, zero, suc, List, [], None, Some, ap, arith, drop, get_or, length, refl, slice_get, sym, take, ⊎_elim, AllByRecursion, get_or_past, length-take-le, cases_lt, get_or_from_slice_get, slice_get_within}
 use Rattle.star_group.proofs.Common.{key_value_view, key_view, KeyPart, ListedRows, listed_entries, all_hidden, filled, length-cut, take-append-drop, drop_at}
 use Rattle.star_program.specs.Rows.{cut}
 use Rattle.star_group.specs.Keyed.{keyed}

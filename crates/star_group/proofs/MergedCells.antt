@@ -1,5 +1,5 @@
 -- The turns of the loops over the aggregates of rows that are merged.
-use Rattle.star_group.proofs.Common.{Row, ℕ, ℤ, pos, List, Option, Some, None, length, slice_index_or, Aggregate, Count, cell_of_one_put, merged_at}
+use Rattle.star_group.proofs.Common.{Row, ℕ, ℤ, pos, List, Some, None, length, slice_index_or, Aggregate, Count, cell_of_one_put, merged_at}
 use Rattle.std.specs.Prelude.{◌≡◌, ◌<◌, ◌≤◌}
 
 -- the places below i of a row are merged, and the others are as they were

@@ -1,6 +1,6 @@
 -- One more row merged into those of some keys.
-use Rattle.star_group.proofs.Common.{Entry, Row, RowKey, ◌≡◌, ◌⊎◌, inl, inr, ℕ, zero, suc, ◌+◌, ◌<◌, Bool, true, false, ◌||◌, ℤ, List, [], ◌∷◌, Option, Some, None, length, get_or, take, map, MatchBool, ap, sym, ◌∙◌, subst, refl, true≢false, arith, ◌*◌, list_any, IsDistinct, unwrap_or, get_or-map, length-map}
-use Rattle.star_group.proofs.Common.{list_any_at, list_any_more, apart_from_distinct, IsDistinct-tail, or_parts, Aggregate, KeyValue, KeyPart, KeyedRows, key_view, row_found, key_eq, IsMergedAt, IsMergedInto, MergeLeaves, MergeStays, RowsStay, AreNarrow, HasSpace, IsNarrow, suc-mul}
+use Rattle.star_group.proofs.Common.{Entry, Row, RowKey, ◌≡◌, ◌⊎◌, inl, inr, ℕ, zero, suc, ◌+◌, ◌<◌, Bool, true, false, ◌||◌, List, [], ◌∷◌, Option, Some, None, length, get_or, take, map, MatchBool, ap, sym, ◌∙◌, subst, refl, true≢false, arith, list_any, IsDistinct, unwrap_or, get_or-map, length-map}
+use Rattle.star_group.proofs.Common.{list_any_at, list_any_more, apart_from_distinct, IsDistinct-tail, or_parts, Aggregate, KeyPart, KeyedRows, key_view, row_found, key_eq, IsMergedAt, IsMergedInto, MergeLeaves, MergeStays, RowsStay, AreNarrow, HasSpace, IsNarrow}
 use Rattle.star_group.proofs.Common.{mul-le-mul_right, get_or_default, at_each, ◌≤◌, AllStay, MergesAll, SomeLeaves}
 use Rattle.star_group.proofs.{Bases.other_row, Bases.own_row, GroupKeys.key_decides, GroupKeys.key_equiv}
 

@@ -1,6 +1,6 @@
 -- Aggregates over puts where some pass one test and the others another.
 use Rattle.star_group.proofs.Common.{Row, ◌≡◌, ℕ, Bool, true, false, ◌&&◌, ◌||◌, ℤ, pos, List, [], ◌∷◌, Option, Some, None, cond, ap, sym, ◌∙◌, refl, subst, true≢false, list_any, filter, AllByRecursion, Aggregate, Sum, Count, Min, Max, numbers_for, HasAggregates, IsRowOver, step, has_puts}
-use Rattle.star_group.proofs.Common.{merged_total, cell_of_one_put, merged, IsMerged, IsMergedInto, IsRowOfOnePut, Update, aggregate_at, Group, put_number, Contains, Any-from_list_any, list_any-from_Any, or_right}
+use Rattle.star_group.proofs.Common.{merged_total, cell_of_one_put, merged, IsMerged, IsMergedInto, IsRowOfOnePut, Update, aggregate_at, Group, put_number, Contains, Any-from_list_any, list_any-from_Any}
 use Rattle.star_group.specs.Cells.{held}
 use Rattle.star_group.proofs.ContentByKeys.{plus_comm, plus_assoc, least_comm, least_assoc, greatest_comm, greatest_assoc}
 

@@ -1,6 +1,6 @@
 -- The content of a placed store, with the puts of more rows.
-use Rattle.star_group.proofs.Common.{Entry, ◌≡◌, ℕ, zero, suc, ◌+◌, ◌*◌, ◌<◌, ◌≤◌, Bool, true, false, nat_eq, cond, ℤ, pos, List, [], ◌∷◌, Option, Some, None, Result, Ok, Err, OnOk, OnErr, length, get_or, replicate, refl, ap, sym, ◌∙◌, subst, arith, ◌&&◌, filter, AllByRecursion, is_none}
-use Rattle.star_group.proofs.Common.{option_eq, get_or-replicate, length-replicate, ∥∥₁_map, Aggregate, Count, is_i64, KeyValue, cut, PutBatch, PlacedStore, KeyPart, Span, AreOnce, IsBase, HasRoomForRows, puts_after, put_in, has_puts, AreAt, IsPlaced, IsPlacedWithRoom, aggregate_cells, cell_over}
+use Rattle.star_group.proofs.Common.{Entry, ◌≡◌, ℕ, zero, suc, ◌+◌, ◌*◌, ◌<◌, ◌≤◌, Bool, true, false, nat_eq, cond, ℤ, pos, List, [], ◌∷◌, Some, None, Result, Ok, Err, OnOk, OnErr, length, get_or, replicate, refl, ap, sym, ◌∙◌, subst, arith, ◌&&◌, filter, AllByRecursion, is_none}
+use Rattle.star_group.proofs.Common.{option_eq, get_or-replicate, length-replicate, ∥∥₁_map, Aggregate, Count, is_i64, KeyValue, cut, PutBatch, PlacedStore, Span, AreOnce, IsBase, HasRoomForRows, puts_after, put_in, has_puts, AreAt, IsPlaced, IsPlacedWithRoom, aggregate_cells, cell_over}
 use Rattle.star_group.proofs.Common.{neutral, is_at, is_outside, cell_place, offset_of, group_with, group_view, entries_of, Has, IsRolledUp, AreCellsTaken, AreWithin, CanTake, after_rows, batch_lanes, column_after, lanes_of, Update, aggregate_at, Group, put_number, IsRolledUpWithRoom}
 use Rattle.star_group.proofs.Common.{IsListed, AreInBits, numbers_for, leaves, HasNarrow}
 use Rattle.star_group.proofs.PlacedCells.{IsLane, can_take, column_at, length-after_rows, seen_at}

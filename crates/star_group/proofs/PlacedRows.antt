@@ -1,5 +1,5 @@
 -- The rows and the total of puts, some of which stand by their places.
-use Rattle.star_group.proofs.Common.{Entry, Row, RowKey, ◌≡◌, ℕ, suc, ◌*◌, ◌<◌, Bool, true, false, ◌&&◌, ◌||◌, nat_eq, nat_lt, cond, ℤ, pos, List, [], ◌∷◌, Option, Some, None, length, get_or, refl, ap, sym, ◌∙◌, subst, arith, true≢false, filter, option_eq, is_none, unwrap_or, Bool-set, Contains}
+use Rattle.star_group.proofs.Common.{Entry, Row, RowKey, ◌≡◌, ℕ, suc, ◌*◌, ◌<◌, Bool, true, false, ◌&&◌, ◌||◌, nat_eq, nat_lt, ℤ, pos, List, [], ◌∷◌, Option, Some, None, length, get_or, refl, ap, sym, ◌∙◌, subst, arith, true≢false, filter, option_eq, is_none, unwrap_or, Bool-set, Contains}
 use Rattle.star_group.proofs.Common.{and-true, or-false, ∥∥₁_elim, eqb-true, lt-ltb, nat_tests, of_each, false_from_ne_true, Aggregate, numbers_for, KeyValue, leaves, Update, aggregate_at, KeyPart, Span, HasAggregates, IsRowOver, key_view, puts_with, row_found, has_puts, key_eq, padded, IsPlaced}
 use Rattle.star_group.proofs.Common.{aggregate_cells, neutral, is_at, is_outside, cell_place, places, IsMerged, IsMergedAt, MergeStays, merged, Group, PlacedStore, Has, group_view}
 use Rattle.star_group.proofs.{Filters.filter_all, Filters.filter_twice, Bases.other_row, Bases.own_row, CutRows.cut_wide, GroupKeys.key_decides, Merging.AreSplit, Merging.has_put, Merging.held_parts, Merging.no_puts, Merging.over_parts, Passes.AreOver, Filters.filter_each, PlacedCells.puts_there, SpanPlaces.within}

@@ -1,5 +1,5 @@
 -- The rows with one more place that may be ALL.
-use Rattle.star_group.proofs.Common.{Entry, Row, RowKey, ◌≡◌, ℕ, zero, suc, ◌+◌, ◌-◌, ◌<◌, ◌≤◌, Bool, true, false, ◌&&◌, ◌||◌, ℤ, List, [], ◌∷◌, ◌++◌, Option, Some, None, length, get_or, set, slice_get, map, take, drop, ap, sym, ◌∙◌, subst, refl, true≢false, arith, MatchBool, filter, list_any, Contains}
+use Rattle.star_group.proofs.Common.{Entry, Row, RowKey, ◌≡◌, ℕ, zero, suc, ◌+◌, ◌-◌, ◌<◌, ◌≤◌, Bool, true, false, ◌&&◌, ◌||◌, List, [], ◌∷◌, ◌++◌, Option, Some, None, length, get_or, set, slice_get, map, take, drop, ap, sym, ◌∙◌, subst, refl, true≢false, arith, MatchBool, filter, list_any, Contains}
 use Rattle.star_group.proofs.Common.{AllByRecursion, append_cancel_left, list_any-append, filter-append, slice_get-get_or, place_from_lookup, any_passes_from_place, list_any-from_Contains, at_each, of_each, KeyValue, KeyPart, IsRowOver, key_view, row_found, has_puts, key_eq, vary}
 use Rattle.star_group.proofs.Common.{IsMergedWhere, IsRolledUp, IsRolledUpWithRoom, NoneCoarser, RollsUp, first_finer, is_among, keys_from, IsMergedAt, RowsStay, group_with, is_row_key, Aggregate, Shape, Plain, Cube, Rollup, is_grouping, finer, ∥∥₁_elim, ∥∥₁_map, Bool-set}
 use Rattle.star_group.proofs.Common.{and-or_distrib_left, both_ways, take-length, and_parts, Update, Group, AreOnce, length-take-le, get_or-append, get_or-take, get_or_append_left}

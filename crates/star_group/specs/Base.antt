@@ -1,5 +1,5 @@
 -- The content of a deferred store: the rows of all keys alone, and the total.
-use Rattle.std.specs.Prelude.{◌≡◌, ℕ, ◌<◌, Bool, true, false, ℤ, List, Option, Some, None, filter, length, map, slice_index_or}
+use Rattle.std.specs.Prelude.{◌≡◌, ℕ, ◌<◌, Bool, true, false, List, Option, Some, None, filter, length, map, slice_index_or}
 use Rattle.std.specs.{List.AllByRecursion, Map.lookup}
 use Rattle.star_schema.specs.{declared.group.Aggregate.Aggregate, declared.group.Shape.Shape, Groups.numbers_for}
 use Rattle.star_program.specs.{declared.key.KeyValue.KeyValue, declared.key.KeyValue.TheVariants.Number as NumberKey, declared.key.KeyValue.TheVariants.Code as CodeKey, Puts.Update, Puts.aggregate_at, Puts.leaves}

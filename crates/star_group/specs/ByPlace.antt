@@ -1,9 +1,9 @@
 -- The content of a placed store: the cells of each place, and a deferred store of the other puts.
-use Rattle.std.specs.Prelude.{◌≡◌, ℕ, ◌<◌, ◌^◌, ◌-◌, Bool, false, ℤ, pos, negsuc, List, [], Option, filter, length, slice_index_or}
+use Rattle.std.specs.Prelude.{◌≡◌, ℕ, ◌<◌, ◌^◌, ◌-◌, Bool, false, ℤ, pos, negsuc, List, [], filter, length, slice_index_or}
 use Rattle.std.specs.{List.AllByRecursion, Option.unwrap_or}
 use Rattle.star_schema.specs.{declared.group.Aggregate.Aggregate, declared.group.Aggregate.TheVariants.Sum, declared.group.Aggregate.TheVariants.Count, declared.group.Aggregate.TheVariants.Min, declared.group.Aggregate.TheVariants.Max, Groups.numbers_for}
 use Rattle.star_program.specs.{Rows.cut, Puts.Update, Puts.aggregate_at}
-use Rattle.star_group.specs.{declared.keyed.key.KeyPart.KeyPart, declared.placed.span.Span.Span, Base.AreInBits, Base.IsBase, Cells.held, Held.has_puts, Places.is_at, Places.is_outside, Stores.Group}
+use Rattle.star_group.specs.{declared.placed.span.Span.Span, Base.AreInBits, Base.IsBase, Cells.held, Held.has_puts, Places.is_at, Places.is_outside, Stores.Group}
 use Rattle.star_group.specs.{Keyed.Entry, Keyed.Row}
 
 -- what a cell has of an aggregate over no numbers: no number of 64 bits changes by it

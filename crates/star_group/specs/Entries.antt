@@ -1,6 +1,6 @@
 -- What a contract sees of rows by their keys.
-use Rattle.std.specs.Prelude.{ℤ, List, Option}
-use Rattle.star_group.specs.{declared.keyed.key.KeyPart.KeyPart, declared.keyed.KeyedRows.KeyedRows, declared.keyed.ListedRows.ListedRows, Keyed.keyed}
+use Rattle.std.specs.Prelude.{List}
+use Rattle.star_group.specs.{declared.keyed.KeyedRows.KeyedRows, declared.keyed.ListedRows.ListedRows, Keyed.keyed}
 use Rattle.star_program.specs.Rows.{cut}
 use Rattle.star_group.specs.{Keyed.Entry}
 

@@ -1,10 +1,10 @@
 -- The rows in which keys are ALL, made from those in which fewer are.
-use Rattle.std.specs.Prelude.{◌≡◌, ℕ, ◌-◌, ◌<◌, ◌≤◌, Bool, false, ◌&&◌, MatchBool, ℤ, List, [], Option, None, ◌++◌, drop, filter, length, map, slice_index_or, slice_set, take}
+use Rattle.std.specs.Prelude.{◌≡◌, ℕ, ◌-◌, ◌<◌, ◌≤◌, Bool, false, ◌&&◌, MatchBool, List, [], None, ◌++◌, drop, filter, length, map, slice_index_or, slice_set, take}
 use Rattle.std.specs.{List.list_any, List.AllByRecursion, List.IsDistinct, Map.keys_of}
 use Rattle.star_schema.specs.{declared.group.Aggregate.Aggregate, declared.group.Shape.Shape, declared.group.Shape.TheVariants.Plain, declared.group.Shape.TheVariants.Rollup, Groups.is_grouping}
 use Rattle.star_program.specs.{declared.key.KeyValue.KeyValue, Puts.Update}
 use Rattle.star_group.specs.Base.{AreInBits, IsRowOver, group_with, key_view, row_found}
-use Rattle.star_group.specs.{declared.keyed.key.KeyPart.KeyPart, OwnKeys.key_eq, OwnKeys.padded, OwnKeys.vary, Stores.Group, Private.Merged.IsMergedAt}
+use Rattle.star_group.specs.{OwnKeys.key_eq, OwnKeys.padded, OwnKeys.vary, Stores.Group, Private.Merged.IsMergedAt}
 use Rattle.star_group.specs.{Keyed.Entry, Keyed.Row, OwnKeys.RowKey}
 
 -- the keys of a put's rows, with each of its keys from this place on as it is or ALL

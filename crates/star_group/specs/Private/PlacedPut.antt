@@ -1,7 +1,7 @@
 -- The rows of a batch at places, and the rows of all keys.
-use Rattle.std.specs.Prelude.{◌≡◌, ◌<◌, ℕ, Bool, ℤ, List, Option, Some, length, slice_index_or}
+use Rattle.std.specs.Prelude.{◌≡◌, ◌<◌, ℕ, Bool, ℤ, List, Some, length, slice_index_or}
 use Rattle.star_schema.specs.{declared.group.Aggregate.Aggregate, declared.group.Shape.Shape}
-use Rattle.star_group.specs.{declared.batch.PutBatch.PutBatch, declared.keyed.key.KeyPart.KeyPart, declared.placed.span.Span.Span, Batches.put_in, ByPlace.IsPlaced, Places.cell_place, Base.group_with, Private.Coarser.IsRolledUp}
+use Rattle.star_group.specs.{declared.batch.PutBatch.PutBatch, declared.placed.span.Span.Span, Batches.put_in, ByPlace.IsPlaced, Places.cell_place, Base.group_with, Private.Coarser.IsRolledUp}
 use Rattle.star_program.specs.Puts.{Update}
 use Rattle.star_group.specs.{Keyed.Entry, Keyed.Row}
 

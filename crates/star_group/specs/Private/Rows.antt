@@ -1,8 +1,7 @@
 -- Rows by their keys, and one more row merged into some of them.
-use Rattle.std.specs.Prelude.{◌≡◌, ℕ, Bool, true, false, ℤ, List, [], Option, None, map, slice_index_or, take}
+use Rattle.std.specs.Prelude.{◌≡◌, ℕ, Bool, true, false, List, [], Option, None, map, slice_index_or, take}
 use Rattle.std.specs.{List.list_any, Option.unwrap_or}
 use Rattle.star_schema.specs.{declared.group.Aggregate.Aggregate, declared.group.Shape.Shape, Groups.is_grouping}
-use Rattle.star_program.specs.declared.key.KeyValue.{KeyValue}
 use Rattle.star_group.specs.{declared.keyed.key.KeyPart.KeyPart, Base.key_view, OwnKeys.key_eq, Private.Merged.IsMergedInto, Private.Merged.MergeLeaves, Private.Merged.MergeStays}
 use Rattle.star_group.specs.{Keyed.Row, OwnKeys.RowKey}
 

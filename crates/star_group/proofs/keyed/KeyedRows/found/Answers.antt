@@ -1,4 +1,4 @@
-use Rattle.star_group.proofs.Common.{Entry, ◌≡◌, ◌∙◌, List, Option, Some, rules, ℤ, ap, length, subst, sym, take, KeyPart, keys_in, IsKeyFound}
+use Rattle.star_group.proofs.Common.{Entry, ◌≡◌, ◌∙◌, Some, rules, ap, length, subst, sym, take, keys_in, IsKeyFound}
 use Rattle.star_group.proofs.{KeyedRows.number_among, KeyedRows.row_held, KeyedRows.row_missing, ListedRows.entry_at}
 use Rattle.star_group.proofs.keyed.KeyedRows.found.Goals as goal
 

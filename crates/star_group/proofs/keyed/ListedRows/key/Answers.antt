@@ -1,4 +1,4 @@
-use Rattle.star_group.proofs.Common.{Entry, ◌∙◌, [], List, Option, ℤ, ap, arith, drop, get_or, length, sym, KeyPart, filled, cut}
+use Rattle.star_group.proofs.Common.{Entry, ◌∙◌, [], ap, arith, drop, get_or, length, sym, filled, cut}
 use Rattle.star_group.proofs.ListedRows.{entry_at, filled_narrow, key_wide}
 use Rattle.star_group.proofs.keyed.ListedRows.key.Goals as goal
 

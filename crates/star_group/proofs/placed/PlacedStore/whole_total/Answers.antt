@@ -1,4 +1,4 @@
-use Rattle.star_group.proofs.Common.{Row, ◌≡◌, ◌<◌, Some, [], List, Option, ℤ, ℕ, suc, add-one, ap, arith, get_or, length, pos, subst, sym, false, ◌∙◌, cut, group_view, places, Aggregate, Bool, None, PlacedStore, IsMerged, MergeStays}
+use Rattle.star_group.proofs.Common.{Row, ◌≡◌, ◌<◌, Some, [], List, ℤ, ℕ, suc, add-one, ap, arith, get_or, length, pos, subst, sym, false, ◌∙◌, cut, group_view, places, Aggregate, Bool, None, PlacedStore, IsMerged, MergeStays}
 use Rattle.star_group.proofs.PlacedRows.{IsRowAt, IsSummed, sum_end, sum_more, sum_skip, sum_start, sum_stays}
 use Rattle.star_group.proofs.placed.PlacedStore.whole_total.Goals.{then-seen-place, else-seen-place}
 use Rattle.star_group.proofs.placed.PlacedStore.whole_total.Goals as goal
