@@ -1,5 +1,5 @@
 -- What every plan keeps, and when it fits the sample.
-use Rattle.std.proofs.Common.{◌≡◌, ◌≤◌, ◌^◌, ℕ, ℤ, true, false, List, [], ◌∷◌, Some, None, length, pos, refl}
+use Rattle.std.proofs.Common.{◌≡◌, ◌≤◌, ◌^◌, ℕ, ℤ, Bool, true, false, List, [], ◌∷◌, Some, None, length, pos, refl}
 use Rattle.std.specs.Prelude.{IsTrue, codes, neg_ℤ, replicate, sum_by}
 use Rattle.std.specs.{List.list_all}
 use Rattle.star_common.proofs.Tables.{Gives, Gives2}
@@ -8,7 +8,8 @@ use Rattle.star_schema.specs.{declared.table.Key.TheVariants.Two, declared.table
 use Rattle.star_schema.specs.{declared.group.GroupColumn.TheVariants.Key, declared.group.GroupColumn.TheVariants.Aggregate, Bounds.greatest as greatest_number, Bounds.least as least_number, Bounds.numbers_at, Columns.bounds_in, Records.pieces, Schema.column_of, Schema.columns_of}
 use Rattle.star_schema.specs.{Schema.place_of, Schema.table_of, Tables.Number, Tables.Text}
 use Rattle.star_interval.specs.Range.{Range, is_i64, only}
-use Rattle.star_query.specs.Tree.{Expression, Name, Tree, add, and, column, constant, count, mul, not, or, sub}
+use Rattle.star_query.specs.Leaves.{is_so}
+use Rattle.star_query.specs.Tree.{Expression, Name, Tree, add, and, column, constant, count, mul, not, or, sub, test}
 use Rattle.star_query.specs.{declared.token.Relation.TheVariants.Equal, Limits.comparisons_of, Limits.measure_operands, Limits.operands_of, Spelled.has_few_digits, Spelled.is_name, Spelled.is_printable_text}
 use Rattle.star_plan.specs.Sound.{IsSoundPlan, are_distinct, condition_is_sound, expression_is_sound, in_scope, is_group_column, measure_is_sound}
 use Rattle.star_plan.specs.{declared.tree.Join.Join, Fits.Fits, Fits.expression_range, Fits.measure_fits, Fits.nodes_fit, Joins.is_foreign, Joins.is_joined, Joins.is_lone_key, Joins.joins, Limits.IsPlanWithinLimits, Meaning.Plan, Meaning.RowCondition, Meaning.value_in}
@@ -44,6 +45,15 @@ conditions_sound : Gives (condition_is_sound dated) (
     × Gives (in_scope dated) ((Lineorder, true) ∷ (Date, true) ∷ (Part, false) ∷ [])
 unfolding column_of
 conditions_sound = (refl, refl)
+
+-- `or`, `and` and `not` inside one another
+nested_conditions : Gives (is_so (λ (b : Bool). b)) (
+    (or (and (test true) (test false)) (test false), false)
+    ∷ (or (test false) (and (test true) (test false)), false)
+    ∷ (and (or (test true) (test false)) (test true), true)
+    ∷ (and (test true) (or (test false) (test true)), true)
+    ∷ (not (or (test true) (test false)), false) ∷ [])
+nested_conditions = refl
 
 measures_sound : Gives (expression_is_sound dated) (
     (tax, true) ∷ (column DYear, true) ∷ (mode, false) ∷ (column PSize, false)
