@@ -3,6 +3,7 @@
 use crate::files::{append, copy_folder, counted, edit, formatted, repeated};
 use crate::printed::Printed;
 use star_cli::{StandardInput, command};
+use star_common::Out;
 use std::alloc::Global;
 use std::{fs, io};
 
@@ -45,8 +46,8 @@ fn run_star(rt: &HostRuntime, words: &[&str], input: &[u8]) -> io::Result<Printe
         owned.as_slice(),
         input,
         &mut (),
-        &mut printed.out,
-        &mut printed.err,
+        &mut Out::new(&mut printed.out),
+        &mut Out::new(&mut printed.err),
     );
     Ok(printed)
 }

@@ -1,6 +1,6 @@
 -- What is answered to a task, by its steps.
 use Rattle.std.proofs.Common.{◌≡◌, ℕ, List, Bool, true, false, inl, refl, subst, sym}
-use Rattle.std.specs.Prelude.{◌↔◌, Result, Ok, Err, IfOk, IsTrue}
+use Rattle.std.specs.Prelude.{◌↔◌, Result, Err, IfOk, IsTrue}
 use Rattle.star_schema.specs.{Database.TableTexts, Loadable.IsLoadable, Loadable.database_of, Most.most_rows, Most.most_visits, declared.limits.Limits.Limits}
 use Rattle.star_verify.specs.declared.refusal.Refusal.{Refusal}
 use Rattle.star_engine.specs.Queries.{IsExplained, IsNoQuery, IsQueryQuote, IsQueryTold, IsUnanswered}

@@ -3,3 +3,4 @@ mod WorkedFailures
 pub mod Giving
 pub mod Loading
 pub mod FolderReads
+mod Steps

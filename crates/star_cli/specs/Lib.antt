@@ -1,4 +1,5 @@
 pub mod Answers
+pub mod Commands
 pub mod Failures
 pub mod FolderLoads
 pub mod Private

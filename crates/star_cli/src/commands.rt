@@ -1,9 +1,15 @@
 // The commands of the program.
 
-ghost use Rattle.std.specs.Prelude.{◌≡◌, true, IfOk, IfSome};
-ghost use Rattle.star_cli.specs.ReadFolders.{AreWidelyRead};
+ghost use Rattle.std.specs.Prelude.{◌≡◌, true, false, IfOk, IfSome, map, string_bytes};
 ghost use Rattle.star_engine.specs.Answered.{change};
-ghost use Rattle.star_service.specs.Reports.{AreAllJudged};
+ghost use Rattle.star_service.specs.Reports.{AreAllDelivered, AreAllJudged};
+ghost use Rattle.star_cli.specs.Commands as spec;
+ghost use Rattle.star_cli.specs.Commands.{AreReportsDone, IsCommandDone, IsHeld, IsSessionDone, IsTaskDone};
+ghost use Rattle.star_cli.specs.FolderLoads.{IsWidest};
+ghost use Rattle.star_cli.specs.Private.Steps.{AreTablesFor, HasTables, IsKept};
+ghost use Rattle.star_cli.specs.declared.directory.Directory.{Directory};
+ghost use Rattle.star_words.specs.Requests.{HasMostRows};
+ghost use Rattle.star_words.specs.declared.request.Request.TheVariants.{Answer};
 
 use crate::answers::{answer, explain};
 use crate::directory::Directory;
@@ -30,38 +36,60 @@ struct Read {
     file: Vec<u8>,
 }
 
+// Reads the tables of a folder.
+fn read_folder<R: Files + AllocGlobal, P: Watch>(
+    rt: &R,
+    folder: &str,
+    progress: &mut P,
+) -> Result<Read, Failure<'static>>
+    ensures { IfOk result HasTables }
+{
+    Ok(Read {
+        tables: Some(read_tables(rt, folder, progress)?),
+        file: Vec::new(rt.alloc()),
+    })
+}
+
+// Reads a file, and then the tables of a folder.
+fn read_both<'a, R: Files + AllocGlobal, P: Watch>(
+    rt: &R,
+    folder: &str,
+    file: &'a str,
+    progress: &mut P,
+) -> Result<Read, Failure<'a>>
+    ensures { IfOk result HasTables }
+{
+    let file = read_file(rt, file)?;
+    Ok(Read {
+        tables: Some(read_tables(rt, folder, progress)?),
+        file,
+    })
+}
+
 // Reads what a task is about: its file first, and then its tables.
 fn read_for<'a, R: Files + AllocGlobal, P: Watch>(
     rt: &R,
     task: Task<'a>,
     progress: &mut P,
 ) -> Result<Read, Failure<'a>>
-    ensures { IfOk result (λ read. IfSome read.tables AreWidelyRead) }
+    ensures { IfOk result (λ read. AreTablesFor task.entry read.tables) }
 {
-    Ok(match task {
-        Task::Sample => Read {
+    match task {
+        Task::Sample => Ok(Read {
             tables: Some(sample_tables(rt.alloc())?),
             file: Vec::new(rt.alloc()),
-        },
-        Task::Explain { file } => Read {
+        }),
+        Task::Explain { file } => Ok(Read {
             tables: None,
             file: read_file(rt, file)?,
-        },
-        Task::Check { folder } | Task::Bench { folder } => Read {
-            tables: Some(read_tables(rt, folder, progress)?),
-            file: Vec::new(rt.alloc()),
-        },
-        Task::Query { folder, file }
-        | Task::Exec { folder, file }
-        | Task::Quote { folder, file }
-        | Task::Trial { folder, file, .. } => {
-            let file = read_file(rt, file)?;
-            Read {
-                tables: Some(read_tables(rt, folder, progress)?),
-                file,
-            }
-        }
-    })
+        }),
+        Task::Check { folder } => read_folder(rt, folder, progress),
+        Task::Bench { folder } => read_folder(rt, folder, progress),
+        Task::Query { folder, file } => read_both(rt, folder, file, progress),
+        Task::Exec { folder, file } => read_both(rt, folder, file, progress),
+        Task::Quote { folder, file } => read_both(rt, folder, file, progress),
+        Task::Trial { folder, file, .. } => read_both(rt, folder, file, progress),
+    }
 }
 
 // Answers a task over what was read for it; without tables it is an explanation.
@@ -72,7 +100,10 @@ fn answer_over<S: Sink, E: Sink>(
     out: &mut S,
     err: &mut E,
 ) -> u8
-    requires { IfSome read.tables AreWidelyRead }
+    requires { AreTablesFor task read.tables }
+    ensures { HasMostRows (Answer task.entry) → IsTaskDone task.entry
+        (change S.contents S.is_failed out.old out.new)
+        (change E.contents E.is_failed err.old err.new) result }
 {
     let Read { tables, file } = read;
     match tables {
@@ -88,7 +119,11 @@ fn answer_task<R: Files + AllocGlobal, P: Watch, S: Sink, E: Sink>(
     progress: &mut P,
     out: &mut S,
     err: &mut E,
-) -> u8 {
+) -> u8
+    ensures { HasMostRows (Answer task.entry) → IsTaskDone task.entry
+        (change S.contents S.is_failed out.old out.new)
+        (change E.contents E.is_failed err.old err.new) result }
+{
     match read_for(rt, task, progress) {
         Ok(read) => answer_over(rt.alloc(), task, read, out, err),
         Err(failure) => failure.tell(rt.alloc(), out, err),
@@ -102,7 +137,11 @@ fn hold_over<I: io::Read + Drop, S: Sink, E: Sink>(
     input: StandardInput<I>,
     out: &mut S,
     err: &mut E,
-) -> u8 {
+) -> u8
+    ensures { IsHeld engine.now (spec.input_of (I.remaining input.reader) input.is_terminal)
+        (change S.contents S.is_failed out.old out.new)
+        (change E.contents E.is_failed err.old err.new) result }
+{
     let StandardInput {
         reader,
         is_terminal,
@@ -116,7 +155,18 @@ fn hold_over<I: io::Read + Drop, S: Sink, E: Sink>(
             out,
             err,
         ),
-        Err(_) => Failure::from(AllocError).tell(alloc, out, err),
+        Err(_) => Failure::OutOfMemory.tell(alloc, out, err),
+    }
+}
+
+// Returns the first line of a session at a terminal, before the tables are loaded.
+fn greeting_of(is_terminal: bool) -> &'static str
+    ensures { result.now ≡ spec.greeting_of is_terminal }
+{
+    if is_terminal {
+        "loading the tables\n"
+    } else {
+        ""
     }
 }
 
@@ -128,10 +178,12 @@ fn hold_session<R: Files + AllocGlobal, I: io::Read + Drop, P: Watch, S: Sink, E
     progress: &mut P,
     out: &mut S,
     err: &mut E,
-) -> u8 {
-    if input.is_terminal {
-        tell(err, b"loading the tables\n");
-    }
+) -> u8
+    ensures { IsSessionDone (spec.input_of (I.remaining input.reader) input.is_terminal)
+        (change S.contents S.is_failed out.old out.new)
+        (change E.contents E.is_failed err.old err.new) result }
+{
+    tell(err, greeting_of(input.is_terminal).as_bytes());
     match load_engine(rt, folder, progress, out, err) {
         Ok(engine) => hold_over(rt.alloc(), &engine, input, out, err),
         Err(status) => status,
@@ -147,8 +199,11 @@ fn report_over<'f, R: Files + AllocGlobal, S: Sink>(
     errands: &[Errand<'f>],
     out: &mut S,
 ) -> Result<bool, Halt<'f>>
-    ensures { asked.now.is_quote ≡ true → AreAllJudged engine.now errands.now
+    ensures quoted { asked.now.is_quote ≡ true → AreAllJudged engine.now errands.now
         (change S.contents S.is_failed out.old out.new) result }
+    ensures made { asked.now.is_quote ≡ false
+        → IsKept {K = Directory R} (λ shelf. AreAllDelivered engine.now errands.now shelf
+        (change S.contents S.is_failed out.old out.new) result) }
 {
     if asked.is_quote {
         return judge_all(rt.alloc(), engine, errands, out);
@@ -161,7 +216,29 @@ fn report_over<'f, R: Files + AllocGlobal, S: Sink>(
     deliver_all(rt.alloc(), engine, errands, &mut shelf, out)
 }
 
-// Loads the tables, does what is asked of files that were read, and gives the exit status.
+// Makes the reports of files over loaded tables, and returns the exit status.
+fn report_loaded<R: Files + AllocGlobal, S: Sink, E: Sink>(
+    rt: &R,
+    engine: &Engine,
+    asked: &Reports<'_>,
+    files: &[ReadFile<'_>],
+    out: &mut S,
+    err: &mut E,
+) -> u8
+    ensures { IsWidest engine.now → AreReportsDone (Directory R) asked.now.is_quote
+        (change S.contents S.is_failed out.old out.new)
+        (change E.contents E.is_failed err.old err.new) result }
+{
+    match errands_of(rt.alloc(), files) {
+        Ok(errands) => {
+            let made = report_over(rt, engine, asked, errands.as_slice(), out);
+            end(rt.alloc(), made, out, err)
+        }
+        Err(_) => Failure::OutOfMemory.tell(rt.alloc(), out, err),
+    }
+}
+
+// Loads the tables, makes the reports of files that were read, and returns the exit status.
 fn report_read<R: Files + AllocGlobal, P: Watch, S: Sink, E: Sink>(
     rt: &R,
     asked: &Reports<'_>,
@@ -169,16 +246,15 @@ fn report_read<R: Files + AllocGlobal, P: Watch, S: Sink, E: Sink>(
     progress: &mut P,
     out: &mut S,
     err: &mut E,
-) -> u8 {
-    let engine = match load_engine(rt, asked.folder, progress, out, err) {
-        Ok(engine) => engine,
-        Err(status) => return status,
-    };
-    let made = match errands_of(rt.alloc(), files) {
-        Ok(errands) => report_over(rt, &engine, asked, errands.as_slice(), out),
-        Err(error) => Err(Halt::from(error)),
-    };
-    end(rt.alloc(), made, out, err)
+) -> u8
+    ensures { AreReportsDone (Directory R) asked.now.is_quote
+        (change S.contents S.is_failed out.old out.new)
+        (change E.contents E.is_failed err.old err.new) result }
+{
+    match load_engine(rt, asked.folder, progress, out, err) {
+        Ok(engine) => report_loaded(rt, &engine, asked, files, out, err),
+        Err(status) => status,
+    }
 }
 
 // Reads the files that reports are asked of, and sees to it that there is a folder for the reports.
@@ -198,37 +274,52 @@ fn make_reports<R: Files + AllocGlobal, P: Watch, S: Sink, E: Sink>(
     progress: &mut P,
     out: &mut S,
     err: &mut E,
-) -> u8 {
+) -> u8
+    ensures { AreReportsDone (Directory R) asked.now.is_quote
+        (change S.contents S.is_failed out.old out.new)
+        (change E.contents E.is_failed err.old err.new) result }
+{
     match ready(rt, asked) {
         Ok(files) => report_read(rt, asked, files.as_slice(), progress, out, err),
         Err(failure) => failure.tell(rt.alloc(), out, err),
     }
 }
 
-/// Does what the words ask for, the program's own name left off, and gives the exit status: 0
-/// where all is well, 1 for a query or a program that is refused, or a program that is trapped or
-/// meets its limit, 2 for words that are no command, 3 for table files that can't be loaded, 4 for
-/// a file that is no query, 5 for a file that is no program, 6 for a file that can't be read or
-/// output that can't be written, 7 for want of memory. A session reads its statements from `input`;
-/// nothing else does. `progress` is told how far the reading of the tables' files is, before anything
-/// else is written, but for the first line of a session.
-pub fn command<R: Files + AllocGlobal, I: io::Read + Drop, P: Watch, W: Write, E: Write>(
+/// Carries out the request of the arguments `words`, without the program's own name, over two sinks, and
+/// returns the exit status.
+///
+/// - 0: success;
+/// - 1: a query or program was refused, or a program trapped or reached its limit;
+/// - 2: the arguments are not a command;
+/// - 3: the table files can't be loaded;
+/// - 4: a file is not a query;
+/// - 5: a file is not a program;
+/// - 6: a file can't be read, or output can't be written;
+/// - 7: out of memory.
+///
+/// Only a session reads from `input`. `progress` is shown how far the table files are read, before
+/// any other output but the first line of a session.
+pub fn command<R: Files + AllocGlobal, I: io::Read + Drop, P: Watch, S: Sink, E: Sink>(
     rt: &R,
     words: &[String],
     input: StandardInput<I>,
     progress: &mut P,
-    out: &mut W,
+    out: &mut S,
     err: &mut E,
-) -> u8 {
-    let mut answers = Out::new(&mut *out);
-    let mut notes = Out::new(&mut *err);
-    match request_of(rt.alloc(), words) {
-        Ok(Request::Answer(task)) => answer_task(rt, task, progress, &mut answers, &mut notes),
-        Ok(Request::Session { folder }) => {
-            hold_session(rt, folder, input, progress, &mut answers, &mut notes)
-        }
-        Ok(Request::Reports(asked)) => make_reports(rt, &asked, progress, &mut answers, &mut notes),
-        Err(fault) => Failure::from(fault).tell(rt.alloc(), &mut answers, &mut notes),
+) -> u8
+    ensures { IsCommandDone (Directory R) (map string_bytes words.now)
+        (spec.input_of (I.remaining input.reader) input.is_terminal)
+        (change S.contents S.is_failed out.old out.new)
+        (change E.contents E.is_failed err.old err.new) result }
+{
+    let request = match request_of(rt.alloc(), words) {
+        Ok(request) => request,
+        Err(fault) => return Failure::Words(fault).tell(rt.alloc(), out, err),
+    };
+    match request {
+        Request::Answer(task) => answer_task(rt, task, progress, out, err),
+        Request::Session { folder } => hold_session(rt, folder, input, progress, out, err),
+        Request::Reports(asked) => make_reports(rt, &asked, progress, out, err),
     }
 }
 
@@ -258,12 +349,10 @@ pub fn run<R: Env + Files + AllocGlobal, I: io::Read + Drop, P: Watch, W: Write,
     out: &mut W,
     err: &mut E,
 ) -> u8 {
+    let mut answers = Out::new(&mut *out);
+    let mut notes = Out::new(&mut *err);
     match read_words(rt) {
-        Ok(words) => command(rt, words.as_slice(), input, progress, out, err),
-        Err(error) => failure_of_words(&error).tell(
-            rt.alloc(),
-            &mut Out::new(&mut *out),
-            &mut Out::new(&mut *err),
-        ),
+        Ok(words) => command(rt, words.as_slice(), input, progress, &mut answers, &mut notes),
+        Err(error) => failure_of_words(&error).tell(rt.alloc(), &mut answers, &mut notes),
     }
 }

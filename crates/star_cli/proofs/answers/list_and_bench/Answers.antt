@@ -1,4 +1,4 @@
-use Rattle.std.proofs.Common.{Ok, Err, inl, inr, refl}
+use Rattle.std.proofs.Common.{inl, inr, refl}
 use Rattle.star_engine.specs.Answered.{change}
 use Rattle.star_cli.proofs.Giving.{benched, listed}
 use Rattle.star_cli.proofs.answers.list_and_bench.Goals as goal
