@@ -109,8 +109,14 @@ pub held : {S E : Type 0} (out : Change S) (err : Change E) (status : ℕ) (load
     → IsSession loaded input.is_terminal old left failed out err status
     → IsHeld loaded input out err status
 held out err status loaded input old left failed same is =
-    inl (left, (failed, subst (λ bytes. IsSession loaded input.is_terminal bytes left failed out err
-    status) same is))
+    inl (
+      left,
+      (
+        failed,
+        subst (λ bytes. IsSession loaded input.is_terminal bytes left failed out err
+            status) same is,
+      ),
+    )
 
 -- ---- reports
 

@@ -352,7 +352,14 @@ pub fn run<R: Env + Files + AllocGlobal, I: io::Read + Drop, P: Watch, W: Write,
     let mut answers = Out::new(&mut *out);
     let mut notes = Out::new(&mut *err);
     match read_words(rt) {
-        Ok(words) => command(rt, words.as_slice(), input, progress, &mut answers, &mut notes),
+        Ok(words) => command(
+            rt,
+            words.as_slice(),
+            input,
+            progress,
+            &mut answers,
+            &mut notes,
+        ),
         Err(error) => failure_of_words(&error).tell(rt.alloc(), &mut answers, &mut notes),
     }
 }
