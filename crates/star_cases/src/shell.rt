@@ -2,8 +2,7 @@
 
 use crate::files::{append, copy_folder, counted, edit, formatted, repeated};
 use crate::printed::Printed;
-use star_cli::{StandardInput, command};
-use star_common::Out;
+use star_cli::{StandardInput, command_to};
 use std::alloc::Global;
 use std::{fs, io};
 
@@ -41,13 +40,13 @@ fn run_star(rt: &HostRuntime, words: &[&str], input: &[u8]) -> io::Result<Printe
         is_terminal: false,
     };
     let mut printed = Printed::nothing(rt.alloc());
-    printed.status = command(
+    printed.status = command_to(
         rt,
         owned.as_slice(),
         input,
         &mut (),
-        &mut Out::new(&mut printed.out),
-        &mut Out::new(&mut printed.err),
+        &mut printed.out,
+        &mut printed.err,
     );
     Ok(printed)
 }

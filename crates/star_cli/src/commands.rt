@@ -323,6 +323,21 @@ pub fn command<R: Files + AllocGlobal, I: io::Read + Drop, P: Watch, S: Sink, E:
     }
 }
 
+/// Carries out the request of the arguments `words` over two writers, as `command` does over sinks, and
+/// returns its exit status.
+pub fn command_to<R: Files + AllocGlobal, I: io::Read + Drop, P: Watch, W: Write, E: Write>(
+    rt: &R,
+    words: &[String],
+    input: StandardInput<I>,
+    progress: &mut P,
+    out: &mut W,
+    err: &mut E,
+) -> u8 {
+    let mut answers = Out::new(&mut *out);
+    let mut notes = Out::new(&mut *err);
+    command(rt, words, input, progress, &mut answers, &mut notes)
+}
+
 // The words of the command line, without the program's own name.
 fn read_words<R: Env + AllocGlobal>(rt: &R) -> io::Result<Vec<String>> {
     let mut words = Vec::new(rt.alloc());

@@ -13,7 +13,7 @@ mod loads;
 mod progress;
 
 pub use crate::answers::{answer, explain};
-pub use crate::commands::{command, run};
+pub use crate::commands::{command, command_to, run};
 pub use crate::input::StandardInput;
 pub use crate::loads::load_engine;
 pub use crate::progress::{Progress, TableFile, Watch};

@@ -4,8 +4,7 @@
 use crate::checks::{check_same, check_text};
 use crate::files::Folder;
 use crate::streams::Short;
-use star_cli::{StandardInput, Watch, command};
-use star_common::Out;
+use star_cli::{StandardInput, Watch, command_to};
 use std::alloc::{AllocError, Global};
 use std::io::Read;
 use std::process::Abort;
@@ -67,9 +66,7 @@ pub(crate) fn run_watched<R: Files + AllocGlobal, I: Read + Drop, P: Watch>(
 ) -> Result<Ran, AllocError> {
     let mut out = Short::with_room(rt.alloc(), room.0, 3)?;
     let mut err = Short::with_room(rt.alloc(), room.1, 2)?;
-    let mut answers = Out::new(&mut out);
-    let mut notes = Out::new(&mut err);
-    match command(rt, words, input, watch, &mut answers, &mut notes) {
+    match command_to(rt, words, input, watch, &mut out, &mut err) {
         7 => Err(AllocError),
         status => Ok(Ran {
             status,
