@@ -18,6 +18,7 @@ use crate::failure::{Failure, end};
 use crate::files::{find_folder, read_file, read_tables, sample_tables};
 use crate::input::StandardInput;
 use crate::loads::load_engine;
+use crate::partials::{make_partial, merge_partials};
 use crate::progress::Watch;
 use star_common::{Out, Sink};
 use star_engine::{Engine, ReadTables};
@@ -295,7 +296,8 @@ fn make_reports<R: Files + AllocGlobal, P: Watch, S: Sink, E: Sink>(
 /// - 4: a file is not a query;
 /// - 5: a file is not a program;
 /// - 6: a file can't be read, or output can't be written;
-/// - 7: out of memory.
+/// - 7: out of memory;
+/// - 8: a file is not a partial, or can't be merged.
 ///
 /// Only a session reads from `input`. `progress` is shown how far the table files are read, before
 /// any other output but the first line of a session.
@@ -320,6 +322,10 @@ pub fn command<R: Files + AllocGlobal, I: io::Read + Drop, P: Watch, S: Sink, E:
         Request::Answer(task) => answer_task(rt, task, progress, out, err),
         Request::Session { folder } => hold_session(rt, folder, input, progress, out, err),
         Request::Reports(asked) => make_reports(rt, &asked, progress, out, err),
+        Request::Partial { folder, file, part } => {
+            make_partial(rt, folder, file, part, progress, out, err)
+        }
+        Request::Merge(asked) => merge_partials(rt, &asked, out, err),
     }
 }
 

@@ -94,6 +94,14 @@ pub(crate) fn read_file<'a, R: Files + AllocGlobal>(
     read_at_most(rt, path, path, MOST_FILE_BYTES)
 }
 
+/// Reads the file of a partial.
+pub(crate) fn read_partial_file<'a, R: Files + AllocGlobal>(
+    rt: &R,
+    path: &'a str,
+) -> Result<Vec<u8>, Failure<'a>> {
+    read_at_most(rt, path, path, MOST_TABLE_BYTES)
+}
+
 // The failure that names a file of a table.
 fn named(file: TableFile) -> Failure<'static> {
     match file {
@@ -238,10 +246,47 @@ fn read_lineorder<R: Files + AllocGlobal, P: Watch>(
     Ok(boxed(rt.alloc(), reader)?)
 }
 
-// Reads the tables of a folder, in their order.
+// Reads lineorder from the file of one part, or from its whole file if the part's number is 0.
+fn read_one_part<R: Files + AllocGlobal, P: Watch>(
+    rt: &R,
+    folder: &str,
+    part: u16,
+    progress: &mut P,
+) -> Result<Box<TableReader>, Failure<'static>>
+    ensures { IfOk result (λ reader. HasReadSome reader.value TableId.Lineorder) }
+{
+    let file = if part == 0 {
+        TableFile::Named(LINEORDER)
+    } else {
+        TableFile::Part(part)
+    };
+    let mut reader = TableReader::new(rt.alloc(), TableId::Lineorder, Limits::widest())?;
+    if !feed_file(rt, folder, file, &mut reader, progress)? {
+        return Err(named(file));
+    }
+    Ok(boxed(rt.alloc(), reader)?)
+}
+
+// Reads all of lineorder, or one part of it.
+fn read_parts<R: Files + AllocGlobal, P: Watch>(
+    rt: &R,
+    folder: &str,
+    only: Option<u16>,
+    progress: &mut P,
+) -> Result<Box<TableReader>, Failure<'static>>
+    ensures { IfOk result (λ reader. HasReadSome reader.value TableId.Lineorder) }
+{
+    match only {
+        Some(number) => read_one_part(rt, folder, number, progress),
+        None => read_lineorder(rt, folder, progress),
+    }
+}
+
+// Reads the tables of a folder, in their order: all of lineorder, or one part of it.
 fn read_all<R: Files + AllocGlobal, P: Watch>(
     rt: &R,
     folder: &str,
+    only: Option<u16>,
     progress: &mut P,
 ) -> Result<ReadTables, Failure<'static>>
     ensures { IfOk result AreWidelyRead }
@@ -250,7 +295,7 @@ fn read_all<R: Files + AllocGlobal, P: Watch>(
     let customer = read_table(rt, folder, "customer.tbl", TableId::Customer, progress)?;
     let supplier = read_table(rt, folder, "supplier.tbl", TableId::Supplier, progress)?;
     let part = read_table(rt, folder, "part.tbl", TableId::Part, progress)?;
-    let lineorder = read_lineorder(rt, folder, progress)?;
+    let lineorder = read_parts(rt, folder, only, progress)?;
     Ok(ReadTables {
         date,
         customer,
@@ -272,7 +317,23 @@ pub(crate) fn read_tables<R: Files + AllocGlobal, P: Watch>(
     ensures { IfOk result AreWidelyRead }
 {
     progress.begin();
-    let read = read_all(rt, folder, progress);
+    let read = read_all(rt, folder, None, progress);
+    progress.end();
+    read
+}
+
+/// Reads the dimensions of a folder and one part of lineorder, or its whole file if the part's number
+/// is 0.
+pub(crate) fn read_part_tables<R: Files + AllocGlobal, P: Watch>(
+    rt: &R,
+    folder: &str,
+    part: u16,
+    progress: &mut P,
+) -> Result<ReadTables, Failure<'static>>
+    ensures { IfOk result AreWidelyRead }
+{
+    progress.begin();
+    let read = read_all(rt, folder, Some(part), progress);
     progress.end();
     read
 }

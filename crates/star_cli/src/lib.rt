@@ -10,6 +10,7 @@ mod failure;
 mod files;
 mod input;
 mod loads;
+mod partials;
 mod progress;
 
 pub use crate::answers::{answer, explain};

@@ -22,6 +22,8 @@ pub data Asked : Type 0 where
   trial : (folder file : Word) (visits : ℕ) → Asked
   session : (folder : Word) → Asked
   reports : (folder target : Word) (files : List Word) (is_quote : Bool) → Asked
+  partial : (folder file : Word) (part : ℕ) → Asked
+  merge : (file : Word) (partials : List Word) (is_distinct : Bool) → Asked
 
 -- ---- operands and options
 
@@ -66,9 +68,24 @@ with_two command folder file =
     else (if bytes_eq command (codes "exec") then Some (exec folder file)
     else (if bytes_eq command (codes "quote") then Some (quote folder file) else None))
 
-abbrev pub with_three : (command folder file limit : Word) → Option Asked
-with_three command folder file limit =
-    if bytes_eq command (codes "trial") then option_map (trial folder file) (limit_of limit) else None
+abbrev pub trial_of : (folder file limit : Word) → Option Asked
+trial_of folder file limit = option_map (trial folder file) (limit_of limit)
+
+-- the number of a part: one from 1 to 1,000, or 0 for the whole
+abbrev pub part_within : Option ℕ → Option ℕ
+part_within None = None
+part_within (Some part) = if nat_le part 1000 then Some part else None
+
+abbrev pub part_of : Word → Option ℕ
+part_of word = part_within (limit_of word)
+
+abbrev pub partial_of : (folder file part : Word) → Option Asked
+partial_of folder file part = option_map (partial folder file) (part_of part)
+
+abbrev pub with_three : (command folder file last : Word) → Option Asked
+with_three command folder file last =
+    if bytes_eq command (codes "trial") then trial_of folder file last
+    else (if bytes_eq command (codes "partial") then partial_of folder file last else None)
 
 -- a command without options
 abbrev pub plain : (command : Word) → (operands : List Word) → Option Asked
@@ -83,13 +100,29 @@ reports_of is_quote (folder ∷ target ∷ file ∷ files) =
     if nat_lt (length files) 1000 then Some (reports folder target (file ∷ files) is_quote) else None
 reports_of is_quote operands = None
 
--- the one option is `--quote` of `reports`
-abbrev pub asked_by : (command : Word) → (options operands : List Word) → Option Asked
-asked_by command [] operands =
-    if bytes_eq command (codes "reports") then reports_of false operands else plain command operands
-asked_by command (option ∷ []) operands =
+-- `merge`, of 1 to 1,000 partials
+abbrev pub merge_of : (is_distinct : Bool) → (operands : List Word) → Option Asked
+merge_of is_distinct (file ∷ first ∷ more) =
+    if nat_lt (length more) 1000 then Some (merge file (first ∷ more) is_distinct) else None
+merge_of is_distinct operands = None
+
+abbrev pub without_option : (command : Word) → (operands : List Word) → Option Asked
+without_option command operands =
+    if bytes_eq command (codes "reports") then reports_of false operands
+    else (if bytes_eq command (codes "merge") then merge_of false operands
+    else plain command operands)
+
+-- the options are `--quote` of `reports` and `--distinct` of `merge`
+abbrev pub with_option : (command option : Word) → (operands : List Word) → Option Asked
+with_option command option operands =
     if bytes_eq command (codes "reports") && bytes_eq option (codes "--quote")
-    then reports_of true operands else None
+    then reports_of true operands
+    else (if bytes_eq command (codes "merge") && bytes_eq option (codes "--distinct")
+    then merge_of true operands else None)
+
+abbrev pub asked_by : (command : Word) → (options operands : List Word) → Option Asked
+asked_by command [] operands = without_option command operands
+asked_by command (option ∷ []) operands = with_option command option operands
 asked_by command options operands = None
 
 -- what a command line asks for, if it is a command
@@ -114,6 +147,9 @@ request_asked (request.Answer task) = task_asked task
 request_asked (request.Session folder) = session folder.now
 request_asked (request.Reports given) = reports given.folder.now given.target.now
     (map (λ file. file.now) given.files.items) given.is_quote
+request_asked (request.Partial folder file part) = partial folder.now file.now part
+request_asked (request.Merge given) = merge given.file.now
+    (map (λ path. path.now) given.partials.items) given.is_distinct
 
 -- a task over tables of as many rows as there may be: no argument bounds them
 abbrev pub HasMostRows : Request → Type 0
@@ -137,6 +173,8 @@ names_folders (exec folder file) = is_named folder
 names_folders (quote folder file) = is_named folder
 names_folders (trial folder file visits) = is_named folder
 names_folders (reports folder target files is_quote) = is_named folder && is_named target
+names_folders (partial folder file part) = is_named folder
+names_folders (merge file partials is_distinct) = true
 
 -- ---- requests and refusals
 

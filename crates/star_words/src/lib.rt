@@ -4,8 +4,9 @@
 mod fault;
 mod help;
 mod parser;
+mod partials;
 mod refusal;
 mod request;
 
 pub use crate::fault::WordsFault;
-pub use crate::request::{Reports, Request, Task, request_of};
+pub use crate::request::{Merge, Reports, Request, Task, request_of};

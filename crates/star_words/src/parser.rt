@@ -63,6 +63,31 @@ fn quote_flag<'a>(alloc: Global) -> Arg<'a> {
         .action(ArgAction::SetTrue)
 }
 
+fn part_word<'a>(alloc: Global) -> Arg<'a> {
+    word(
+        alloc,
+        "PART",
+        "The number of a part of lineorder, from 1 to 1000, or 0 for lineorder.tbl",
+    )
+    .allow_negative_numbers(true)
+    .value_parser(value_parser!(i64).range(0..=1000))
+}
+
+fn partial_words<'a>(alloc: Global) -> Arg<'a> {
+    Arg::new(alloc, "PARTIAL")
+        .help("1 to 1000 files with the partials of the query, in any order")
+        .required(true)
+        .num_args(1..=1000)
+        .action(ArgAction::Append)
+}
+
+fn distinct_flag<'a>(alloc: Global) -> Arg<'a> {
+    Arg::new(alloc, "distinct")
+        .long("distinct")
+        .help("Merges partials whose keys overlap: no order line may be in two of them")
+        .action(ArgAction::SetTrue)
+}
+
 /// What a command asks for.
 #[derive(Clone, Copy)]
 pub(crate) enum Asked {
@@ -74,6 +99,9 @@ pub(crate) enum Asked {
     FolderFileAndLimit(&'static str),
     /// A folder, a folder for reports, and files.
     FoldersAndFiles,
+    FolderFileAndPart(&'static str),
+    /// A file, and partials.
+    FileAndPartials(&'static str),
 }
 
 /// Makes a command that asks for what `asked` says.
@@ -97,6 +125,14 @@ pub(crate) fn asking<'a>(
             .arg(word(alloc, "TARGET", "An existing folder for the reports"))?
             .arg(file_words(alloc))?
             .arg(quote_flag(alloc)),
+        Asked::FolderFileAndPart(file) => start
+            .arg(folder_word(alloc))?
+            .arg(file_word(alloc, file))?
+            .arg(part_word(alloc)),
+        Asked::FileAndPartials(file) => start
+            .arg(file_word(alloc, file))?
+            .arg(partial_words(alloc))?
+            .arg(distinct_flag(alloc)),
     }
 }
 

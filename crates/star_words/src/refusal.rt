@@ -9,12 +9,13 @@ use crate::help::{
     REPORTS, SESSION, STAR, TABLES, TRIAL,
 };
 use crate::parser::{Asked, asking, asking_all, wordless};
+use crate::partials::{MERGE, PARTIAL};
 use clap::Command;
 use std::alloc::{AllocError, Global};
 use std::convert::AsStr;
 
 // The commands, in the order in which help lists them.
-const COMMANDS: [(Help, Asked); 11] = [
+const COMMANDS: [(Help, Asked); 13] = [
     (CHECK, Asked::Folder),
     (BENCH, Asked::Folder),
     (QUERY, Asked::FolderAndFile(QUERY_FILE)),
@@ -24,6 +25,8 @@ const COMMANDS: [(Help, Asked); 11] = [
     (TRIAL, Asked::FolderFileAndLimit(PROGRAM_FILE)),
     (SESSION, Asked::Folder),
     (REPORTS, Asked::FoldersAndFiles),
+    (PARTIAL, Asked::FolderFileAndPart(QUERY_FILE)),
+    (MERGE, Asked::FileAndPartials(QUERY_FILE)),
     (TABLES, Asked::Nothing),
     (FAULTS, Asked::Nothing),
 ];

@@ -58,9 +58,29 @@ pub enum Request<'a> {
     /// An answer, over what is read before it.
     Answer(Task<'a>),
     /// A session over the tables of a folder.
-    Session { folder: &'a str },
+    Session {
+        folder: &'a str,
+    },
     /// Reports of some files over the tables of a folder, or what is known before their runs.
     Reports(Reports<'a>),
+    /// The partial of the query of a file over one part of lineorder, by its number; over a whole
+    /// lineorder if it is 0.
+    Partial {
+        folder: &'a str,
+        file: &'a str,
+        part: u16,
+    },
+    /// The report of the query of a file, merged from partials.
+    Merge(Merge<'a>),
+}
+
+/// The partials of the query of a file, which are merged. `is_distinct` says that no order line is in
+/// two parts.
+#[derive(Drop)]
+pub struct Merge<'a> {
+    pub file: &'a str,
+    pub partials: Vec<&'a str>,
+    pub is_distinct: bool,
 }
 
 /// What is asked of some files over the tables of a folder: their reports, into the folder `target`;
@@ -73,7 +93,10 @@ pub struct Reports<'a> {
     pub is_quote: bool,
 }
 
-/// The most files that reports are asked of.
+/// The most parts that lineorder may have.
+const MOST_PARTS: u64 = 1_000;
+
+/// The most files that reports are asked of, and the most partials that are merged.
 const MOST_FILES: usize = 1_000;
 
 // The arguments of a command: after `--`, which ends the options, every one is an operand.
@@ -160,18 +183,44 @@ fn with_two<'a>(command: &str, folder: &'a str, file: &'a str) -> Option<Request
     }))
 }
 
-fn with_three<'a>(command: &str, folder: &'a str, file: &'a str, limit: &str) -> Option<Request<'a>>
-    ensures { IsMade (spec.with_three command.now folder.now file.now limit.now) result }
+// The number of a part: 0 is the whole.
+fn part_of(part: &str) -> Option<u16>
+    ensures { result ≡ spec.part_of part.now }
 {
-    if command != "trial" {
-        return None;
+    let number = limits_of(part)?.visits;
+    if number <= MOST_PARTS {
+        Some(number as u16)
+    } else {
+        None
     }
+}
+
+fn trial_of<'a>(folder: &'a str, file: &'a str, limit: &str) -> Option<Request<'a>>
+    ensures { IsMade (spec.trial_of folder.now file.now limit.now) result }
+{
     let limits = limits_of(limit)?;
     Some(Request::Answer(Task::Trial {
         folder,
         file,
         limits,
     }))
+}
+
+fn partial_of<'a>(folder: &'a str, file: &'a str, part: &str) -> Option<Request<'a>>
+    ensures { IsMade (spec.partial_of folder.now file.now part.now) result }
+{
+    let part = part_of(part)?;
+    Some(Request::Partial { folder, file, part })
+}
+
+fn with_three<'a>(command: &str, folder: &'a str, file: &'a str, last: &str) -> Option<Request<'a>>
+    ensures { IsMade (spec.with_three command.now folder.now file.now last.now) result }
+{
+    match command {
+        "trial" => trial_of(folder, file, last),
+        "partial" => partial_of(folder, file, last),
+        _ => None,
+    }
 }
 
 // What a command without options asks for.
@@ -208,6 +257,60 @@ fn reports_of<'a>(
     })))
 }
 
+// What `merge` asks for.
+fn merge_of<'a>(
+    alloc: Global,
+    is_distinct: bool,
+    operands: &[&'a str],
+) -> Result<Option<Request<'a>>, AllocError>
+    ensures { IfOk result (IsMade (spec.merge_of is_distinct (texts operands.now))) }
+{
+    let [file, partials @ ..] = operands else {
+        return Ok(None);
+    };
+    if partials.is_empty() || partials.len() > MOST_FILES {
+        return Ok(None);
+    }
+    Ok(Some(Request::Merge(Merge {
+        file,
+        partials: partials.to_vec(alloc)?,
+        is_distinct,
+    })))
+}
+
+// What a command asks for without options.
+fn without_option<'a>(
+    alloc: Global,
+    command: &str,
+    operands: &[&'a str],
+) -> Result<Option<Request<'a>>, AllocError>
+    ensures { IfOk result (IsMade (spec.without_option command.now (texts operands.now))) }
+{
+    match command {
+        "reports" => reports_of(alloc, false, operands),
+        "merge" => merge_of(alloc, false, operands),
+        _ => Ok(plain(command, operands)),
+    }
+}
+
+// What a command asks for with one option.
+fn with_option<'a>(
+    alloc: Global,
+    command: &str,
+    option: &str,
+    operands: &[&'a str],
+) -> Result<Option<Request<'a>>, AllocError>
+    ensures { IfOk result (IsMade (spec.with_option command.now option.now (texts operands.now))) }
+{
+    if command == "reports" && option == "--quote" {
+        reports_of(alloc, true, operands)
+    } else if command == "merge" && option == "--distinct" {
+        merge_of(alloc, true, operands)
+    } else {
+        Ok(None)
+    }
+}
+
 // What a command asks for, if its arguments are right.
 fn asked_by<'a>(
     alloc: Global,
@@ -219,11 +322,8 @@ fn asked_by<'a>(
 {
     let operands = arguments.operands.as_slice();
     match arguments.options.as_slice() {
-        [] if command == "reports" => reports_of(alloc, false, operands),
-        [] => Ok(plain(command, operands)),
-        [option] if command == "reports" && *option == "--quote" => {
-            reports_of(alloc, true, operands)
-        }
+        [] => without_option(alloc, command, operands),
+        [option] => with_option(alloc, command, option, operands),
         _ => Ok(None),
     }
 }
@@ -233,7 +333,7 @@ fn names_folders(request: &Request<'_>) -> bool
     ensures { result ≡ spec.names_folders (request_asked request.now) }
 {
     match request {
-        Request::Answer(Task::Sample | Task::Explain { .. }) => true,
+        Request::Answer(Task::Sample | Task::Explain { .. }) | Request::Merge(_) => true,
         Request::Answer(
             Task::Check { folder }
             | Task::Bench { folder }
@@ -242,7 +342,8 @@ fn names_folders(request: &Request<'_>) -> bool
             | Task::Quote { folder, .. }
             | Task::Trial { folder, .. },
         )
-        | Request::Session { folder } => !folder.is_empty(),
+        | Request::Session { folder }
+        | Request::Partial { folder, .. } => !folder.is_empty(),
         Request::Reports(asked) => !asked.folder.is_empty() && !asked.target.is_empty(),
     }
 }

@@ -1,0 +1,92 @@
+// Why a text is not a partial of a query, or is not merged with others.
+
+ghost use Rattle.std.specs.Prelude.{Some};
+ghost use Rattle.star_common.specs.Memory.{TellsMemory};
+ghost use Rattle.star_merger.specs.{FaultTexts.partial_fault_text, declared.fault.PartialFault.TheVariants.OutOfMemory};
+
+use star_engine::EngineFault;
+use std::alloc::AllocError;
+use std::fmt;
+
+/// Why a text is not a partial of a query, or is not merged with others. Lines count from 1.
+#[derive(Clone, Copy, Debug, PartialEq, Eq)]
+pub enum PartialFault {
+    /// An allocation failed.
+    OutOfMemory,
+    /// The first line is not `star partial 1`.
+    BadHeader,
+    /// The query is another.
+    OtherQuery { line: usize },
+    /// The dimensions are not those of the first partial.
+    OtherDimensions { line: usize },
+    /// A line is not what it is in a partial of the query, or it is missing.
+    BadLine { line: usize },
+    /// A row does not come after the row before it.
+    BadOrder { line: usize },
+    /// The span of keys overlaps that of an earlier partial.
+    Overlap { line: usize },
+    /// The query is refused over this part, but not over all parts.
+    Refused { line: usize },
+    /// The totals of this and the earlier partials leave the range of their numbers.
+    Overflow { line: usize },
+}
+
+impl From<AllocError> for PartialFault {
+    ghost from_gives = { TellsMemory OutOfMemory };
+
+    fn from(_error: AllocError) -> PartialFault {
+        PartialFault::OutOfMemory
+    }
+}
+
+impl fmt::Display for PartialFault {
+    ghost output = { λ fault. Some (partial_fault_text fault) };
+
+    #[tactic(auto, unfolding(crate::specs::FaultTexts::partial_fault_text))]
+    fn fmt<W: fmt::Write>(&self, f: &mut fmt::Formatter<W>) -> fmt::Result {
+        match self {
+            PartialFault::OutOfMemory => f.write_str("memory"),
+            PartialFault::BadHeader => f.write_str("1 BadHeader at 1"),
+            PartialFault::OtherQuery { line } => write!(f, "2 OtherQuery at {line}"),
+            PartialFault::OtherDimensions { line } => write!(f, "3 OtherDimensions at {line}"),
+            PartialFault::BadLine { line } => write!(f, "4 BadLine at {line}"),
+            PartialFault::BadOrder { line } => write!(f, "5 BadOrder at {line}"),
+            PartialFault::Overlap { line } => write!(f, "6 Overlap at {line}"),
+            PartialFault::Refused { line } => write!(f, "7 Refused at {line}"),
+            PartialFault::Overflow { line } => write!(f, "8 Overflow at {line}"),
+        }
+    }
+}
+
+/// Why partials were not merged: an error of the engine, or a fault of one of them, by its place
+/// from 0. The place of another partial is given if two overlap.
+#[derive(Drop)]
+pub enum PartialsFault {
+    Engine(EngineFault),
+    Partial {
+        place: usize,
+        fault: PartialFault,
+        other: Option<usize>,
+    },
+}
+
+impl From<EngineFault> for PartialsFault {
+    fn from(fault: EngineFault) -> PartialsFault {
+        PartialsFault::Engine(fault)
+    }
+}
+
+impl From<AllocError> for PartialsFault {
+    fn from(_error: AllocError) -> PartialsFault {
+        PartialsFault::Engine(EngineFault::OutOfMemory)
+    }
+}
+
+/// Returns the fault of the partial at a place.
+pub(crate) fn fault_at(place: usize, fault: PartialFault) -> PartialsFault {
+    PartialsFault::Partial {
+        place,
+        fault,
+        other: None,
+    }
+}

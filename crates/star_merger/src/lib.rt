@@ -1,0 +1,19 @@
+//! Partials of a query: written, read, and merged into the report over all parts of lineorder.
+#![tactic(auto)]
+
+mod columns;
+mod fault;
+mod fields;
+mod merger;
+mod merges;
+mod order;
+mod pieces;
+mod reading;
+mod spans;
+mod telling;
+mod writing;
+
+pub use fault::{PartialFault, PartialsFault};
+pub use merger::Merger;
+pub use star_partial::Partial;
+pub use telling::write_partial;

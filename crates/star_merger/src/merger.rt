@@ -1,0 +1,42 @@
+// A query whose partials are merged.
+
+use crate::columns::{PartialColumn, columns_of};
+use crate::fault::PartialFault;
+use crate::reading::read_partial;
+use star_compile::compile;
+use star_engine::EngineFault;
+use star_partial::Partial;
+use star_plan::{Plan, plan};
+use star_program::Program;
+use star_query::Query;
+use std::alloc::Global;
+
+/// A query whose partials are merged. It is read before any partial.
+#[derive(Drop)]
+pub struct Merger {
+    pub(crate) query: Vec<u8>,
+    pub(crate) plan: Plan,
+    pub(crate) program: Program,
+    columns: Vec<PartialColumn>,
+}
+
+impl Merger {
+    /// Reads a query, or returns its first error.
+    pub fn of_query(alloc: Global, text: &[u8]) -> Result<Merger, EngineFault> {
+        let query = Query::parse(alloc, text)?;
+        let plan = plan(alloc, &query)?;
+        let program = compile(alloc, &plan)?;
+        let columns = columns_of(alloc, plan.tree())?;
+        Ok(Merger {
+            query: text.to_vec(alloc)?,
+            plan,
+            program,
+            columns,
+        })
+    }
+
+    /// Reads the text of a partial of the query, or returns its first fault.
+    pub fn read(&self, alloc: Global, text: &[u8]) -> Result<Partial, PartialFault> {
+        read_partial(alloc, &self.query, &self.columns, text)
+    }
+}

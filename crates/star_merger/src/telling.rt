@@ -1,0 +1,26 @@
+// The partial of a query over loaded tables, written.
+
+ghost use Rattle.std.specs.Prelude.{OnOk};
+ghost use Rattle.star_engine.specs.Answered.{HasWritten, change};
+ghost use Rattle.star_merger.specs.Texts.{IsPartialText};
+
+use crate::writing::write_text;
+use star_common::Sink;
+use star_engine::{Engine, EngineFault};
+use std::alloc::Global;
+
+/// Writes the text of the partial of a query over loaded tables to `out`.
+#[tactic(auto, using(crate::proofs::TextBytes::partial_some))]
+pub fn write_partial<S: Sink>(
+    alloc: Global,
+    engine: &Engine,
+    query: &[u8],
+    out: &mut S,
+) -> Result<(), EngineFault>
+    ensures { OnOk result (HasWritten (change S.contents S.is_failed out.old out.new)
+        (IsPartialText engine.now.visits engine.now.database query.now)) }
+{
+    let partial = engine.partial(alloc, query)?;
+    let text = partial.to_text(alloc, query)?;
+    write_text(out, &text)
+}
