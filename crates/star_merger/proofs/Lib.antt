@@ -1,1 +1,5 @@
 pub mod TextBytes
+pub mod JoinedFacts
+pub mod Outcomes
+pub mod Whole
+pub mod Told

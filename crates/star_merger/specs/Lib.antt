@@ -1,2 +1,5 @@
 pub mod FaultTexts
 pub mod Texts
+pub mod Shares
+pub mod Mergers
+pub mod Private

@@ -5,7 +5,7 @@ ghost use Rattle.star_common.specs.Memory.{TellsMemory};
 ghost use Rattle.star_merger.specs.{FaultTexts.partial_fault_text, declared.fault.PartialFault.TheVariants.OutOfMemory};
 
 use star_engine::EngineFault;
-use std::alloc::AllocError;
+use std::alloc::{AllocError, AllocFailed};
 use std::fmt;
 
 /// Why a text is not a partial of a query, or is not merged with others. Lines count from 1.
@@ -78,6 +78,12 @@ impl From<EngineFault> for PartialsFault {
 
 impl From<AllocError> for PartialsFault {
     fn from(_error: AllocError) -> PartialsFault {
+        PartialsFault::Engine(EngineFault::OutOfMemory)
+    }
+}
+
+impl<T: Drop> From<AllocFailed<T>> for PartialsFault {
+    fn from(_error: AllocFailed<T>) -> PartialsFault {
         PartialsFault::Engine(EngineFault::OutOfMemory)
     }
 }

@@ -2,11 +2,13 @@
 #![tactic(auto)]
 
 mod columns;
+mod facts;
 mod fault;
 mod fields;
 mod merger;
 mod merges;
 mod order;
+mod outcome;
 mod pieces;
 mod reading;
 mod spans;

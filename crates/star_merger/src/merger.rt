@@ -1,5 +1,10 @@
 // A query whose partials are merged.
 
+ghost use Rattle.std.specs.Prelude.{◌≡◌, ℕ, IfOk, List, MatchResult};
+ghost use Rattle.star_partial.specs.{Contents.contents_of, Text.partial_text};
+ghost use Rattle.star_engine.specs.{Answered.OrMemory, Queries.IsNoQuery};
+ghost use Rattle.star_merger.specs.Mergers.{IsMergerOf};
+
 use crate::columns::{PartialColumn, columns_of};
 use crate::fault::PartialFault;
 use crate::reading::read_partial;
@@ -22,7 +27,9 @@ pub struct Merger {
 
 impl Merger {
     /// Reads a query, or returns its first error.
-    pub fn of_query(alloc: Global, text: &[u8]) -> Result<Merger, EngineFault> {
+    pub fn of_query(alloc: Global, text: &[u8]) -> Result<Merger, EngineFault>
+        ensures { MatchResult result (IsMergerOf text.now) (OrMemory (IsNoQuery text.now)) }
+    {
         let query = Query::parse(alloc, text)?;
         let plan = plan(alloc, &query)?;
         let program = compile(alloc, &plan)?;
@@ -35,8 +42,12 @@ impl Merger {
         })
     }
 
-    /// Reads the text of a partial of the query, or returns its first fault.
-    pub fn read(&self, alloc: Global, text: &[u8]) -> Result<Partial, PartialFault> {
+    /// Reads the text of a partial of the query, or returns its first fault. It is exactly the text
+    /// that `write_partial` writes of the result.
+    pub fn read(&self, alloc: Global, text: &[u8]) -> Result<Partial, PartialFault>
+        ensures { (query : List ℕ) → IsMergerOf query self.now
+            → IfOk result (λ partial. text.now ≡ partial_text query (contents_of partial)) }
+    {
         read_partial(alloc, &self.query, &self.columns, text)
     }
 }

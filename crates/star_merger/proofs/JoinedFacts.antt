@@ -1,0 +1,156 @@
+-- The facts of a part and of further parts together.
+use Rattle.std.proofs.Common.{◌≡◌, ◌∙◌, ◌+◌, ◌<◌, ℕ, zero, suc, List, [], ◌∷◌, ◌++◌, ap, append-nil, arith, length, map, refl, rules, slice_get, slice_index_or, subst, sym}
+use Rattle.std.proofs.lemmas.List.{length-append, length-map}
+use Rattle.std.proofs.lemmas.List.Elements.{All-head, All-tail}
+use Rattle.std.specs.{List.All}
+use Rattle.std.specs.Prelude.{None, pos}
+use Rattle.star_interval.specs.{Range.Range, Interval.range_of, declared.Interval.Interval}
+use Rattle.star_schema.specs.{declared.column.ColumnId.ColumnId, declared.table.TableId.TableId, declared.table.TableId.TheVariants.Date, declared.table.TableId.TheVariants.Customer, declared.table.TableId.TheVariants.Supplier, declared.table.TableId.TheVariants.Part, declared.table.TableId.TheVariants.Lineorder, Database.Database, Database.rows_in, Schema.index_of, Sizes.size_of}
+use Rattle.star_schema.proofs.Same.{index_within}
+use Rattle.star_plan.specs.Meaning.{Row}
+use Rattle.star_partial.specs.Contents.{Contents, bounds_at, contents_of, range_if}
+use Rattle.star_partial.specs.declared.partial.Partial.{Partial}
+use Rattle.star_merge_laws.specs.{Facts.AreFactsOf, Facts.Facts, Facts.hull_of_rows, Facts.joined_facts, Parts.with_lineorder, Tables.all_of}
+use Rattle.star_verify.specs.{Facts.AreFacts}
+use Rattle.star_verify.specs.declared.facts.Facts.{Facts as Known}
+use Rattle.star_world.specs.WorldOf.{world_of}
+use Rattle.star_merger.specs.{Private.Shown.HasFacts, Private.Shown.HasOwnFacts, Shares.Share, Shares.contents_of_shares, Shares.share_rows}
+
+at : (xs : List Interval) (place : ℕ) (any : Interval) → place < length xs
+    → range_if (slice_get xs place) ≡ range_of (slice_index_or xs place any)
+at [] place any h = absurd (omega (arith, h))
+at (x ∷ xs) zero any h = refl
+at (x ∷ xs) (suc place) any h = at xs place any (omega (arith, h))
+
+-- with the range of no interval past the end
+at_any : (xs : List Interval) (place : ℕ) (none : Interval) → range_of none ≡ range_if None
+    → range_if (slice_get xs place) ≡ range_of (slice_index_or xs place none)
+at_any [] place none is = sym is
+at_any (x ∷ xs) zero none is = refl
+at_any (x ∷ xs) (suc place) none is = at_any xs place none is
+
+-- what a join of bounds tells of each position, it tells of each column
+pub joined_bounds : (rows more : ℕ) (bounds others joined : List Interval)
+    → ((place : ℕ) (any : Interval) → place < 58 → range_of (slice_index_or joined place any)
+    ≡ hull_of_rows rows more (range_of (slice_index_or bounds place any))
+    (range_of (slice_index_or others place any)))
+    → (c : ColumnId)
+    → bounds_at joined c ≡ hull_of_rows rows more (bounds_at bounds c) (bounds_at others c)
+joined_bounds rows more bounds others joined each c =
+    let place = index_of c in
+    let none : Interval = record { low = pos 0; high = pos 0; ordered = search rules } in
+    at_any joined place none refl ∙ each place none (index_within c)
+    ∙ (λ i. hull_of_rows rows more (sym (at_any bounds place none refl) i)
+    (sym (at_any others place none refl) i))
+
+module _ (database : Database) (rows others : List Row) (a b sizes : TableId → ℕ)
+    (of_rows of_others bounds : ColumnId → Range)
+    (h : HasFacts (with_lineorder database rows) a of_rows)
+    (k : HasFacts (with_lineorder database others) b of_others) where
+  abbrev facts : Facts
+  facts = record { rows = a Lineorder; bounds = of_rows }
+
+  abbrev more : Facts
+  more = record { rows = b Lineorder; bounds = of_others }
+
+  pub facts_are : AreFactsOf (with_lineorder database rows) facts
+  facts_are = record { rows = h.sizes Lineorder; bounds = h.bounds }
+
+  pub more_are : AreFactsOf (with_lineorder database others) more
+  more_are = record { rows = k.sizes Lineorder; bounds = k.bounds }
+
+  sizes_are : sizes Lineorder ≡ a Lineorder + b Lineorder → sizes Date ≡ a Date
+      → sizes Customer ≡ a Customer → sizes Supplier ≡ a Supplier → sizes Part ≡ a Part
+      → (t : TableId) → sizes t ≡ length (rows_in (with_lineorder database (rows ++ others)) t)
+  sizes_are sum date customer supplier part Date = date ∙ h.sizes Date
+  sizes_are sum date customer supplier part Customer = customer ∙ h.sizes Customer
+  sizes_are sum date customer supplier part Supplier = supplier ∙ h.sizes Supplier
+  sizes_are sum date customer supplier part Part = part ∙ h.sizes Part
+  sizes_are sum date customer supplier part Lineorder =
+      sum ∙ (λ i. h.sizes Lineorder i + k.sizes Lineorder i) ∙ sym (length-append rows others)
+
+  pub joined_are : AreFactsOf (with_lineorder database (rows ++ others)) (joined_facts facts more)
+      → sizes Lineorder ≡ a Lineorder + b Lineorder → sizes Date ≡ a Date
+      → sizes Customer ≡ a Customer → sizes Supplier ≡ a Supplier → sizes Part ≡ a Part
+      → ((c : ColumnId) → bounds c
+      ≡ hull_of_rows (a Lineorder) (b Lineorder) (of_rows c) (of_others c))
+      → HasFacts (with_lineorder database (rows ++ others)) sizes bounds
+  joined_are are sum date customer supplier part hulls = record {
+    sizes = sizes_are sum date customer supplier part;
+    bounds = λ c. hulls c ∙ are.bounds c;
+  }
+
+-- the facts of the tables of a database are those of its world
+pub are_facts : (database : Database) (facts : Known) → length facts.bounds ≡ 58
+    → HasFacts database (size_of facts.sizes) (bounds_at facts.bounds)
+    → AreFacts (world_of database) facts
+are_facts database facts full has = record {
+  sizes = has.sizes;
+  bounds = λ c i is. ap range_of is
+      ∙ sym (at facts.bounds (index_of c) i (omega (arith, index_within c, full))) ∙ has.bounds c;
+}
+
+-- ---- the facts of all parts
+
+no_items : {X : Type 0} (xs : List X) → length xs ≡ 0 → xs ≡ []
+no_items [] e = refl
+no_items (x ∷ xs) e = absurd (omega (arith, e))
+
+abbrev head_or : Contents → List Contents → Contents
+head_or contents [] = contents
+head_or contents (first ∷ rest) = first
+
+abbrev rest_of : List Contents → List Contents
+rest_of [] = []
+rest_of (first ∷ rest) = rest
+
+module _ (database : Database) (first : Contents) where
+  abbrev OfFirst : List Row → Type 0
+  OfFirst rows = HasFacts (with_lineorder database rows) first.sizes first.bounds
+
+  own : (share : Share) → first ≡ share.contents → HasOwnFacts database share → OfFirst share.rows
+  own share same facts =
+      subst (λ (contents : Contents). HasFacts (with_lineorder database share.rows) contents.sizes
+      contents.bounds) (sym same) facts
+
+  pub first_facts : (more : List Contents) (share : Share) (shares : List Share) → length more ≡ 0
+      → first ∷ more ≡ contents_of_shares (share ∷ shares) → All (HasOwnFacts database) (share ∷ shares)
+      → OfFirst (all_of (share_rows (share ∷ shares)))
+  first_facts more share [] none same are =
+      subst OfFirst (sym (append-nil share.rows))
+      (own share (ap (head_or first) same) (All-head (HasOwnFacts database) share [] are))
+  first_facts more share (next ∷ shares) none same are =
+      absurd (omega (arith, none, ap length same, length-map shares (λ share. share.contents)))
+
+  pub next_facts : (next : Contents) (more rest : List Contents) (share : Share)
+      (shares : List Share) (Goal : List Share → Type 0) → more ≡ next ∷ rest
+      → first ∷ more ≡ contents_of_shares (share ∷ shares) → All (HasOwnFacts database) (share ∷ shares)
+      → ((second : Share) (others : List Share) → next ∷ rest ≡ contents_of_shares (second ∷ others)
+      → All (HasOwnFacts database) (second ∷ others) → OfFirst share.rows → Goal (second ∷ others))
+      → Goal shares
+  next_facts next more rest share [] Goal is same are on =
+      absurd (omega (arith, ap length is, ap length same))
+  next_facts next more rest share (second ∷ others) Goal is same are on =
+      on second others (sym is ∙ ap rest_of same)
+      (All-tail (HasOwnFacts database) share (second ∷ others) are)
+      (own share (ap (head_or first) same)
+      (All-head (HasOwnFacts database) share (second ∷ others) are))
+
+pub none_mapped : (partials : List Partial) → length partials ≡ 0
+    → length (map contents_of partials) ≡ 0
+none_mapped partials none = length-map partials contents_of ∙ none
+
+pub some_mapped : (partials rest : List Partial) (next : Partial) → partials ≡ next ∷ rest
+    → map contents_of partials ≡ contents_of next ∷ map contents_of rest
+some_mapped partials rest next is = ap (map contents_of) is
+
+pub all_are : (database : Database) (partials more : List Partial) (first : Partial)
+    (shares : List Share) (Goal : List Share → Type 0) → partials ≡ first ∷ more
+    → map contents_of partials ≡ contents_of_shares shares → All (HasOwnFacts database) shares
+    → ((share : Share) (rest : List Share)
+    → contents_of first ∷ map contents_of more ≡ contents_of_shares (share ∷ rest)
+    → All (HasOwnFacts database) (share ∷ rest) → Goal (share ∷ rest)) → Goal shares
+all_are database partials more first [] Goal is same are on =
+    absurd (omega (arith, ap length is, ap length same, length-map partials contents_of))
+all_are database partials more first (share ∷ rest) Goal is same are on =
+    on share rest (ap (map contents_of) (sym is) ∙ same) are

@@ -1,0 +1,4 @@
+-- Definitions that no public clause cites.
+pub mod Shown
+pub mod Outcomes
+pub mod Written
