@@ -1,8 +1,8 @@
 """Copies of the modules above a changed definition, checked together in a crate of their own.
 
 A wrong definition is tried in a copy of its file. The modules between the file and some theorems are copied too, and
-cite the copies; all else is read in place, as sources without proofs, or from a proved clone. Therefore one check tries
-many wrong definitions, and no crate has to be proved before.
+cite the copies; all else is read in place, as sources without proofs. Therefore one check tries many wrong definitions,
+and no crate has to be proved before.
 """
 
 import re
@@ -25,7 +25,6 @@ class Module(NamedTuple):
     """A file of specs/ or proofs/: its crate, its text and the names of the modules that it cites."""
 
     crate: str
-    path: Path
     text: str
     cites: frozenset[str]
 
@@ -45,17 +44,6 @@ def module_in(name: str, known: Iterable[str]) -> str | None:
     return next((it for end in range(len(parts), 2, -1) if (it := ".".join(parts[:end])) in known), None)
 
 
-def modules_of(top: Path) -> dict[str, Module]:
-    """Returns all files of specs/ and proofs/ with definitions or proofs, by their names without `Rattle.`."""
-    files = {}
-    for path in [*sorted(top.glob("crates/*/specs/**/*.antt")), *sorted(top.glob("crates/*/proofs/**/*.antt"))]:
-        parts = path.relative_to(top / "crates").with_suffix("").parts
-        if parts[-1] != "Lib":
-            files[".".join(parts)] = (parts[0], path, one_by_one(path.read_text(encoding="utf-8")))
-    cites = lambda name, text: frozenset({module_in(it, files) for it in NAME.findall(text)} - {None, name})
-    return {name: Module(crate, path, text, cites(name, text)) for name, (crate, path, text) in files.items()}
-
-
 def reachable(starts: Iterable[str], nexts: Callable[[str], Iterable[str]]) -> set[str]:
     """Returns some names and all names that they lead to."""
     found, todo = set(), list(starts)
@@ -69,26 +57,24 @@ def reachable(starts: Iterable[str], nexts: Callable[[str], Iterable[str]]) -> s
 class Room:
     """A folder with a crate in which copies of modules are checked over the repository's sources."""
 
-    def __init__(self, top: Path, folder: Path, built: Path | None = None):
-        self.top, self.folder, self.built, self.modules = top, folder, built, modules_of(top)
+    def __init__(self, top: Path, folder: Path):
+        self.crates, self.folder, self.libraries = top / "crates", folder, libraries(top)
         self.kit = Path(subprocess.run(["rt", "doc"], capture_output=True, text=True).stdout.strip()).parent
-        self.libraries = libraries(top)
+        texts = {}
+        for path in (it for part in ("specs", "proofs") for it in sorted(self.crates.glob(f"*/{part}/**/*.antt")) if it.stem != "Lib"):
+            texts[".".join(path.relative_to(self.crates).with_suffix("").parts)] = one_by_one(path.read_text(encoding="utf-8"))
+        cites = lambda name, text: frozenset({module_in(it, texts) for it in NAME.findall(text)} - {None, name})
+        self.modules = {name: Module(name.split(".")[0], text, cites(name, text)) for name, text in texts.items()}
         self.is_exported = cache(self.is_exported)
-        # The modules whose copies use names that only their own crate may use, among them those of programs.
-        self.inside = {name for name, it in self.modules.items() if self.root(it.crate) == "src/main.rt"}
         self.citing: dict[str, set[str]] = {name: set() for name in self.modules}
         for name, module in self.modules.items():
             for cited in module.cites:
                 self.citing[cited].add(name)
 
-    def root(self, crate: str) -> str:
-        """Returns the first file of a crate's sources."""
-        return "src/main.rt" if (self.top / "crates" / crate / "src/main.rt").is_file() else "src/lib.rt"
-
     def is_exported(self, name: str) -> bool:
         """Returns whether other crates may use a module: it and each folder around it are declared by `pub mod`."""
         crate, part, *parts = name.split(".")
-        folder = self.top / "crates" / crate / part
+        folder = self.crates / crate / part
         files = [folder / "Lib.antt", *(folder.joinpath(*parts[:at]).with_suffix(".antt") for at in range(1, len(parts)))]
         declares = lambda file, it: file.is_file() and re.search(rf"(?m)^pub mod {re.escape(it)}$", file.read_text(encoding="utf-8"))
         return all(map(declares, files, parts))
@@ -101,57 +87,39 @@ class Room:
         """Returns a module and those between it and some theorems."""
         return {name} | (self.above(name) & reachable(theorems, lambda it: self.modules[it].cites))
 
-    def hidden(self, names: Iterable[str]) -> set[str]:
-        """Returns the modules that some cite and that no other crate may use, which are copied with them."""
+    def hidden(self, names: set[str]) -> set[str]:
+        """Returns the modules that some cite and that no other crate may use, which are copied once for all copies."""
         hidden = lambda it: [name for name in self.modules[it].cites if not self.is_exported(name)]
         return reachable((it for name in names for it in hidden(name)), hidden)
 
-    def rows_of(self, names: Iterable[str]) -> set[str]:
-        """Returns the modules of the crate of rows that some modules cite, directly or not, or are."""
-        return {it for it in reachable(names, lambda it: self.modules[it].cites) if self.modules[it].crate == ROWS}
+    def below(self, crates: set[str]) -> list[str]:
+        """Returns some crates and the repository's crates below them, lowest first."""
+        used = lambda crate: [it for it in self.libraries[crate] if it in self.libraries]
+        return sorted(reachable(crates, used), key=lambda it: len(reachable([it], used)))
 
-    def fits(self, names: Iterable[str], home: str) -> bool:
-        """Returns whether a crate uses all crates that copies of some modules need."""
-        copied = {*names, *self.rows_of(names)}
-        crates = {self.modules[it].crate for it in {*copied, *(name for it in copied for name in self.modules[it].cites)}}
-        return crates <= {ROWS, home, *self.libraries[home]}
+    def check(self, texts: dict[str, str], between: set[str], changed: str) -> dict[str, dict[str, str]] | None:
+        """Checks copies of some modules, one for each text of the changed one, by the prefixes of their names.
 
-    def below(self, crates: Iterable[str]) -> list[str]:
-        """Returns the repository's crates below some, lowest first."""
-        found: dict[str, None] = {}
-        for crate in crates:
-            for name in (it for it in self.libraries.get(crate, []) if it in self.libraries):
-                found |= dict.fromkeys([*self.below([name]), name])
-        return list(found)
-
-    def check(self, copies: list[tuple[str, set[str], str, str]], home: str) -> dict[str, dict[str, str]] | None:
-        """Checks copies, each a prefix, the names of the modules that are copied, the changed one and its text.
-
-        They are in a crate of their own, or in the one whose hidden modules they cite. Returns the errors by prefix and
-        module, or None if there is neither an error nor a proof.
+        Returns the errors by prefix and module, or None if there is neither an error nor a proof.
         """
-        names = {name for _, some, _, _ in copies for name in some}
-        shared = self.hidden(names) if home == CRATE else self.rows_of(names)
-        written, crates = {}, set()
-        for prefix, some, changed, text in [("Shared", shared, "", ""), *copies]:
+        hidden = self.hidden(between)
+        copies, crates = {}, set()
+        for prefix, some, text in [("Shared", hidden, ""), *((prefix, between, text) for prefix, text in texts.items())]:
             file = lambda it: f"{prefix if it in some else 'Shared'}_{it.replace('.', '_')}"
+            cited = lambda it: f"Rattle.{CRATE}.proofs.{file(it)}" if it in some | hidden else None
             for name in some:
                 module = self.modules[name]
                 crates |= {module.crate, *re.findall(r"\bRattle\.(star_\w+)\.", module.text)} - {ROWS}
-                cited = lambda it: f"Rattle.{home}.proofs.{file(it)}" if it in some | shared else None
-                written[file(name)] = (prefix, name, self.citing_copies(text if name == changed else module.text, cited))
-        self.write({file: text for file, (_, _, text) in written.items()}, home)
-        self.libraries[CRATE] = [it for it in self.libraries if it in {*self.below(crates), *crates}]
-        run = subprocess.run(
-            ["rattle", "check", *self.words(home)], cwd=self.folder / home, text=True, stdin=subprocess.DEVNULL,
-            stdout=subprocess.PIPE, stderr=subprocess.STDOUT,
-        )  # fmt: skip
-        (self.folder / "last.log").write_text(run.stdout, encoding="utf-8")
+                copies[file(name)] = (prefix, name, self.citing_copies(text if name == changed else module.text, cited))
+        self.write({file: text for file, (_, _, text) in copies.items()})
+        words = ["rattle", "check", *self.words(crates)]
+        ran = subprocess.run(words, cwd=self.folder, text=True, stdin=subprocess.DEVNULL, stdout=subprocess.PIPE, stderr=subprocess.STDOUT)
+        (self.folder / "last.log").write_text(ran.stdout, encoding="utf-8")
         errors: dict[str, dict[str, str]] = {}
-        for file, line, error in ERROR.findall(run.stdout):
-            if file in written:
-                errors.setdefault(written[file][0], {}).setdefault(written[file][1], f"{line}{error}"[:120])
-        return errors if errors or "\nonly=1 proved=1" in run.stdout else None
+        for file, line, error in ERROR.findall(ran.stdout):
+            if file in copies:
+                errors.setdefault(copies[file][0], {}).setdefault(copies[file][1], f"{line}{error}"[:120])
+        return errors if errors or "\nonly=1 proved=1" in ran.stdout else None
 
     def citing_copies(self, text: str, cited: Callable[[str], str | None]) -> str:
         """Returns a module's text with copies in place of the modules that are copied."""
@@ -161,42 +129,30 @@ class Room:
             return copy + found[1][len(module) :] if copy else found[0]
         return NAME.sub(name, one_by_one(text))
 
-    def words(self, home: str) -> list[str]:
-        """Returns the prover's arguments. The crates below are read from their sources, or as a clone has built them."""
-        below, kit = self.below([home]), f"{self.kit}/rlibs"
-        of_kit = lambda crate: ["std", *(it for it in self.libraries[crate] if it not in self.libraries)]
-        words = ["--crate-name", home, self.root(home), "-L", f"dependency={kit}"]
-        for name in sorted({"core", *(it for crate in [home, *below] for it in of_kit(crate))}):
+    def words(self, crates: set[str]) -> list[str]:
+        """Returns the prover's arguments. The crates that copies cite are read from their sources."""
+        below, kit = self.below(crates), f"{self.kit}/rlibs"
+        of_kit = {it: ["std", *(name for name in self.libraries[it] if name not in self.libraries)] for it in below}
+        words = ["--crate-name", CRATE, "src/lib.rt", "-L", f"dependency={kit}"]
+        for name in sorted({"core", "std"}.union(*of_kit.values())):
             words += ["--extern", f"{name}={kit}/{name}.rlib"]
         for crate in below:
-            rlib = f"{self.built}/crates/{crate}/out/rlib"
-            if not self.built:
-                uses = ",".join(dict.fromkeys(["core", *of_kit(crate), *self.libraries[crate]]))
-                words += ["--lib", f"{crate}:{uses}={self.top}/crates/{crate}/{self.root(crate)}"]
-            elif crate in self.libraries[home]:
-                words += ["--extern", f"{crate}={rlib}/{crate}.rlib"]
-            words += ["-L", f"dependency={rlib}"] if self.built else []
+            uses = ",".join(dict.fromkeys(["core", *of_kit[crate], *self.libraries[crate]]))
+            root = max((self.crates / crate / "src").glob("[lm]*.rt"), key=lambda it: it.stem in ("lib", "main"))
+            words += ["--lib", f"{crate}:{uses}={root}"]
         words += ["--antt-project", f"{self.kit}/rattle/logic/antt-project.json", "--logic-built", f"{self.kit}/logic_built"]
-        words += ["--incremental", str(self.folder / "incremental" / home), "--links", f"{home}=", "--jobs", "1"]
-        return [*words, "--only", f"{home}::{ANCHOR}"]
+        return [*words, "--incremental", "incremental", "--links", f"{CRATE}=", "--jobs", "1", "--only", f"{CRATE}::{ANCHOR}"]
 
-    def write(self, texts: dict[str, str], home: str) -> None:
-        """Writes copies into the proofs of a crate: an empty one, or a copy of one of the repository."""
-        folder = self.folder / home
-        for part in ("src", "specs", "proofs"):
-            shutil.rmtree(folder / part, ignore_errors=True)
-            if (self.top / "crates" / home / part).is_dir():
-                shutil.copytree(self.top / "crates" / home / part, folder / part)
-        for made in (folder / "src", folder / "proofs" / ANCHOR, self.folder / "incremental" / home):
-            made.mkdir(parents=True, exist_ok=True)
-        head = "//! Copies of definitions.\n#![tactic(auto)]\n" if home == CRATE else "\n"
-        uses = (f"use Rattle.{home}.proofs.{it} as copy{at}\n" for at, it in enumerate(sorted(texts)))
+    def write(self, texts: dict[str, str]) -> None:
+        """Writes copies into the proofs of the crate."""
+        shutil.rmtree(self.folder / "proofs", ignore_errors=True)
+        for made in ("src", f"proofs/{ANCHOR}", "incremental"):
+            (self.folder / made).mkdir(parents=True, exist_ok=True)
         parts = {
-            self.root(home): f"{head}/// Reads the copies.\npub fn {ANCHOR}() {{}}\n",
+            "src/lib.rt": f"//! Copies of definitions.\n#![tactic(auto)]\n/// Reads the copies.\npub fn {ANCHOR}() {{}}\n",
             "proofs/Lib.antt": "".join(f"mod {it}\n" for it in sorted(texts)),
-            f"proofs/{ANCHOR}/Answers.antt": "".join(uses),
+            f"proofs/{ANCHOR}/Answers.antt": "".join(f"use Rattle.{CRATE}.proofs.{it} as copy{at}\n" for at, it in enumerate(sorted(texts))),
             **{f"proofs/{file}.antt": text for file, text in texts.items()},
         }
         for file, text in parts.items():
-            with (folder / file).open("a", encoding="utf-8") as out:
-                out.write(text)
+            (self.folder / file).write_text(text, encoding="utf-8")

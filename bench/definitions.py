@@ -163,16 +163,11 @@ def clauses_in(file: Path) -> Iterator[PublicClause]:
                 yield PublicClause(function, head[1] or "", imports.keys_in(text))
 
 
-def clauses_of(crates: Path, function: str) -> list[PublicClause]:
-    """Returns the clauses of a public function, as CRATE.FUNCTION."""
-    crate, name = function.split(".")
-    return [it for file in sorted((crates / crate / "src").rglob("*.rt")) for it in clauses_in(file) if it.function == name]
-
-
 def keys_of(crates: Path, promise: str) -> set[Key]:
     """Returns what a public function's clauses cite, or those of one name: CRATE.FUNCTION[.CLAUSE]."""
     crate, function, clause = (promise.split(".") + [""])[:3]
-    return set().union(*(it.keys for it in clauses_of(crates, f"{crate}.{function}") if clause in ("", it.name)))
+    clauses = (it for file in sorted((crates / crate / "src").rglob("*.rt")) for it in clauses_in(file))
+    return set().union(*(it.keys for it in clauses if it.function == function and clause in ("", it.name)))
 
 
 def private_citations(definitions: Definitions) -> Iterator[str]:

@@ -4,13 +4,19 @@ import difflib
 import re
 import subprocess
 
-from repository import TABLES
+TABLES = ["date", "customer", "supplier", "part", "lineorder"]
+# The errors of a name that is no column or table, and of a sort key that is no column of the report.
+UNKNOWN_NAME, UNKNOWN_ORDER_KEY = "30", "40"
 
 
-def nearest(program: str, word: str) -> list[str]:
-    """Returns the names of columns and tables that are nearly a word."""
-    listed = subprocess.run([program, "help", "tables"], capture_output=True, text=True).stdout
-    return difflib.get_close_matches(word.lower(), [*re.findall(r"^  \d+ (\w+)", listed, re.M), *TABLES], 3, 0.7)
+def nearest(program: str, number: str, word: str, text: str) -> list[str]:
+    """Returns the names that are nearly a word: columns and tables, or for a sort key other names of the query."""
+    if number == UNKNOWN_NAME:
+        listed = subprocess.run([program, "help", "tables"], capture_output=True, text=True).stdout
+        names = [*re.findall(r"^  \d+ (\w+)", listed, re.M), *TABLES]
+    else:
+        names = {it.lower() for it in re.findall(r"[A-Za-z_]\w*", text)} - {word.lower()}
+    return difflib.get_close_matches(word.lower(), names, 3, 0.7)
 
 
 def show(name: str, text: str, line: int, column: int) -> None:
@@ -25,6 +31,6 @@ def show_query_error(program: str, name: str, text: str, error: str) -> bool:
         at = int(found[2])
         show(name, text, text.count("\n", 0, at) + 1, at - text.rfind("\n", 0, at))
         word = re.match(r"\w+", text[at:])
-        if found[1] == "30" and word and (near := nearest(program, word[0])):
+        if found[1] in (UNKNOWN_NAME, UNKNOWN_ORDER_KEY) and word and (near := nearest(program, found[1], word[0], text)):
             print(f"  did you mean {' or '.join(near)}?")
     return bool(found)

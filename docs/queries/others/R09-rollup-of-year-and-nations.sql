@@ -1,0 +1,1 @@
+select d_year, c_nation, s_nation, sum(lo_revenue) as r from lineorder, date, customer, supplier where lo_orderdate = d_datekey and lo_custkey = c_custkey and lo_suppkey = s_suppkey group by rollup(d_year, c_nation, s_nation);

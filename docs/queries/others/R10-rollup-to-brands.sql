@@ -1,0 +1,1 @@
+select d_year, d_monthnuminyear, p_brand1, sum(lo_revenue) as r from lineorder, date, part where lo_orderdate = d_datekey and lo_partkey = p_partkey group by rollup(d_year, d_monthnuminyear, p_brand1);
