@@ -1,6 +1,6 @@
 -- What is known before a run holds at every moment of it.
 use Rattle.std.proofs.Common.{◌≡◌, ℕ, zero, suc, ◌+◌, ◌*◌, ◌^◌, ◌≤◌, ◌<◌, Bool, true, false, List, [], ◌∷◌, refl, sym, subst, arith, le_trans}
-use Rattle.star_safety.proofs.Common.{Agrees, AllKnown, BadRegister, Code, Context, Count, Each, Effect, End, EndsTurn, Faulty, GoesOn, Holds, HoldsThroughout, InEachTurn, IsAccepted, IsLoaded, IsMoment, KnownRow, Onward, Parts, Registers, Row, Shares, State, Stop, Then, Throughout, TotalsLie, Traps, World, WrittenTwice, act, after_op, after_scan, all_shares, at_end, at_first, at_place, code_puts_to, code_size, empty_state, group_at, in_scan, key_value_cmp, ltb-true, meaning, members, nat_lt, no_registers, none_open, not, numbers_for, op_reason, open_with, or_none, or_parts, picked, quote, scan_reason, slice_index_or, sum_of, turns, turns_met, unless, unless_none, visited, with_entry, ℤ}
+use Rattle.star_safety.proofs.Common.{Agrees, AllKnown, BadRegister, Code, Context, Count, Each, Effect, End, Faulty, Holds, HoldsThroughout, InEachTurn, IsAccepted, IsLoaded, IsMoment, KnownRow, Onward, Parts, Registers, Row, Shares, State, Stop, Then, Throughout, TotalsLie, World, WrittenTwice, act, after_op, after_scan, all_shares, at_end, at_first, at_place, code_puts_to, code_size, empty_state, group_at, in_scan, key_value_cmp, ltb-true, meaning, members, nat_lt, no_registers, none_open, not, numbers_for, op_reason, open_with, or_none, or_parts, picked, quote, scan_reason, slice_index_or, sum_of, turns, turns_met, unless, unless_none, visited, with_entry, ℤ}
 use Rattle.star_safety.proofs.Tally.{Tally, Tallies, no_tallies, plus_all, times_all, tallies_of, tally_of, tally_sum, sum_range_is}
 use Rattle.star_safety.proofs.{TallyOrder.AtMost, TallyOrder.at_most_trans, TallyOrder.at_most_plus, TallyOrder.at_most_turn, Gains.op_gain, Gains.gain, Gains.whole_gain, Room.has_room}
 use Rattle.star_safety.proofs.Tallied.{sum_up, sum_down, IsTallied, tallied_more, tallied_members, sums_lie, shares_lie}
@@ -8,6 +8,7 @@ use Rattle.star_safety.proofs.Instructions.{unmapped_none, agrees_entry, AreTall
 use Rattle.star_safety.proofs.Turns.{Safe, all_tallied_more, safe_more, safe_turns, at_start}
 use Rattle.star_safety.proofs.Sound.{quoted_each, in_time, at_place_none, IsReady, ready_then, ready_in, ready_after, op_room}
 use Rattle.star_safety.proofs.Runs.{AllFit, sound, not_refused, ready_first, all_fit, few_puts, nothing_tallied, safe_ends}
+use Rattle.std.proofs.lemmas.Grind.{common_steps}
 
 -- ---- one moment
 
@@ -60,9 +61,7 @@ onward : (w : World) (known : AllKnown) (y : Tallies) (visits : ℕ) (e : Effect
     → ((regs : Registers) (s : State) → Agrees w known regs → AreTallied y s → s.visits ≡ visits
     → Next regs s)
     → Onward e Next
-onward w known y visits (GoesOn regs s) Next h go = go regs s h.0 h.1 h.2
-onward w known y visits (EndsTurn s) Next h go = tt
-onward w known y visits (Traps trap) Next h go = h
+onward w known y visits e Next h go = grind (arith, common_steps)
 
 in_each_turn : (y add : Tallies) (start inner rows : ℕ) (turn : ℕ → State → End)
     (Holding : ℕ → State → Type 0)

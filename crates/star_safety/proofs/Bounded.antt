@@ -1,8 +1,9 @@
 -- No run makes more turns than are quoted, and one that may make as many as that is the run without
 -- a bound.
-use Rattle.std.proofs.Common.{◌≡◌, ℕ, zero, suc, ◌+◌, ◌*◌, ◌≤◌, ◌<◌, Bool, true, false, Option, Some, None, refl, sym, ap, subst, ◌∙◌, arith, zero-add, le_trans}
-use Rattle.star_safety.proofs.Common.{Assign, Binary, Code, Const, Each, Edge, Effect, End, Ended, EndsTurn, Find, GoesOn, Keep, Limited, Load, Not, Op, Parts, Put, Read, Registers, Row, State, Stop, Then, TrapKind, Trapped, Traps, Within, World, act, after, begin, bounded_run_of, code_size, effect_of, empty_state, flag_read, follow, if◌then◌else◌, lt-ltb, meaning, mul-le-mul_right, nat_lt, no_registers, quote, run_of, scans, shown_fault, trap_of, turns, turns_met, unless_trap, unless_unshown, visited, with_entry}
+use Rattle.std.proofs.Common.{◌≡◌, ℕ, zero, suc, ◌+◌, ◌*◌, ◌≤◌, ◌<◌, Bool, true, false, Option, Some, None, refl, subst, arith, zero-add, le_trans}
+use Rattle.star_safety.proofs.Common.{Code, Each, Effect, End, Ended, EndsTurn, GoesOn, Limited, Op, Parts, Registers, Row, State, Stop, Then, TrapKind, Trapped, Traps, World, act, after, begin, bounded_run_of, code_size, effect_of, empty_state, flag_read, follow, if◌then◌else◌, lt-ltb, meaning, mul-le-mul_right, nat_lt, no_registers, quote, run_of, scans, shown_fault, trap_of, turns, turns_met, unless_trap, unless_unshown, visited, with_entry}
 use Rattle.star_safety.proofs.Sound.{quoted_each, in_time}
+use Rattle.std.proofs.lemmas.Grind.{common_steps}
 
 -- ---- an instruction begins no turn
 
@@ -23,16 +24,7 @@ keeps_none regs s false = refl
 
 does_none : (w : World) (parts : Parts) (regs : Registers) (s : State) (op : Op)
     → BeginsNone s.visits (effect_of w parts regs s op)
-does_none w parts regs s (Assign t (Find table k)) = refl
-does_none w parts regs s (Assign t (Binary o l r)) = refl
-does_none w parts regs s (Assign t (Const n)) = refl
-does_none w parts regs s (Assign t (Edge e c text)) = refl
-does_none w parts regs s (Assign t (Load c r)) = refl
-does_none w parts regs s (Assign t (Within x a b)) = refl
-does_none w parts regs s (Assign t (Not f)) = refl
-does_none w parts regs s (Assign t (Read g a n)) = refl
-does_none w parts regs s (Keep f) = keeps_none regs s (flag_read (regs f))
-does_none w parts regs s (Put g ks vs) = refl
+does_none w parts regs s op = grind (arith, common_steps, keeps_none, flag_read)
 
 acts_none : (w : World) (parts : Parts) (inside : Bool) (regs : Registers) (s : State) (op : Op)
     → BeginsNone s.visits (act w parts inside regs s op)
@@ -51,30 +43,20 @@ abbrev Same : ℕ → End → End → Type 0
 Same v e e' = (e ≡ e') × Quoted v e'
 
 quoted_wider : (v u : ℕ) (e : End) → v ≤ u → Quoted v e → Quoted u e
-quoted_wider v u (Ended s) h q = omega (arith, h, q)
-quoted_wider v u (Trapped at trap) h q = q
-quoted_wider v u Limited h q = q
+quoted_wider v u e h q = grind (arith, common_steps)
 
 wider : (v u : ℕ) (e e' : End) → v ≤ u → Same v e e' → Same u e e'
 wider v u e e' h q = (q.0, quoted_wider v u e' h q.1)
 
 same_after : (v u : ℕ) (e e' : End) (f g : State → End) → Same v e e'
     → ((s : State) → s.visits ≤ v → Same u (f s) (g s)) → Same u (after e f) (after e' g)
-same_after v u e e' f g q h =
-    let r = ended e' q.1 in (ap (λ z. after z f) q.0 ∙ r.0, r.1)
-  where
-    ended : (z : End) → Quoted v z → Same u (after z f) (after z g)
-    ended (Ended s) b = h s b
-    ended (Trapped at trap) b = (refl, tt)
-    ended Limited b = absurd b
+same_after v u e e' f g q h = grind (arith, common_steps, after)
 
 same_follow : (visits v at : ℕ) (e : Effect) (f g : Registers → State → End) → BeginsNone visits e
     → visits ≤ v
     → ((regs : Registers) (s : State) → s.visits ≡ visits → Same v (f regs s) (g regs s))
     → Same v (follow at e f) (follow at e g)
-same_follow visits v at (GoesOn regs s) f g q b h = h regs s q
-same_follow visits v at (EndsTurn s) f g q b h = (refl, omega (arith, q, b))
-same_follow visits v at (Traps trap) f g q b h = (refl, tt)
+same_follow visits v at e f g q b h = grind (arith, common_steps)
 
 same_scans : (v at : ℕ) (b : Bool) (f g : Unit {0} → End) → Same v (f tt) (g tt)
     → Same v (scans at b f) (scans at b g)
@@ -93,9 +75,7 @@ same_turns : (start inner rows : ℕ) (may : ℕ → Bool) (f g : ℕ → State 
     → Same (s.visits + inner) (f j s) (g j s))
     → (k j : ℕ) → j + k ≡ rows → (s : State) → s.visits ≤ start + j * (inner + 1)
     → Same (start + rows * (inner + 1)) (turns may k j f s) (turns (λ visits. true) k j g s)
-same_turns start inner rows may f g allowed one zero j e s b =
-    let same : j ≡ rows = omega arith in
-    (refl, subst (λ n. s.visits ≤ start + n * (inner + 1)) same b)
+same_turns start inner rows may f g allowed one zero j e s b = grind (arith, common_steps)
 same_turns start inner rows may f g allowed one (suc k) j e s b =
     let within : j < rows = omega arith in
     let room : (j + 1) * (inner + 1) ≤ rows * (inner + 1) =
@@ -152,7 +132,15 @@ module _ (w : World) (parts : Parts) (may : ℕ → Bool) where
 pub unbounded : (w : World) (parts : Parts) (most : ℕ) → quote w.size parts ≤ most
     → bounded_run_of w most parts ≡ run_of w parts
 unbounded w parts most enough =
-    let same = same_meaning w parts (λ visits. nat_lt visits most) parts.body 1 false no_registers
-    empty_state most (subst (λ n. n ≤ most) (sym (zero-add (quote w.size parts))) enough)
-    (λ k h. lt-ltb k most h) in
-    ap (λ e. unless_unshown (shown_fault parts) (λ _. e)) same.0
+    grind (
+      arith,
+      common_steps,
+      same_meaning,
+      no_registers,
+      empty_state,
+      zero-add,
+      quote,
+      lt-ltb,
+      unless_unshown,
+      shown_fault,
+    )

@@ -1,26 +1,22 @@
 -- What holds throughout a run holds at each moment that it meets, and the other way round.
 use Rattle.std.proofs.Common.{◌≡◌, ℕ, zero, suc, ◌+◌, ◌<◌, Bool, true, false, refl, subst, sym, arith}
-use Rattle.star_safety.proofs.Common.{AtEveryMoment, Code, Context, Each, Effect, End, Ended, EndsTurn, EndsWith, GoesOn, HoldsFrom, HoldsThroughout, InEachTurn, IsMetFrom, Limited, Moment, Onward, Parts, Registers, Row, Shares, State, Stop, Then, Throughout, Trapped, Traps, World, act, after, after_op, after_scan, all_shares, at_end, behind, behind_scan, code_size, first_moment, follow, in_scan, in_turn, itself, ltb-true, meaning, meaning_of, moment, nat_lt, scans, turns, visited, with_entry}
+use Rattle.star_safety.proofs.Common.{AtEveryMoment, Code, Context, Each, Effect, End, Ended, EndsWith, GoesOn, HoldsFrom, HoldsThroughout, InEachTurn, IsMetFrom, Limited, Moment, Onward, Parts, Registers, Row, Shares, State, Stop, Then, Throughout, Trapped, World, act, after, after_op, after_scan, all_shares, at_end, behind, behind_scan, code_size, first_moment, follow, in_scan, in_turn, itself, ltb-true, meaning, meaning_of, moment, nat_lt, scans, turns, visited, with_entry}
 use Rattle.star_safety.proofs.BeforePuts.{moment_of}
+use Rattle.std.proofs.lemmas.Grind.{common_steps}
 
 -- ---- from the whole run to a moment
 
 -- what goes on behind a run that ends
 after_ended : (e : End) (Next : State → Type 0) (go : State → End) (t : State) (C : Type 0)
     → EndsWith e Next → after e go ≡ Ended t → ((s : State) → Next s → go s ≡ Ended t → C) → C
-after_ended (Ended s) Next go t C h is next = next s h is
-after_ended (Trapped at trap) Next go t C h is next = absurd h
-after_ended Limited Next go t C h is next = absurd h
+after_ended e Next go t C h is next = grind (arith, common_steps)
 
 -- in the turn behind `k` others
 in_one_turn : (k count from : ℕ) (turn : ℕ → State → End) (Holding : ℕ → State → Type 0)
     (s t : State) → k < count → InEachTurn count from turn Holding s
     → turns (λ visits. true) k from turn s ≡ Ended t → Holding (from + k) (visited t)
 in_one_turn k zero from turn Holding s t small h is = absurd (omega arith)
-in_one_turn zero (suc count) from turn Holding s t small h is =
-    let same : s ≡ t = cc in
-    let here : from ≡ from + 0 = omega arith in
-    subst (λ row. Holding row (visited t)) here (subst (λ x. Holding from (visited x)) same h.0)
+in_one_turn zero (suc count) from turn Holding s t small h is = grind (arith, common_steps, visited)
 in_one_turn (suc k) (suc count) from turn Holding s t small h is =
     let there : from + 1 + k ≡ from + suc k = omega arith in
     subst (λ row. Holding row (visited t)) there
@@ -51,10 +47,16 @@ module _ (w : World) (parts : Parts) (all : Shares) where
       subst (λ j. Holding j (visited t)) here
       (in_one_turn row (w.size table) 0 turn Holding s t within was.2 turned)
   met_onwards first m h (behind_scan x table r body rest at registers s t earlier declared turned) =
-      let was = met_onwards first (moment x (Each table r body rest) at registers s) h earlier in
-      subst (λ e. EndsWith e (Throughout w parts all
-      (after_scan x (at_end w parts (in_scan w x table r) body)) rest
-      (at + 1 + code_size body) registers)) turned was.3
+      grind (
+        arith,
+        common_steps,
+        moment,
+        after_scan,
+        at_end,
+        in_scan,
+        code_size,
+        met_onwards first (moment x (Each table r body rest) at registers s) h earlier,
+      )
 
   pub holds_from : (first : Moment) → Onwards first → HoldsFrom w parts all first
   holds_from first h m met =
@@ -67,9 +69,7 @@ module _ (w : World) (parts : Parts) (all : Shares) where
 
   ends_parts : (e : End) (go : State → End) → Ends (after e go)
       → (t : State) × (e ≡ Ended t) × Ends (go t)
-  ends_parts (Ended t) go h = (t, refl, h)
-  ends_parts (Trapped at trap) go h = absurd h
-  ends_parts Limited go h = absurd h
+  ends_parts e go h = grind (arith, common_steps)
 
   ends_declared : (at : ℕ) (b : Bool) (go : Unit {0} → End) → Ends (scans at b go)
       → (b ≡ true) × Ends (go tt)
@@ -82,21 +82,13 @@ module _ (w : World) (parts : Parts) (all : Shares) where
       → ((registers : Registers) (s : State) → e ≡ GoesOn registers s → Ends (go registers s)
       → Next registers s)
       → Onward e Next
-  onward_from (GoesOn registers s) at go Next h next = next registers s refl h
-  onward_from (EndsTurn s) at go Next h next = tt
-  onward_from (Traps trap) at go Next h next = h
+  onward_from e at go Next h next = grind (arith, common_steps)
 
   -- the turns from one on, behind those that went before
   turns_more : (k from : ℕ) (turn : ℕ → State → End) (s t u : State)
       → turns (λ visits. true) k from turn s ≡ Ended t → turn (from + k) (visited t) ≡ Ended u
       → turns (λ visits. true) (suc k) from turn s ≡ Ended u
-  turns_more zero from turn s t u is next =
-      let same : s ≡ t = cc in
-      let here : from + 0 ≡ from = omega arith in
-      let first : turn from (visited s) ≡ Ended u =
-      subst (λ x. turn from (visited x) ≡ Ended u) (sym same)
-      (subst (λ row. turn row (visited t) ≡ Ended u) here next) in
-      rw first refl
+  turns_more zero from turn s t u is next = grind (arith, common_steps, visited)
   turns_more (suc k) from turn s t u is next =
       let e : End = turn from (visited s) in
       let split = ended_parts e (turns (λ visits. true) k (from + 1) turn) t is in

@@ -1,6 +1,7 @@
 -- Groups whose keys have few values are few.
-use Rattle.std.proofs.Common.{◌≡◌, ◌⊎◌, ℕ, zero, suc, ◌*◌, ◌≤◌, Bool, true, false, List, [], ◌∷◌, ◌++◌, Option, Some, None, length, map, replicate, refl, sym, ap, subst, ◌∙◌, arith, ⊎_elim, true≢false, le_trans}
+use Rattle.std.proofs.Common.{◌≡◌, ◌⊎◌, ℕ, zero, suc, ◌≤◌, Bool, true, false, List, [], ◌∷◌, ◌++◌, Option, Some, None, length, map, replicate, refl, sym, ap, subst, ◌∙◌, arith, ⊎_elim, true≢false, le_trans}
 use Rattle.star_safety.proofs.Common.{Contains, Contains-append_cases, Contains-append_left, Contains-append_right, Contains-from_any, Cube, IsDistinct, IsMasked, KeyValue, Plain, Rollup, Shape, contains_cases, contains_here, contains_later, contains_mapped, contains_none, filter, flat_map, from_contains_map, if◌then◌else◌, is_grouping, is_none, key_decides, key_eq, key_equiv, length-append, length-le_from_is_member, length-map, length-rows, list_all, list_any-from_Contains, lists_of, masks, nat_le, rows_of_grouping, rows_of_groupings, sum_by, sum_by-cons}
+use Rattle.std.proofs.lemmas.Grind.{common_steps}
 
 -- ---- elements of lists that are joined, and of those that pass a test
 
@@ -50,9 +51,7 @@ module _ {A : Type 0} where
   mask_among : (m : List (Option A)) (ks : List A) → IsMasked m ks → Contains (masks ks) m
   mask_among [] [] h = contains_here [] []
   mask_among (Some j ∷ m) (k ∷ ks) h =
-      Contains-append_left (map (λ n. Some k ∷ n) (masks ks)) (map (λ n. None ∷ n) (masks ks)) _
-      (subst (λ i. Contains (map (λ n. Some k ∷ n) (masks ks)) (Some i ∷ m)) (sym h.0)
-      (contains_mapped (λ n. Some k ∷ n) (masks ks) m (mask_among m ks h.1)))
+      grind (arith, common_steps, masks, contains_mapped, mask_among m ks h.1)
   mask_among (None ∷ m) (k ∷ ks) h =
       Contains-append_right (map (λ n. Some k ∷ n) (masks ks)) (map (λ n. None ∷ n) (masks ks)) _
       (contains_mapped (λ n. None ∷ n) (masks ks) m (mask_among m ks h))
@@ -160,9 +159,7 @@ module _ {K : Type 0} where
   length-choices (None ∷ ms) (vs ∷ vss) h =
       length-map (choices ms vss) (λ q. None ∷ q) ∙ length-choices ms vss h
   length-choices (Some n ∷ ms) (vs ∷ vss) h =
-      length-rows (lists_of ms) (λ v. map (λ q. Some v ∷ q) (choices ms vss))
-      (λ v. length-map (choices ms vss) (λ q. Some v ∷ q) ∙ length-choices ms vss h.1) vs
-      ∙ ap (λ n. n * lists_of ms) (sym h.0)
+      grind (arith, common_steps, length-rows, lists_of, length-map, length-choices ms vss h.1)
   length-choices [] (vs ∷ vss) h = absurd h
   length-choices (None ∷ ms) [] h = absurd h
   length-choices (Some n ∷ ms) [] h = absurd h
@@ -210,15 +207,7 @@ module _ {K : Type 0} where
     length-cover : (ms : List (Option ℕ)) → IsMasked ms counts
         → length (cover ms) ≤ rows_of_grouping updates ms
     unfolding rows_of_grouping
-    length-cover ms h = by (list_all is_none ms) (nat_le updates (lists_of ms))
-      where
-        by : (none least : Bool)
-            → length (if none then replicate (length vss) None ∷ []
-            else (if least then map (cut_like ms) rows else choices ms vss))
-            ≤ (if none then 1 else (if least then updates else lists_of ms))
-        by true least = omega arith
-        by false true = omega (arith, few, length-map rows (cut_like ms))
-        by false false = omega (arith, length-choices ms vss h)
+    length-cover ms h = grind (arith, common_steps, is_none, lists_of, length-map, length-choices)
 
     -- a group of some rows each of whose keys that is shown has one of its values
     abbrev pub IsOne : List (Option K) → Type 0
@@ -273,14 +262,16 @@ module _ {K : Type 0} where
         → length (flat_map cover mss) ≤ sum_by (rows_of_grouping updates) mss
     length-covers [] each = omega arith
     length-covers (ms ∷ mss) each =
-        let first = length-cover ms (each ms (contains_here ms mss)) in
-        let rest = length-covers mss (λ m c. each m (contains_later ms mss m c)) in
-        omega (
+        grind (
           arith,
-          first,
-          rest,
-          length-append (cover ms) (flat_map cover mss),
-          sum_by-cons (rows_of_grouping updates) ms mss,
+          common_steps,
+          length-cover,
+          contains_here,
+          contains_later,
+          length-append,
+          sum_by-cons,
+          rows_of_grouping,
+          length-covers mss (λ m c. each m (contains_later ms mss m c)),
         )
 
     -- a list that has every group of a shape

@@ -1,8 +1,9 @@
 -- One pass over the code of a program finds the first instruction that is refused.
-use Rattle.std.proofs.Common.{◌≡◌, ℕ, ◌+◌, ◌≤◌, Bool, true, false, List, [], ◌∷◌, ◌++◌, Option, Some, None, refl, sym, ap, subst, ◌∙◌, arith, append_assoc, append-nil}
-use Rattle.star_safety.proofs.Common.{Act, BodyEnd, Code, CodeItem, Context, Each, Enclosing, Op, Parts, Scan, Standing, Stop, TableId, Then, World, after_op, after_scan, and_right, at_end, at_first, at_place, code_puts_to, code_size, eq-eqb, first_answer, first_reason, has_scan, in_one_of, in_scan, instructions_of, is_open, item_scope, le-ltb, list_any, list_any-append, lt-ltb, nat_lt, none_open, op_puts_to, op_reason, open_with, option_or, or-false, or_right, puts_to, reason_among, reason_of, scan_reason, scope_of, standing, ◌&&◌, ◌||◌}
+use Rattle.std.proofs.Common.{◌≡◌, ℕ, ◌+◌, ◌≤◌, Bool, true, false, List, [], ◌∷◌, ◌++◌, Option, Some, None, refl, sym, ap, ◌∙◌, arith, append_assoc, append-nil}
+use Rattle.star_safety.proofs.Common.{Act, Code, CodeItem, Context, Each, Enclosing, Op, Parts, Scan, Standing, Stop, TableId, Then, World, after_op, after_scan, and_right, at_end, at_first, at_place, code_puts_to, code_size, eq-eqb, first_answer, first_reason, has_scan, in_one_of, in_scan, instructions_of, is_open, item_scope, le-ltb, list_any, list_any-append, lt-ltb, nat_lt, none_open, op_puts_to, op_reason, open_with, option_or, or-false, or_right, puts_to, reason_among, reason_of, scan_reason, scope_of, standing, ◌&&◌, ◌||◌}
 use Rattle.star_safety.proofs.Scopes.{AreBelow, any_with, any_has, EachOf, each_both, each_so, same_any, stand_in}
 use Rattle.star_safety.proofs.Told.{Tells, tells_then, tells_in, tells_after, tells_through, nothing_told}
+use Rattle.std.proofs.lemmas.Grind.{common_steps}
 
 -- ---- the groups that some code puts to
 
@@ -65,33 +66,15 @@ and_true false b e = refl
 
 -- the scans round an instruction are among those of its register's scope
 below_round : (n : ℕ) (i : Standing) → AreBelow n (scope_of i) → AreBelow n i.round
-below_round n i h = of_item i.item refl
-  where
-    of_item : (item : CodeItem) → i.item ≡ item → AreBelow n i.round
-    of_item (Act op) e = subst (λ t. AreBelow n (item_scope i.number i.round t)) e h
-    of_item BodyEnd e = subst (λ t. AreBelow n (item_scope i.number i.round t)) e h
-    of_item (Scan table r) e =
-        (subst (λ t. AreBelow n (item_scope i.number i.round t)) e h).1
+below_round n i h = grind (arith, common_steps, item_scope)
 
 open_merged : (e i s later ps : Bool) → (s || ps) ≡ ps
     → (((e || (i || s)) || later) || ps) ≡ (e || (i || (ps || later)))
-open_merged true i s later ps h = refl
-open_merged false true s later ps h = refl
-open_merged false false true later true h = refl
-open_merged false false true later false h = absurd (cc)
-open_merged false false false true true h = refl
-open_merged false false false true false h = refl
-open_merged false false false false true h = refl
-open_merged false false false false false h = refl
+open_merged e i s later ps h = grind (arith, common_steps)
 
 scan_merged : (e b r later pb pr : Bool) → (b || pb) ≡ pb → (r || pr) ≡ pr
     → (((e || (b || r)) || later) || (pb || pr)) ≡ (((e || false) || pb) || (pr || later))
-scan_merged true b r later pb pr h k = refl
-scan_merged false b r later true pr h k = or_right ((b || r) || later) true refl
-scan_merged false true r later false pr h k = absurd (cc)
-scan_merged false false r later false true h k = or_right (r || later) true refl
-scan_merged false false true later false false h k = absurd (cc)
-scan_merged false false false later false false h k = or-false later
+scan_merged e b r later pb pr h k = grind (arith, common_steps, or_right, or-false)
 
 -- an instruction's open groups among all instructions
 open_here : (g : ℕ) (round : List Enclosing) (x : Context) (at : ℕ) (item : CodeItem)

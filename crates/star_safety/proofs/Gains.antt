@@ -1,8 +1,9 @@
 -- What instructions and code add each time that they are met.
-use Rattle.std.proofs.Common.{ℕ, ◌+◌, ◌≤◌, Bool, true, false, List, [], ◌∷◌, ◌++◌, None, arith}
+use Rattle.std.proofs.Common.{ℕ, ◌+◌, ◌≤◌, List, None, arith}
 use Rattle.star_safety.proofs.Common.{AllKnown, Code, Context, Each, GroupDecl, Op, Parts, Put, Stop, TableId, Then, World, after_op, after_scan, all_shares, at_end, group_at, if◌then◌else◌, in_scan, nat_eq, put_known, put_share, range_at, slice_index_or}
 use Rattle.star_safety.proofs.Tally.{Tally, no_tally, once, plus, times, Tallies, no_tallies, plus_all, times_all, tally_of, tallies_of}
 use Rattle.star_safety.proofs.TallyOrder.{AtMost, at_most_refl, at_most_trans, at_most_both, at_most_spread, at_most_product, at_most_nothing}
+use Rattle.std.proofs.lemmas.Grind.{common_steps}
 
 -- ---- an instruction
 
@@ -18,28 +19,24 @@ op_gain parts x _ h a = no_tally
 pub op_gained : (w : World) (parts : Parts) (x : Context) (op : Op) (g a : ℕ)
     → AtMost (plus (tally_of (x.so_far g a)) (times x.met (op_gain parts x op g a)))
     (tally_of ((after_op w parts x op).so_far g a))
-op_gained w parts x (Put h ks vs) g a = go (nat_eq g h)
-  where
-    go : (b : Bool)
-        → AtMost
-        (plus (tally_of (x.so_far g a))
-        (times x.met (if b then put_tally (group_at parts h) x.known vs a else no_tally)))
-        (tally_of ((if b then put_share parts x h vs a ∷ [] else []) ++ x.so_far g a))
-    go true = at_most_refl _
-    go false = at_most_nothing x.met (tally_of (x.so_far g a))
-op_gained w parts x _ g a = at_most_nothing x.met (tally_of (x.so_far g a))
+op_gained w parts x op g a =
+    grind (
+      arith,
+      common_steps,
+      plus,
+      tally_of,
+      times,
+      group_at,
+      no_tally,
+      put_share,
+      at_most_refl,
+      at_most_nothing,
+    )
 
 -- and no more numbers than that
 pub op_counted : (w : World) (parts : Parts) (x : Context) (op : Op) (g a : ℕ)
     → (tally_of ((after_op w parts x op).so_far g a)).many ≤ (tally_of (x.so_far g a)).many + x.met
-op_counted w parts x (Put h ks vs) g a = go (nat_eq g h)
-  where
-    go : (b : Bool)
-        → (tally_of ((if b then put_share parts x h vs a ∷ [] else []) ++ x.so_far g a)).many
-        ≤ (tally_of (x.so_far g a)).many + x.met
-    go true = omega arith
-    go false = omega arith
-op_counted w parts x _ g a = omega arith
+op_counted w parts x op g a = grind (arith, common_steps, tally_of, put_share)
 
 -- ---- code
 

@@ -1,10 +1,12 @@
 -- One instruction of an admissible program.
-use Rattle.std.proofs.Common.{◌≡◌, ℕ, zero, suc, ◌<◌, Bool, true, false, List, [], ◌∷◌, Option, Some, None, refl, sym, ap, subst}
-use Rattle.star_safety.proofs.Common.{Add, Aggregate, Agrees, AllKnown, Assign, Binary, ColumnId, Const, Context, Count, Edge, Effect, EndsTurn, Fault, Faulty, Find, FitsAt, FitsValue, Flag, FromColumn, GoesOn, GroupDecl, Holds, IsLoaded, IsRowNumberOf, Keep, KeepsValues, Known, KnownFlag, KnownNumber, KnownPlace, KnownRow, KnownText, Less, Load, Mul, Not, Number, Op, Operator, Parts, Place, Put, Read, Reason, Registers, Row, Share, State, Sub, TableId, Text, TrapKind, Traps, Update, Value, Within, World, Wrong, act, after_op, aligned, answer_known, answer_of, binary_fault, both_fault, corner_range, differences_held, does, edge_of, effect_of, eq-eqb, fault_of, fits_i64, flag_read, group_at, if◌then◌else◌, is_i64, is_number_kind, is_row_kind, is_row_of, is_some_table, is_text, keeps, keys_fault, kind_fault, kind_reason, kinds_in, kinds_known, known_arithmetic, known_kind, known_number, loaded, loaded_known, map, nat_eq, not, number_read, numbers_fault, numbers_for, only, op_reason, operand_fault, operands_fault, option_map, option_or, or_none, origin_at, overflow_of, overflows, own_groups, place_fault, pos, products_held, put_known, puts, puts_update, range_at, range_reason, read_range, references, refers_to, refuses, register_kind, result_trap, row_read, sets, sets_answer, sets_found, slice_index_or, source_reason, sums_held, table_of, table_same, target_again, target_fault, target_of, total_over, unless, unless_none, unless_trap, unwrap_or, update_of, with_entry, ℤ, ◌*ℤ◌, ◌+ℤ◌, ◌-ℤ◌}
+use Rattle.std.proofs.Common.{◌≡◌, ℕ, zero, suc, ◌<◌, Bool, true, false, List, [], ◌∷◌, Option, Some, None, refl, subst, arith}
+use Rattle.star_safety.proofs.Common.{Add, Aggregate, Agrees, AllKnown, Assign, Binary, ColumnId, Const, Context, Count, Edge, Effect, EndsTurn, Fault, Faulty, Find, FitsAt, FitsValue, Flag, FromColumn, GoesOn, GroupDecl, Holds, IsLoaded, IsRowNumberOf, Keep, KeepsValues, Known, KnownFlag, KnownPlace, KnownRow, Less, Load, Mul, Not, Number, Op, Operator, Parts, Place, Put, Read, Reason, Registers, Share, State, Sub, TableId, TrapKind, Traps, Update, Value, Within, World, Wrong, act, after_op, aligned, answer_known, answer_of, binary_fault, both_fault, corner_range, differences_held, does, edge_of, effect_of, fault_of, fits_i64, flag_read, group_at, if◌then◌else◌, is_i64, is_number_kind, is_row_of, is_some_table, is_text, keeps, keys_fault, kind_fault, kind_reason, kinds_in, kinds_known, known_arithmetic, known_kind, known_number, loaded, loaded_known, map, nat_eq, not, number_read, numbers_fault, numbers_for, only, op_reason, operand_fault, operands_fault, option_map, option_or, or_none, origin_at, overflow_of, overflows, own_groups, place_fault, pos, products_held, put_known, puts, puts_update, range_at, range_reason, read_range, references, refers_to, refuses, register_kind, result_trap, row_read, sets, sets_answer, sets_found, slice_index_or, source_reason, sums_held, table_of, table_same, target_again, target_fault, target_of, total_over, unless, unless_none, unless_trap, unwrap_or, update_of, with_entry, ℤ, ◌*ℤ◌, ◌+ℤ◌, ◌-ℤ◌}
 use Rattle.star_program.specs.declared.fault.TrapKind.TheVariants.{Overflow}
 use Rattle.star_safety.proofs.Tally.{Tally, no_tally, plus, Tallies, no_tallies, plus_all, tally_of}
 use Rattle.star_safety.proofs.{Gains.put_tally, Gains.op_gain, Numbers.holds_itself, Numbers.fits_held, TallyOrder.AtMost, TallyOrder.at_most_plus}
 use Rattle.star_safety.proofs.Tallied.{IsTallied, tallied_more, tallied_put, no_overflow, read_holds, tallies_fit, tallies_fit_less}
+use Rattle.std.proofs.lemmas.Grind.{common_steps}
+use Rattle.std.proofs.lemmas.Int.{ints}
 
 -- ---- no fault, and no reason
 
@@ -28,15 +30,7 @@ not_refuses_none false x e = absurd (cc)
 
 same_kind : (w : World) (k : Option Known) (v : Option Value) → FitsAt w k v
     → option_map known_kind k ≡ option_map register_kind v
-same_kind w None None h = refl
-same_kind w (Some (KnownNumber r reach origin)) (Some (Number z)) h = refl
-same_kind w (Some (KnownText c)) (Some (Text d n)) h =
-    ap (λ x. Some (known_kind (KnownText x))) h.0
-same_kind w (Some (KnownPlace c)) (Some (Place d n)) h =
-    ap (λ x. Some (known_kind (KnownPlace x))) h.0
-same_kind w (Some (KnownRow t)) (Some (Row s n)) h = ap (λ x. Some (known_kind (KnownRow x))) h.0
-same_kind w (Some KnownFlag) (Some (Flag b)) h = refl
-same_kind w _ _ h = absurd h
+same_kind w k v h = grind (arith, common_steps, known_kind)
 
 kinds_same : (w : World) (known : AllKnown) (regs : Registers) → Agrees w known regs
     → kinds_known known ≡ kinds_in regs
@@ -69,10 +63,7 @@ agrees_entry w known regs t k v h p = λ r. fits_entry w (nat_eq r t) k v (known
 number_fits : (w : World) (k : Option Known) (v : Option Value)
     → kind_fault is_number_kind (option_map known_kind k) ≡ None → FitsAt w k v
     → Holds (range_at k) (number_read v) × FromColumn w (origin_at k) (number_read v)
-number_fits w None v e h = absurd (cc)
-number_fits w (Some (KnownNumber r reach origin)) (Some (Number z)) e h = h
-number_fits w (Some (KnownNumber r reach origin)) _ e h = absurd h
-number_fits w (Some _) v e h = absurd (cc)
+number_fits w k v e h = grind (arith, common_steps)
 
 number_at : (w : World) (count r : ℕ) (known : AllKnown) (regs : Registers)
     → operand_fault count (kinds_known known) is_number_kind r ≡ None → Agrees w known regs
@@ -82,11 +73,7 @@ number_at w count r known regs e h = number_fits w (known r) (regs r) (or_none _
 
 row_fits : (w : World) (t : TableId) (k : Option Known) (v : Option Value)
     → is_row_of t (option_map known_kind k) ≡ true → FitsAt w k v → row_read v < w.size t
-row_fits w t (Some (KnownRow s)) (Some (Row q n)) e h =
-    subst (λ x. n < w.size x) (table_same s t e) h.1
-row_fits w t (Some (KnownRow s)) _ e h = absurd h
-row_fits w t None v e h = absurd (cc)
-row_fits w t (Some _) v e h = absurd (cc)
+row_fits w t k v e h = grind (arith, common_steps, table_same)
 
 -- ---- the numbers of a put
 
@@ -188,30 +175,16 @@ module _ (w : World) (catalogue : IsLoaded w) (parts : Parts) (x : Context) (y :
   good_loaded : (b : Bool) (t : ℕ) (c : ColumnId) (n : ℕ) → is_text c ≡ b → n < w.size (table_of c)
       → IsGood w (with_entry x.known t (loaded_known w c b)) (plus_all y no_tallies) s.visits
       (sets regs s t (loaded w c n b))
-  good_loaded true t c n e h =
-      good_sets t (loaded_known w c true) (Text c (w.code c n)) (refl, catalogue.coded c n e h)
-  good_loaded false t c n e h =
-      good_sets t (loaded_known w c false) (Number (w.number c n))
-      (catalogue.held c n h, (n, h, refl))
+  good_loaded b t c n e h = grind (arith, common_steps, good_sets, loaded_known)
 
   good_found : (t : ℕ) (table : TableId) (o : Option ℕ) → IsRowNumberOf w table o
       → IsGood w (with_entry x.known t (KnownRow table)) (plus_all y no_tallies) s.visits
       (sets_found regs s t table o)
-  good_found t table None h = absurd h
-  good_found t table (Some n) h =
-      (agrees_entry w x.known regs t (KnownRow table) (Row table n) agrees (refl, h), still, refl)
+  good_found t table o h = grind (arith, common_steps, agrees_entry, still)
 
   is_found : (table : TableId) (o : Option ColumnId) (z : ℤ) → refers_to table o ≡ true
       → FromColumn w o z → IsRowNumberOf w table (w.find table z)
-  is_found table None z e h = absurd (cc)
-  is_found table (Some c) z e h =
-      subst (λ q. IsRowNumberOf w table (w.find table q)) (sym h.2)
-      (catalogue.found c table h.0 (is_reference table (references c) e) h.1)
-    where
-      is_reference : (table : TableId) (o : Option TableId) → is_some_table table o ≡ true
-          → o ≡ Some table
-      is_reference table None e = absurd (cc)
-      is_reference table (Some q) e = ap Some (sym (table_same table q e))
+  is_found table o z e h = grind (arith, common_steps, ints, references, is_some_table, table_same)
 
   good_keeps : (b : Bool) → IsGood w x.known (plus_all y no_tallies) s.visits (keeps regs s b)
   good_keeps true = (agrees, still, refl)
@@ -293,10 +266,18 @@ module _ (w : World) (catalogue : IsLoaded w) (parts : Parts) (x : Context) (y :
   does_good pending (Assign t (Edge g c b)) m e from r closed room fit =
       good_sets t (KnownPlace c) (Place c (edge_of w g c b)) (refl, catalogue.counted g c b)
   does_good pending (Assign t (Load c q)) m e from r closed room fit =
-      good_loaded (is_text c) t c (row_read (regs q)) refl
-      (row_fits w (table_of c) (x.known q) (regs q)
-      (unless_none _ _ (or_none
-      (operand_fault parts.registers (kinds_known x.known) is_row_kind q) _ e).1) (agrees q))
+      grind (
+        arith,
+        common_steps,
+        good_loaded,
+        is_text,
+        row_read,
+        row_fits,
+        table_of,
+        unless_none,
+        or_none,
+        operand_fault,
+      )
   does_good pending (Assign t (Find table k)) m e from r closed room fit =
       good_found t table (w.find table (number_read (regs k)))
       (is_found table (origin_at (x.known k)) (number_read (regs k)) (not_refuses_none _ _ from)
@@ -311,11 +292,18 @@ module _ (w : World) (catalogue : IsLoaded w) (parts : Parts) (x : Context) (y :
       (closed g i (refuses_none (pending g) _ from)) (not_refuses_none _ _ r)
   does_good pending (Keep k) m e from r closed room fit = good_keeps (flag_read (regs k))
   does_good pending (Put g ks vs) m e from r closed room fit =
-      good_put g ks vs (m g) (or_none
-      (keys_fault parts.registers (kinds_known x.known) (group_at parts g).keys ks) _ e).1
-      (λ a. subst (λ b. AtMost
-      (plus (y g a) (if b then put_tally (group_at parts g) x.known vs a else no_tally))
-      (m g a)) (eq-eqb g g refl) (room g a)) (fit g)
+      grind (
+        arith,
+        common_steps,
+        good_put,
+        or_none,
+        keys_fault,
+        kinds_known,
+        group_at,
+        plus,
+        put_tally,
+        no_tally,
+      )
 
 -- one instruction of an admissible program
 pub act_good : (w : World) → IsLoaded w

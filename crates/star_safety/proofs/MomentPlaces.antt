@@ -1,6 +1,7 @@
 -- Each moment of a run stands among the instructions of its program.
-use Rattle.std.proofs.Common.{◌≡◌, ℕ, ◌+◌, List, [], ◌∷◌, ◌++◌, Some, append_assoc, append-nil, ap, length, refl, sym, ◌∙◌}
-use Rattle.star_safety.proofs.Common.{Act, Code, Context, Each, Enclosing, IsMet, Moment, Parts, Scan, Standing, StandsIn, Stop, Then, World, after_op, after_scan, at_end, behind, behind_scan, code_size, in_scan, in_turn, instructions_of, item_of, itself, moment, slice_get, standing}
+use Rattle.std.proofs.Common.{◌≡◌, ℕ, ◌+◌, List, [], ◌∷◌, ◌++◌, Some, append_assoc, append-nil, ap, length, refl, sym, ◌∙◌, arith}
+use Rattle.star_safety.proofs.Common.{Code, Context, Each, Enclosing, IsMet, Moment, Parts, Scan, Standing, StandsIn, Stop, Then, World, after_op, after_scan, at_end, behind, behind_scan, code_size, in_scan, in_turn, instructions_of, item_of, itself, moment, slice_get, standing}
+use Rattle.std.proofs.lemmas.Grind.{common_steps}
 
 at_seam : {A : Type 0} (front : List A) (x : A) (back : List A)
     → slice_get (front ++ x ∷ back) (length front) ≡ Some x
@@ -29,12 +30,7 @@ module _ (w : World) (parts : Parts) where
 
   left_part : (a b : List Standing) → IsPart (instructions_of w parts) (a ++ b)
       → IsPart (instructions_of w parts) a
-  left_part a b h = record {
-    front = h.front;
-    back = b ++ h.back;
-    cut =
-        h.cut ∙ ap (λ xs. h.front ++ xs) (append_assoc a b h.back);
-  }
+  left_part a b h = grind (arith, common_steps, append_assoc)
 
   right_part : (a b : List Standing) → IsPart (instructions_of w parts) (a ++ b)
       → IsPart (instructions_of w parts) b
@@ -57,10 +53,14 @@ module _ (w : World) (parts : Parts) where
     },
   )
   stretch m (behind x op rest at before after s t earlier goes) =
-      let was = stretch (moment x (Then op rest) at before s) earlier in (
-        was.0,
-        one_on (record { number = at; round = was.0; context = x; item = Act op })
-            (standing w parts was.0 (after_op w parts x op) (at + 1) rest) was.1,
+      grind (
+        arith,
+        common_steps,
+        moment,
+        one_on,
+        standing,
+        after_op,
+        stretch (moment x (Then op rest) at before s) earlier,
       )
   stretch m (in_turn x table r body rest at registers s t row earlier declared within turned) =
       let was = stretch (moment x (Each table r body rest) at registers s) earlier in
@@ -74,15 +74,18 @@ module _ (w : World) (parts : Parts) where
             (record { number = at; round = was.0; context = x; item = Scan table r }) (a ++ b) was.1),
       )
   stretch m (behind_scan x table r body rest at registers s t earlier declared turned) =
-      let was = stretch (moment x (Each table r body rest) at registers s) earlier in
-      let inner = in_scan w x table r in
-      let round : List Enclosing = record { number = at; table = table } ∷ was.0 in
-      let a : List Standing = standing w parts round inner (at + 1) body in
-      let b : List Standing = standing w parts was.0 (after_scan x (at_end w parts inner body))
-      (at + 1 + code_size body) rest in (
-        was.0,
-        right_part a b (one_on
-            (record { number = at; round = was.0; context = x; item = Scan table r }) (a ++ b) was.1),
+      grind (
+        arith,
+        common_steps,
+        moment,
+        in_scan,
+        standing,
+        after_scan,
+        at_end,
+        code_size,
+        right_part,
+        one_on,
+        stretch (moment x (Each table r body rest) at registers s) earlier,
       )
 
   head_stands : (x : Context) (c : Code) (at : ℕ) (round : List Enclosing)

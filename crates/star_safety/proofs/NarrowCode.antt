@@ -1,8 +1,9 @@
 -- Where nothing refuses some code, what is known at its end lies within 2 ^ 63 of zero, and so does
 -- each number that it puts.
-use Rattle.std.proofs.Common.{◌≡◌, ℕ, ◌+◌, Bool, None}
-use Rattle.star_safety.proofs.Common.{Code, Context, Each, KnownRow, Op, Parts, Stop, TableId, Then, World, after_op, after_scan, at_end, at_first, at_place, code_size, first_reason, in_scan, kind_reason, op_reason, open_with, or_none, range_reason, scan_reason, source_reason}
+use Rattle.std.proofs.Common.{◌≡◌, ℕ, ◌+◌, Bool, None, arith}
+use Rattle.star_safety.proofs.Common.{Code, Context, Each, Op, Parts, Stop, TableId, Then, World, after_op, after_scan, at_end, at_first, at_place, code_size, first_reason, in_scan, kind_reason, op_reason, open_with, or_none, range_reason, scan_reason, source_reason}
 use Rattle.star_safety.proofs.{Sound.at_place_none, NarrowRanges.Fits, NarrowRanges.zero_narrow, NarrowRanges.entry_narrow, NarrowRanges.after_narrow}
+use Rattle.std.proofs.lemmas.Grind.{common_steps}
 
 -- at the first instruction
 pub first_fits : (parts : Parts) → Fits parts at_first
@@ -13,16 +14,11 @@ pub op_fits : (w : World) (parts : Parts) (pending : ℕ → Bool) (x : Context)
     → Fits parts x
     → op_reason w parts pending x op ≡ None → Fits parts (after_op w parts x op)
 op_fits w parts pending x op fits e =
-    after_narrow w parts x op fits
-    (or_none (source_reason pending x op) (range_reason w parts x op)
-    (or_none (kind_reason parts x op) _ e).1).1
+    grind (arith, common_steps, after_narrow, or_none, source_reason, range_reason, kind_reason)
 
 pub in_fits : (w : World) (parts : Parts) (x : Context) (table : TableId) (r : ℕ)
     → Fits parts x → Fits parts (in_scan w x table r)
-in_fits w parts x table r fits = record {
-  known = entry_narrow x.known r (KnownRow table) tt fits.known;
-  each = fits.each;
-}
+in_fits w parts x table r fits = grind (arith, common_steps, entry_narrow)
 
 pub past_fits : (parts : Parts) (x end : Context) → Fits parts x → Fits parts end
     → Fits parts (after_scan x end)

@@ -1,9 +1,11 @@
 -- What is known where nothing is refused lies within 2 ^ 63 of zero, each result of it within
 -- 2 ^ 126, and so does the sum of fewer than 2 ^ 63 numbers.
-use Rattle.std.proofs.Common.{◌≡◌, ℕ, zero, suc, ◌+◌, ◌*◌, ◌^◌, ◌≤◌, ◌<◌, Bool, true, false, List, [], ◌∷◌, ◌++◌, Option, Some, None, refl, arith, FitsSigned, w64}
-use Rattle.star_safety.proofs.Common.{Add, Aggregate, AllByRecursion, AllKnown, And, Assign, Binary, ColumnId, Const, Context, Count, Edge, Equal, Find, FitsI128, FitsI64, Keep, Known, KnownFlag, KnownNumber, KnownPlace, KnownRow, KnownText, Less, LessOrEqual, Load, Max, Min, Mul, NamesI64, Not, Op, Operation, Operator, Or, Parts, Put, Range, Read, Share, Sub, Sum, Within, World, after_op, aligned, answer_known, fits_i64, group_at, hull, hull_of, hull_with, if◌then◌else◌, is_text, known_number, loaded_known, map, most_of, multiple_range, nat_eq, negsuc, only, overflow_of, pos, put_known, put_share, range_at, range_reason, read_range, result_known, slice_index_or, sum_range, unsigned_abs, widened, with_entry, ℤ, ◌*ℤ◌, ◌+ℤ◌, ◌-ℤ◌}
+use Rattle.std.proofs.Common.{◌≡◌, ℕ, zero, suc, ◌+◌, ◌*◌, ◌^◌, ◌≤◌, ◌<◌, Bool, true, false, List, [], ◌∷◌, Option, Some, None, refl, arith, FitsSigned, w64}
+use Rattle.star_safety.proofs.Common.{Add, Aggregate, AllByRecursion, AllKnown, And, Assign, ColumnId, Context, Count, Equal, FitsI128, FitsI64, Keep, Known, KnownNumber, Less, LessOrEqual, Max, Min, Mul, NamesI64, Op, Operation, Operator, Or, Parts, Put, Range, Read, Share, Sub, Sum, World, after_op, aligned, answer_known, fits_i64, group_at, hull, hull_of, hull_with, is_text, known_number, loaded_known, map, most_of, multiple_range, negsuc, only, overflow_of, pos, put_known, put_share, range_at, range_reason, read_range, result_known, slice_index_or, sum_range, unsigned_abs, widened, with_entry, ℤ, ◌*ℤ◌, ◌+ℤ◌, ◌-ℤ◌}
 use Rattle.star_safety.proofs.Instructions.{not_refuses_none}
 use Rattle.star_safety.proofs.Sizes.{Small, small_more, sum_abs, difference_abs, product_abs, fits_small, small_fits, i64_small, only_small, hull_small, corner_small, widened_small, multiple_small}
+use Rattle.std.proofs.lemmas.Grind.{common_steps}
+use Rattle.std.proofs.lemmas.Int.{ints}
 
 -- ---- what is known where nothing is refused
 
@@ -27,26 +29,11 @@ zero_narrow = only_small (2 ^ 63) (pos 0) (omega arith)
 
 pub entry_narrow : (known : AllKnown) (t : ℕ) (k : Known) → IsNarrow k
     → ((r : ℕ) → Narrow (range_at (known r))) → (r : ℕ) → Narrow (range_at (with_entry known t k r))
-entry_narrow known t k h all r = go (nat_eq r t)
-  where
-    here : (q : Known) → IsNarrow q → Narrow (range_at (Some q))
-    here (KnownNumber s reach origin) p = p
-    here (KnownText c) p = zero_narrow
-    here (KnownPlace c) p = zero_narrow
-    here (KnownRow q) p = zero_narrow
-    here KnownFlag p = zero_narrow
-
-    go : (b : Bool) → Narrow (range_at (if b then Some k else known r))
-    go true = here k h
-    go false = all r
+entry_narrow known t k h all r = grind (arith, common_steps, range_at, zero_narrow)
 
 -- a result that isn't refused
 result_narrow : (w : World) (k : Known) → overflow_of w k ≡ None → IsNarrow k
-result_narrow w (KnownNumber r reach origin) e = fits_small r (not_refuses_none (fits_i64 r) _ e)
-result_narrow w (KnownText c) e = tt
-result_narrow w (KnownPlace c) e = tt
-result_narrow w (KnownRow t) e = tt
-result_narrow w KnownFlag e = tt
+result_narrow w k e = grind (arith, common_steps, fits_small, not_refuses_none, fits_i64)
 
 -- what an operation makes, where it isn't refused
 made_narrow : (w : World) (parts : Parts) (x : Context) (t : ℕ) (o : Operation)
@@ -80,9 +67,7 @@ at_narrow (k ∷ ks) (suc a) all = at_narrow ks a all.1
 pub share_narrow : (parts : Parts) (x : Context) (g : ℕ) (vs : List ℕ) (a : ℕ) → Fits parts x
     → Narrow (put_share parts x g vs a).range
 share_narrow parts x g vs a fits =
-    at_narrow (put_known (group_at parts g) x.known vs) a
-    (aligned_narrow (group_at parts g).aggregates (map x.known vs)
-    (mapped_narrow x.known vs fits.known))
+    grind (arith, common_steps, at_narrow, put_known, group_at, aligned_narrow, mapped_narrow)
 
 -- ---- what adds up
 
@@ -107,22 +92,11 @@ sum_fits ss all few =
 
 pub after_narrow : (w : World) (parts : Parts) (x : Context) (op : Op) → Fits parts x
     → range_reason w parts x op ≡ None → Fits parts (after_op w parts x op)
-after_narrow w parts x (Assign t o) fits e = record {
-  known = entry_narrow x.known t (result_known w parts x (Assign t o))
-      (made_narrow w parts x t o e) fits.known;
-  each = fits.each;
-}
+after_narrow w parts x (Assign t o) fits e =
+    grind (arith, common_steps, entry_narrow, result_known, made_narrow)
 after_narrow w parts x (Keep f) fits e =
     record { known = fits.known; each = fits.each }
-after_narrow w parts x (Put g ks vs) fits e = record {
-  known = fits.known;
-  each = λ h a. each_after h a (nat_eq h g);
-}
-  where
-    each_after : (h a : ℕ) (b : Bool)
-        → AllNarrow ((if b then put_share parts x g vs a ∷ [] else []) ++ x.so_far h a)
-    each_after h a true = (share_narrow parts x g vs a fits, fits.each h a)
-    each_after h a false = fits.each h a
+after_narrow w parts x (Put g ks vs) fits e = grind (arith, common_steps, put_share, share_narrow)
 
 -- ---- what is refused
 
@@ -200,10 +174,7 @@ read_wide Sum ss n all many h =
     (sum_small ss all))
     (only_small (2 ^ 126) n (omega (arith, h)))
 read_wide Count ss n all many h =
-    let counts : Range = record { low = pos 0; high = pos (most_of ss) } in
-    narrow_wide (hull counts (only n))
-    (hull_small (2 ^ 63) counts (only n) (omega arith, omega (arith, many))
-    (only_small (2 ^ 63) n h))
+    grind (arith, common_steps, ints, pos, most_of, narrow_wide, hull, only, hull_small, only_small)
 read_wide Min ss n all many h =
     narrow_wide (hull_with (hull_of ss) (only n)) (extreme_narrow ss n all h)
 read_wide Max ss n all many h =
@@ -218,16 +189,16 @@ pub result_wide : (w : World) (parts : Parts) (x : Context) (t : ℕ) (o : Opera
     → Counts x → NamesI64 (Assign t o)
     → ((c : ColumnId) → is_text c ≡ false → FitsI64 (w.bounds c))
     → IsWide (result_known w parts x (Assign t o))
-result_wide w parts x t (Const n) fits counts named bounds =
-    narrow_wide (only n) (only_small (2 ^ 63) n (named_small n named))
-result_wide w parts x t (Load c r) fits counts named bounds =
-    loaded_wide w c (is_text c) refl (bounds c)
-result_wide w parts x t (Binary o l r) fits counts named bounds =
-    answer_wide o (x.known l) (x.known r) (fits.known l) (fits.known r)
-result_wide w parts x t (Read g a n) fits counts named bounds =
-    read_wide (slice_index_or (group_at parts g).aggregates a Count) (x.so_far g a) n
-    (fits.each g a) (counts.many g a) (named_small n named)
-result_wide w parts x t (Edge e c text) fits counts named bounds = tt
-result_wide w parts x t (Find table k) fits counts named bounds = tt
-result_wide w parts x t (Within q a b) fits counts named bounds = tt
-result_wide w parts x t (Not f) fits counts named bounds = tt
+result_wide w parts x t o fits counts named bounds =
+    grind (
+      arith,
+      common_steps,
+      narrow_wide,
+      only,
+      only_small,
+      named_small,
+      loaded_wide,
+      is_text,
+      answer_wide,
+      read_wide,
+    )

@@ -1,6 +1,7 @@
 -- How often an instruction is met where few scans stand one in another.
-use Rattle.std.proofs.Common.{◌≡◌, ◌<◌, ◌≤◌, ◌+◌, ◌*◌, ◌^◌, ℕ, suc, Bool, true, false, arith, ap, refl}
+use Rattle.std.proofs.Common.{◌≡◌, ◌<◌, ◌≤◌, ◌+◌, ◌*◌, ◌^◌, ℕ, suc, Bool, true, false, arith, refl}
 use Rattle.star_safety.proofs.Common.{Code, Decides-ltb, Each, TableId, if◌then◌else◌, ltb-false, mul-le-mul_left, mul-le-mul_right, mul_assoc, nat_lt, one-le-pow, pow-le-pow_right, pow-succ', scan_depth}
+use Rattle.std.proofs.lemmas.Grind.{common_steps}
 
 pub deeper_left : (b : Bool) (m n k : ℕ) → nat_lt m n ≡ b → (if b then n else m) ≤ k → m ≤ k
 deeper_left true m n k e h = let lt : m < n = (Decides-ltb m n).0 e in omega (arith, lt, h)
@@ -14,18 +15,12 @@ deeper_right false m n k e h = let le : n ≤ m = ltb-false m n e in omega (arit
 scanned : (base most times size n : ℕ) → size < base → times * base ^ suc n ≤ most
     → times * size * base ^ n ≤ most
 scanned base most times size n small h =
-    let grown : times * (size * base ^ n) ≤ times * (base * base ^ n) =
-    mul-le-mul_left times (mul-le-mul_right (base ^ n) (omega (arith, small))) in
-    let same : times * base ^ suc n ≡ times * (base * base ^ n) =
-    ap (λ m. times * m) (pow-succ' base n) in
-    omega (arith, mul_assoc times size (base ^ n), grown, same, h)
+    grind (arith, common_steps, mul-le-mul_left, mul-le-mul_right, pow-succ', mul_assoc)
 
 shallower : (base most times m n : ℕ) → 0 < base → m ≤ n → times * base ^ n ≤ most
     → times * base ^ m ≤ most
 shallower base most times m n some fewer h =
-    let less : times * base ^ m ≤ times * base ^ n =
-    mul-le-mul_left times (pow-le-pow_right some fewer) in
-    omega (arith, less, h)
+    grind (arith, common_steps, mul-le-mul_left, pow-le-pow_right)
 
 pub body_nested : (base most times size : ℕ) (table : TableId) (r : ℕ) (body rest : Code)
     → size < base → times * base ^ scan_depth (Each table r body rest) ≤ most
@@ -48,6 +43,4 @@ rest_nested base most times table r body rest some h =
 
 -- it is met no more often than that
 pub met_within : (base most times n : ℕ) → 0 < base → times * base ^ n ≤ most → times ≤ most
-met_within base most times n some h =
-    let once : times * 1 ≤ times * base ^ n = mul-le-mul_left times (one-le-pow n base some) in
-    omega (arith, once, h)
+met_within base most times n some h = grind (arith, common_steps, mul-le-mul_left, one-le-pow)

@@ -3,6 +3,7 @@ use Rattle.std.proofs.Common.{◌≡◌, ◌^◌, ◌≤◌, ◌<◌, true, refl
 use Rattle.star_safety.proofs.Common.{Holds, Range, and_parts, fits_i64, hull, ints, is_i128, is_i64, lt-ltb, negsuc, only, pos, ℤ, ◌≤ℤ◌}
 use borrow.Author.Differences.{up, down}
 use Rattle.star_interval.proofs.Ranges as ranges
+use Rattle.std.proofs.lemmas.Grind.{common_steps}
 
 pub holds_itself : (z : ℤ) → Holds (only z) z
 holds_itself z = ranges.holds_only z z refl
@@ -26,7 +27,4 @@ fits_in (pos n) p q = lt-ltb n (2 ^ 127) p
 fits_in (negsuc n) p q = lt-ltb n (2 ^ 127) q
 
 pub up_grows : (a b : ℤ) → a ≤ℤ b → (up a ≤ up b) × (down b ≤ down a)
-up_grows (pos a) (pos b) h = omega (arith, ints)
-up_grows (pos a) (negsuc b) h = absurd (omega (arith, ints))
-up_grows (negsuc a) (pos b) h = omega (arith, ints)
-up_grows (negsuc a) (negsuc b) h = omega (arith, ints)
+up_grows a b h = grind (arith, common_steps, ints)

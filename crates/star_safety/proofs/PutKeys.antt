@@ -1,9 +1,10 @@
 -- Each key of an update is one of the values that are known of it before the run.
 use Rattle.std.proofs.Common.{◌≡◌, ℕ, zero, suc, ◌+◌, ◌<◌, Bool, true, false, List, [], ◌∷◌, ◌++◌, Option, Some, None, length, map, refl, sym, ap, subst, ◌∙◌, arith, ⊎_elim, zero-add}
-use Rattle.star_safety.proofs.Common.{Add, Agrees, AllByRecursion, AllKnown, Assign, BadGroup, BadRegister, Binary, Code, ColumnId, Const, Contains, Contains-append_right, Context, Each, Edge, Effect, End, Ended, EndsTurn, EndsWith, Find, FitsAt, Flag, GoesOn, GroupKey, Holds, InEachTurn, Keep, KeyValue, Known, KnownFlag, KnownNumber, KnownPlace, KnownRow, KnownText, Limited, Load, Mul, Not, Number, Onward, Op, Operation, Parts, Place, Put, Range, Read, Registers, Row, Share, Shares, State, Stop, Sub, Text, Then, Throughout, TrapKind, Trapped, Traps, Update, Value, Within, World, Wrong, WrongKind, act, after, after_op, after_scan, all_key_shares, and_parts, at_end, code_size, column_same, contains_cases, contains_here, contains_mapped, contains_none, each_values, effect_of, eqb-true, fault_of, fits_key, follow, get_or-range_with_len, group_at, hull_of, hull_with, if◌then◌else◌, in_scan, ints, is_column, is_text, key_read, key_share, keys_fault, kind_fault, kinds_in, known_share, length-map, length-range_with_len, loaded_known, lt-ltb, meaning, most_of, nat_eq, nat_lt, negsuc, numbers_fault, numbers_to, op_key_shares, operand_fault, operation_known, option_map, or_none, place_fault, pos, possible_values, put_share, range_width, range_with_len, register_kind, result_known, scans, slice_index_or, target_fault, trap_of, turns, unless, unless_none, unless_trap, update_of, visited, width, with_entry, ℤ, ◌+ℤ◌, ◌-ℤ◌}
+use Rattle.star_safety.proofs.Common.{Agrees, AllByRecursion, AllKnown, Assign, BadGroup, BadRegister, Code, Contains, Contains-append_right, Context, Each, Effect, End, Ended, EndsTurn, EndsWith, FitsAt, Flag, GoesOn, GroupKey, Holds, InEachTurn, Keep, KeyValue, Known, KnownFlag, KnownNumber, KnownPlace, KnownRow, KnownText, Limited, Number, Onward, Op, Parts, Place, Put, Range, Registers, Row, Share, Shares, State, Stop, Text, Then, Throughout, TrapKind, Trapped, Traps, Update, Value, World, WrongKind, act, after, after_op, after_scan, all_key_shares, and_parts, at_end, code_size, column_same, contains_cases, contains_here, contains_mapped, contains_none, each_values, effect_of, eqb-true, fault_of, fits_key, follow, get_or-range_with_len, group_at, hull_of, hull_with, if◌then◌else◌, in_scan, ints, is_column, is_text, key_read, key_share, keys_fault, kind_fault, kinds_in, known_share, length-map, length-range_with_len, loaded_known, lt-ltb, meaning, most_of, nat_eq, nat_lt, negsuc, numbers_fault, numbers_to, op_key_shares, operand_fault, operation_known, option_map, or_none, place_fault, pos, possible_values, put_share, range_width, range_with_len, register_kind, result_known, scans, slice_index_or, target_fault, trap_of, turns, unless, unless_none, unless_trap, update_of, visited, width, with_entry, ℤ, ◌+ℤ◌, ◌-ℤ◌}
 use Rattle.star_program.specs.declared.group.GroupKey.TheVariants as declared
 use Rattle.star_program.specs.declared.key.KeyValue.TheVariants as key
 use Rattle.star_safety.proofs.{BeforePuts.moment_of, FewGroups.sizes, Instructions.unmapped_none, Numbers.holds_hull_left, Numbers.holds_hull_right}
+use Rattle.std.proofs.lemmas.Grind.{common_steps}
 
 -- ---- the values of a key
 
@@ -26,19 +27,18 @@ each_listed w parts g place (declared ∷ rest) =
 
 length-listed : (w : World) (shares : List Share) (declared : GroupKey)
     → length (listed w shares declared) ≡ possible_values w shares declared
-length-listed w shares (declared.Text c) = by (is_text c)
-  where
-    by : (b : Bool) → length (if b then map key.Code (range_with_len 0 (w.entries c)) else [])
-        ≡ (if b then w.entries c else 0)
-    by true = length-map (range_with_len 0 (w.entries c)) key.Code
-        ∙ length-range_with_len 0 (w.entries c)
-    by false = refl
-length-listed w shares declared.Number = by (hull_of shares)
-  where
-    by : (o : Option Range) → length (numbers_in o) ≡ range_width o
-    by None = refl
-    by (Some r) = length-map (range_with_len 0 (width r)) (number_from r.low)
-        ∙ length-range_with_len 0 (width r)
+length-listed w shares declared =
+    grind (
+      arith,
+      common_steps,
+      is_text,
+      range_with_len,
+      length-map,
+      length-range_with_len,
+      hull_of,
+      range_width,
+      width,
+    )
 
 pub sizes_are : (w : World) (parts : Parts) (g place : ℕ) (keys : List GroupKey)
     → sizes (each_listed w parts g place keys)
@@ -209,11 +209,6 @@ module _ (w : World) (parts : Parts) (g : ℕ) (vss : List (List KeyValue)) wher
   leaves_unless None e h = h refl
   leaves_unless (Some trap) e h = tt
 
-  leaves_keep : (b : Bool) (regs : Registers) (s : State) → AreListed s
-      → Leaves (if b then GoesOn regs s else EndsTurn s)
-  leaves_keep true regs s h = h
-  leaves_keep false regs s h = h
-
   listed_more : (b : Bool) (u : Update) (us : List Update) → (b ≡ true → KeysAmong u.keys vss)
       → AllByRecursion (λ u. KeysAmong u.keys vss) us
       → AllByRecursion (λ u. KeysAmong u.keys vss) (if b then u ∷ us else us)
@@ -224,24 +219,18 @@ module _ (w : World) (parts : Parts) (g : ℕ) (vss : List (List KeyValue)) wher
       → AreListed s
       → ListsKeys x op → Leaves (act w parts x.inside regs s op)
   leaves x regs s op agrees h lists =
-      leaves_unless (trap_of w parts x.inside regs s op) (effect_of w parts regs s op)
-      (λ e. by op lists (unmapped_none Wrong _
-      (or_none (option_map Wrong (fault_of parts x.inside None (kinds_in regs) op)) _ e).0))
-    where
-      by : (op : Op) → ListsKeys x op → fault_of parts x.inside None (kinds_in regs) op ≡ None
-          → Leaves (effect_of w parts regs s op)
-      by (Keep f) lists fine = leaves_keep _ regs s h
-      by (Put k ks vs) lists fine =
-          listed_more (nat_eq g k) (update_of (group_at parts k) regs ks vs) (s.updates_of g)
-          (λ e. lists e regs agrees fine) h
-      by (Assign t (Const n)) lists fine = h
-      by (Assign t (Edge e c text)) lists fine = h
-      by (Assign t (Load c r)) lists fine = h
-      by (Assign t (Find table k)) lists fine = h
-      by (Assign t (Binary o l r)) lists fine = h
-      by (Assign t (Within v a b)) lists fine = h
-      by (Assign t (Not f)) lists fine = h
-      by (Assign t (Read k a n)) lists fine = h
+      grind (
+        arith,
+        common_steps,
+        leaves_unless,
+        trap_of,
+        effect_of,
+        unmapped_none,
+        or_none,
+        option_map,
+        fault_of,
+        kinds_in,
+      )
 
   kept_follow : (at : ℕ) (e : Effect) (next : Registers → State → End)
       (Next : Registers → State → Type 0)
@@ -249,9 +238,7 @@ module _ (w : World) (parts : Parts) (g : ℕ) (vss : List (List KeyValue)) wher
       → ((regs : Registers) (s : State) → Next regs s → AreListed s
       → EndsWith (next regs s) AreListed)
       → EndsWith (follow at e next) AreListed
-  kept_follow at (GoesOn regs s) next Next h k go = go regs s h k
-  kept_follow at (EndsTurn s) next Next h k go = k
-  kept_follow at (Traps trap) next Next h k go = absurd h
+  kept_follow at e next Next h k go = grind (arith, common_steps)
 
   ends_after : (e : End) (next : State → End) (A : State → Type 0) → EndsWith e A
       → EndsWith e AreListed
@@ -305,36 +292,13 @@ module _ (w : World) (parts : Parts) (g : ℕ) (vss : List (List KeyValue)) wher
 
 text_entry : (known : AllKnown) (t : ℕ) (k : Known) (q : ℕ) → ((r : ℕ) → IsTextAlone (known r))
     → IsTextAlone (Some k) → IsTextAlone (with_entry known t k q)
-text_entry known t k q texts here = by (nat_eq q t)
-  where
-    by : (b : Bool) → IsTextAlone (if b then Some k else known q)
-    by true = here
-    by false = texts q
+text_entry known t k q texts here = grind (arith, common_steps)
 
 text_then : (w : World) (parts : Parts) (x : Context) (op : Op)
     → ((r : ℕ) → IsTextAlone (x.known r))
     → (r : ℕ) → IsTextAlone ((after_op w parts x op).known r)
-text_then w parts x (Keep f) texts r = texts r
-text_then w parts x (Put g ks vs) texts r = texts r
-text_then w parts x (Assign t o) texts r =
-    text_entry x.known t (result_known w parts x (Assign t o)) r texts (by o)
-  where
-    of_column : (c : ColumnId) (b : Bool) → is_text c ≡ b → IsTextAlone (Some (loaded_known w c b))
-    of_column c true e = e
-    of_column c false e = tt
-
-    by : (o : Operation) → IsTextAlone (Some (operation_known w parts x o))
-    by (Const n) = tt
-    by (Edge e c text) = tt
-    by (Load c s) = of_column c (is_text c) refl
-    by (Find table k) = tt
-    by (Binary Add l s) = tt
-    by (Binary Sub l s) = tt
-    by (Binary Mul l s) = tt
-    by (Binary _ l s) = tt
-    by (Within v a b) = tt
-    by (Not f) = tt
-    by (Read h a n) = tt
+text_then w parts x op texts r =
+    grind (arith, common_steps, text_entry, result_known, is_text, loaded_known, operation_known)
 
 -- what is put to the keys of groups stays
 keys_stay : (w : World) (parts : Parts) (x : Context) (c : Code) (g place : ℕ) (s : Share)
@@ -354,13 +318,7 @@ module _ (w : World) (parts : Parts) (g : ℕ) where
 
   put_shares : (x : Context) (h : ℕ) (ks vs : List ℕ) → nat_eq g h ≡ true → (place : ℕ)
       → Contains ((after_op w parts x (Put h ks vs)).keys_so_far g place) (key_share x ks place)
-  put_shares x h ks vs same place = here (nat_eq g h) same
-    where
-      here : (b : Bool) → b ≡ true
-          → Contains ((if b then key_share x ks place ∷ [] else []) ++ x.keys_so_far g place)
-          (key_share x ks place)
-      here true e = contains_here (key_share x ks place) (x.keys_so_far g place)
-      here false e = absurd (cc)
+  put_shares x h ks vs same place = grind (arith, common_steps, key_share, contains_here)
 
   -- all that the keys of the group are given up to some context is given to them in the end
   abbrev IsGivenBefore : Context → Type 0

@@ -3,6 +3,8 @@ use Rattle.std.proofs.Common.{◌≡◌, ℕ, zero, suc, ◌+◌, ◌^◌, ◌<�
 use Rattle.star_safety.proofs.Common.{AddUp, Aggregate, Count, GroupDecl, HasRoom, Sum, Update, above_zero, and_parts, below_zero, group_declared, length-map, negsuc, numbers_for, pos, slice_index_or, small_room, ℤ}
 use Rattle.star_safety.proofs.Tally.{Tally, sum_fits}
 use Rattle.star_safety.proofs.Tallied.{IsTallied, sum_up, sum_down, sum_ends, counted_fits, tallies_fit}
+use Rattle.std.proofs.lemmas.Grind.{common_steps}
+use Rattle.std.proofs.lemmas.Int.{ints}
 
 above_is : (vs : List ℤ) → above_zero vs ≡ sum_up vs
 unfolding above_zero
@@ -31,12 +33,7 @@ sum_at (g ∷ gs) a (suc place) t e h same =
     (sum_at gs (suc a) place t rest (omega (arith, h)) same)
 
 adds_up : (t : Tally) (vs : List ℤ) → IsTallied t vs → sum_fits t ≡ true → AddUp vs
-adds_up t vs w e =
-    let ends = sum_ends t e in
-    record {
-      above = omega (arith, above_is vs, w.above, ends.1);
-      below = omega (arith, below_is vs, w.below, ends.0);
-    }
+adds_up t vs w e = grind (arith, common_steps, ints, sum_ends, above_is, below_is)
 
 pub has_room : (d : GroupDecl) (t : ℕ → Tally) (us : List Update)
     → ((a : ℕ) → IsTallied (t a) (numbers_for a us)) → tallies_fit d.aggregates 0 t ≡ true

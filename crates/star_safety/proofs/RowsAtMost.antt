@@ -1,11 +1,11 @@
 -- The report of an accepted program has no more rows than are known before its run.
-use Rattle.std.proofs.Common.{◌≡◌, ℕ, suc, ◌≤◌, Bool, true, false, List, [], ◌∷◌, Option, Some, None, length, map, replicate, refl, sym, ap, subst, ◌∙◌, arith, ⊎_elim, inl, inr, true≢false}
-use Rattle.star_safety.proofs.Common.{AllByRecursion, AreReportRows, Ascending, Contains, Descending, Direction, End, Ended, EndsWith, Greater, GroupColumn, GroupDecl, GroupKey, GroupRow, IsAccepted, IsDistinct, IsGroup, IsMasked, IsOutcome, IsStrictlySortedBy, KeyValue, Limited, Ordering, Outcome, Parts, SortKey, State, Trapped, Update, World, all_key_shares, all_shares, at_each, at_first, contains_here, contains_later, contains_mapped, decoded_row, empty_state, from_contains_map, group_at, int_cmp_total, is_grouping, is_lt, key_cmp, key_decides, key_eq, key_value_cmp, length-map, length-replicate, lists_total, members, most_of, most_report_rows, nat_cmp_total, no_registers, of_each, ordering_reverse, ordering_then, pos, row_cmp, rows_of_groupings, run_of, shown_cells, shown_fault, slice_cmp, slice_index_or, sort_cmp, total_cmp, totals_of, unless_unshown, value_cmp}
+use Rattle.std.proofs.Common.{◌≡◌, ℕ, suc, ◌≤◌, Bool, true, false, List, [], ◌∷◌, Option, Some, None, length, map, refl, sym, ap, subst, ◌∙◌, arith, ⊎_elim, true≢false}
+use Rattle.star_safety.proofs.Common.{AllByRecursion, AreReportRows, Contains, End, Ended, EndsWith, Greater, GroupDecl, GroupKey, GroupRow, IsAccepted, IsDistinct, IsGroup, IsMasked, IsOutcome, IsStrictlySortedBy, KeyValue, Limited, Ordering, Outcome, Parts, SortKey, State, Trapped, Update, World, all_key_shares, all_shares, at_each, at_first, contains_here, contains_later, contains_mapped, decoded_row, empty_state, from_contains_map, group_at, int_cmp_total, is_grouping, is_lt, key_cmp, key_decides, key_eq, key_value_cmp, length-map, length-replicate, lists_total, members, most_of, most_report_rows, nat_cmp_total, no_registers, of_each, ordering_reverse, ordering_then, pos, row_cmp, rows_of_groupings, run_of, shown_cells, shown_fault, slice_cmp, slice_index_or, sort_cmp, total_cmp, totals_of, unless_unshown, value_cmp}
 use Rattle.std.specs.declared.cmp.Ordering.TheVariants.{Less, Equal}
-use Rattle.star_schema.specs.declared.group.GroupColumn.TheVariants as column
 use Rattle.star_schema.specs.Tables.{Value, Number, Text}
 use Rattle.star_safety.proofs.{Always.accepted_throughout, FewGroups.AreAmong, FewGroups.IsOne, FewGroups.few_groups, FewGroups.sizes, Runs.ends, Tally.most_is}
 use Rattle.star_safety.proofs.PutKeys.{AreListed, KeysAmong, all_listed, each_listed, kept, same_many, sizes_are}
+use Rattle.std.proofs.lemmas.Grind.{common_steps}
 
 -- ---- no row stands before itself
 
@@ -35,14 +35,8 @@ total_itself None = refl
 total_itself (Some z) = own_reverse _ (int_cmp_total.antisymm z z)
 
 sort_itself : (sort : SortKey) → IsNever (sort_cmp value_cmp sort)
-sort_itself sort row = by sort.column sort.direction
-  where
-    by : (c : GroupColumn) (d : Direction)
-        → sort_cmp value_cmp (record { column = c; direction = d }) row row ≡ Equal
-    by (column.Key place) Ascending = key_itself (slice_index_or row.keys place None)
-    by (column.Key place) Descending = key_itself (slice_index_or row.keys place None)
-    by (column.Aggregate place) Ascending = total_itself (slice_index_or row.totals place None)
-    by (column.Aggregate place) Descending = total_itself (slice_index_or row.totals place None)
+sort_itself sort row =
+    grind (arith, common_steps, sort_cmp, value_cmp, row, key_itself, slice_index_or, total_itself)
 
 row_itself : (sorts : List SortKey) → IsNever (row_cmp value_cmp sorts)
 row_itself [] row = keys_itself row.keys
@@ -155,25 +149,19 @@ module _ (w : World) (parts : Parts) where
       → (qs : List (Option KeyValue)) → IsGroup d.shape (length d.keys) us qs
       → (length qs ≡ length values) × (is_grouping d.shape qs ≡ true)
       × IsOne (map (λ u. u.keys) us) values most few qs
-  one_of_them us few listed qs group = (
-    ⊎_elim {C = length qs ≡ length values}
-        (λ h. length-masked qs h.0.keys h.2
-        ∙ length-among h.0.keys values (at_each (λ u. KeysAmong u.keys values) us h.0 listed h.1))
-        (λ h. ap length h ∙ length-replicate (length d.keys) None ∙ sym wide) group.1,
-    group.0,
-    ⊎_elim {C = IsOne (map (λ u. u.keys) us) values most few qs}
-        (λ h. inl (
-          h.0.keys,
-          contains_mapped (λ u. u.keys) us h.0 h.1,
-          h.2,
-          masked_among qs h.0.keys values h.2
-              (at_each (λ u. KeysAmong u.keys values) us h.0 listed h.1),
-        ))
-        (λ h. inr (h ∙ ap (λ n. replicate n None) (sym wide))) group.1,
-  )
-    where
-      wide : length values ≡ length d.keys
-      wide = length-each_listed w parts parts.report 0 d.keys
+  one_of_them us few listed qs group =
+      grind (
+        arith,
+        common_steps,
+        ⊎_elim,
+        length-masked,
+        length-among,
+        at_each,
+        length-replicate,
+        contains_mapped,
+        masked_among,
+        length-each_listed,
+      )
 
   few_rows : (us : List Update) (rows : List (GroupRow Value)) → AreReportRows w parts d us rows
       → AllByRecursion (λ u. KeysAmong u.keys values) us → length us ≤ most

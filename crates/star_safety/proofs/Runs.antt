@@ -1,12 +1,13 @@
 -- The run of an admissible program: it ends with no trap, within its quote.
 use Rattle.std.proofs.Common.{◌≡◌, ℕ, zero, suc, ◌+◌, ◌*◌, ◌^◌, ◌≤◌, ◌<◌, Bool, true, Option, Some, None, refl, sym, subst, arith, zero-add, le_refl, lt_of_lt_of_le, ◌∙◌}
-use Rattle.star_safety.proofs.Common.{Agrees, BadRegister, Code, Context, Each, End, Ended, EndsWith, Faulty, IsAccepted, IsLoaded, KnownRow, Limited, List, Parts, Registers, Row, Share, State, Stop, Then, Trapped, World, WrittenTwice, act, after, after_op, after_scan, all_shares, and_from, at_end, at_first, at_place, code_puts_to, code_size, empty_state, first_answer_none, first_reason, group_at, in_scan, instructions_of, le-leb, lt-ltb, meaning, meaning_of, most_of, mul-le-mul_left, mul-le-mul_right, nat_le, nat_lt, neg_ℤ, no_registers, none_open, not, op_reason, open_with, or_none, or_parts, pos, quote, reason_of, run_while, scan_reason, shown_fault, turns, turns_met, unless, unless_none, unless_unshown, unsigned_abs, with_entry}
+use Rattle.star_safety.proofs.Common.{Agrees, BadRegister, Code, Context, Each, End, Ended, EndsWith, Faulty, IsAccepted, IsLoaded, KnownRow, Limited, List, Parts, Registers, Row, Share, State, Stop, Then, Trapped, World, WrittenTwice, act, after, after_op, after_scan, all_shares, and_from, at_end, at_first, at_place, code_puts_to, code_size, empty_state, first_answer_none, first_reason, group_at, in_scan, instructions_of, le-leb, meaning, meaning_of, most_of, mul-le-mul_left, mul-le-mul_right, nat_lt, neg_ℤ, no_registers, none_open, not, op_reason, open_with, or_none, or_parts, pos, quote, reason_of, run_while, scan_reason, shown_fault, turns, turns_met, unless, unless_none, unless_unshown, unsigned_abs, with_entry}
 use Rattle.star_safety.proofs.Tally.{no_tally, plus, times, Tallies, no_tallies, plus_all, times_all, tally_of, sum_fits, sum_range_is, most_is}
 use Rattle.star_safety.proofs.TallyOrder.{AtMost, at_most_refl, at_most_trans, at_most_plus, at_most_assoc, at_most_both, at_most_once}
 use Rattle.star_safety.proofs.Gains.{op_gain, op_counted, gain, gained, whole_gain}
-use Rattle.star_safety.proofs.{Forward.first_standing, Tallied.tallies_fit, Tallied.all_tallies_fit, Instructions.unmapped_none, Instructions.agrees_entry, Instructions.AreTallied, Instructions.act_good, Sizes.Small, NarrowRanges.AllNarrow, NarrowRanges.sum_small, NarrowCode.end_fits, NarrowCode.first_fits}
+use Rattle.star_safety.proofs.{Forward.first_standing, Tallied.tallies_fit, Tallied.all_tallies_fit, Instructions.unmapped_none, Instructions.agrees_entry, Instructions.AreTallied, Instructions.act_good, NarrowRanges.AllNarrow, NarrowRanges.sum_small, NarrowCode.end_fits, NarrowCode.first_fits}
 use Rattle.star_safety.proofs.Turns.{Safe, all_tallied_more, safe_more, safe_follow, safe_scans, safe_each}
 use Rattle.star_safety.proofs.Sound.{quoted_each, in_time, at_place_none, IsReady, ready_then, ready_in, ready_after, op_room}
+use Rattle.std.proofs.lemmas.Grind.{common_steps}
 
 abbrev pub AllFit : Parts → Tallies → Type 0
 AllFit parts m = (g : ℕ) → tallies_fit (group_at parts g).aggregates 0 (m g) ≡ true
@@ -147,12 +148,7 @@ not_refused w parts accepted =
 pub ready_first : (w : World) (parts : Parts)
     → first_reason w parts none_open at_first 1 parts.body ≡ None
     → IsReady w parts (whole_gain w parts) none_open at_first no_tallies 1 parts.body
-ready_first w parts accepted = record {
-  some = omega arith;
-  accepted = accepted;
-  closed = λ g a o. at_most_refl no_tally;
-  room = all_gained w parts;
-}
+ready_first w parts accepted = grind (arith, common_steps, at_most_refl, no_tally, all_gained)
 
 -- few enough to be counted
 pub few_puts : (w : World) (parts : Parts) → IsAccepted w parts
@@ -170,13 +166,18 @@ negated (suc n) = refl
 few_fit : (ss : List Share) → AllNarrow ss → (tally_of ss).many < 2 ^ 63
     → sum_fits (tally_of ss) ≡ true
 few_fit ss all h =
-    let t = tally_of ss in
-    let small = subst (Small (most_of ss * 2 ^ 63)) (sum_range_is ss) (sum_small ss all) in
-    let many = most_is ss in
-    let low = negated t.below in
-    and_from (nat_le t.below (2 ^ 127)) (nat_lt t.above (2 ^ 127))
-    (le-leb t.below (2 ^ 127) (omega (arith, small.0, low, many, h)))
-    (lt-ltb t.above (2 ^ 127) (omega (arith, small.1, many, h)))
+    grind (
+      arith,
+      common_steps,
+      tally_of,
+      most_of,
+      sum_range_is,
+      sum_small,
+      most_is,
+      negated,
+      and_from,
+      le-leb,
+    )
 
 -- each number that is put has 64 bits
 pub all_narrow : (w : World) (parts : Parts) → IsAccepted w parts

@@ -1,6 +1,7 @@
 -- Which scans stand round which instructions, by their numbers.
 use Rattle.std.proofs.Common.{◌≡◌, ℕ, ◌+◌, ◌≤◌, ◌<◌, Bool, true, false, List, [], ◌∷◌, ◌++◌, length, get_or, Option, Some, None, refl, ap, ◌∙◌, arith, append-nil}
-use Rattle.star_safety.proofs.Common.{Act, AllByRecursion, Any-from_list_any, BodyEnd, Code, CodeItem, Context, Each, Enclosing, Parts, Scan, Standing, Stop, Then, World, after_op, after_scan, and_right, at_end, code_size, eq-eqb, eqb-true, filter, filter-append, has_scan, if◌then◌else◌, in_scan, is_in_scope, item_scope, last_or, last_writer, list_all, list_all_at, list_any, list_any_at, nat_eq, ne_eqb, or_right, scope_of, standing, writes_to, ◌&&◌, ◌||◌}
+use Rattle.star_safety.proofs.Common.{AllByRecursion, Any-from_list_any, Code, Context, Each, Enclosing, Parts, Standing, Stop, Then, World, after_op, after_scan, and_right, at_end, code_size, eq-eqb, eqb-true, filter, filter-append, has_scan, if◌then◌else◌, in_scan, is_in_scope, item_scope, last_or, last_writer, list_all, list_all_at, list_any, list_any_at, nat_eq, ne_eqb, or_right, scope_of, standing, writes_to, ◌&&◌, ◌||◌}
+use Rattle.std.proofs.lemmas.Grind.{common_steps}
 
 -- ---- scans by their numbers
 
@@ -139,14 +140,7 @@ pub scoped_in : (w : World) (parts : Parts) (c : Code) (round : List Enclosing) 
     (at n : ℕ) → has_scan round n ≡ true
     → EachOf (λ i. has_scan (scope_of i) n ≡ true) (standing w parts round x at c)
 scoped_in w parts c round x at n h =
-    each_so _ _ (standing w parts round x at c) (λ i h. by i.number i.round i.item h)
-    (stand_in w parts c round x at n h)
-  where
-    by : (at : ℕ) (round : List Enclosing) (i : CodeItem) → has_scan round n ≡ true
-        → has_scan (item_scope at round i) n ≡ true
-    by at round (Scan table r) h = or_right (nat_eq at n) (has_scan round n) h
-    by at round (Act op) h = h
-    by at round BodyEnd h = h
+    grind (arith, common_steps, each_so, standing, stand_in, has_scan, item_scope, or_right)
 
 -- ---- the last that writes a register in scope
 
@@ -175,22 +169,23 @@ no_writer : (scans : List Enclosing) (r : ℕ) (is : List Standing)
     → filter (λ j. writes_to r j && is_in_scope scans j) is ≡ []
 no_writer scans r [] h = refl
 no_writer scans r (i ∷ is) h =
-    ap (λ b. if b
-    then i ∷ filter (λ j. writes_to r j && is_in_scope scans j) is
-    else filter (λ j. writes_to r j && is_in_scope scans j) is)
-    (and_right (writes_to r i) (is_in_scope scans i) h.0)
-    ∙ no_writer scans r is h.1
+    grind (arith, common_steps, writes_to, is_in_scope, and_right, no_writer scans r is h.1)
 
 -- what is out of scope changes nothing
 pub last_past : (scans : List Enclosing) (r : ℕ) (xs ys : List Standing)
     → EachOf (λ i. is_in_scope scans i ≡ false) ys
     → last_writer scans r (xs ++ ys) ≡ last_writer scans r xs
 last_past scans r xs ys h =
-    ap (last_or None)
-    (filter-append (λ j. writes_to r j && is_in_scope scans j) xs ys
-    ∙ ap (λ js. filter (λ j. writes_to r j && is_in_scope scans j) xs ++ js)
-    (no_writer scans r ys h)
-    ∙ append-nil (filter (λ j. writes_to r j && is_in_scope scans j) xs))
+    grind (
+      arith,
+      common_steps,
+      last_or,
+      filter-append,
+      writes_to,
+      is_in_scope,
+      no_writer,
+      append-nil,
+    )
 
 -- nor do scans of later numbers
 pub last_within : (new : Enclosing) (scans : List Enclosing) (r : ℕ) (is : List Standing)

@@ -2,6 +2,7 @@
 use Rattle.std.proofs.Common.{◌≡◌, ℕ, ◌+◌, ◌*◌, ◌^◌, ◌≤◌, ◌<◌, Bool, true, false, cond, arith, int_lt}
 use Rattle.star_safety.proofs.Common.{FitsI128, FitsI64, Range, and_parts, corner_range, fits_i64, fits_signed_from_abs, hull, ints, is_i64, ltb-true, mul-le-mul_left, mul-le-mul_right, multiple_range, negsuc, only, pos, unsigned_abs, unsigned_abs-mul, w128, widened, ℤ, ◌*ℤ◌, ◌+ℤ◌, ◌-ℤ◌, ◌≤ℤ◌}
 use Rattle.star_interval.proofs.Ranges as ranges
+use Rattle.std.proofs.lemmas.Grind.{common_steps}
 
 abbrev pub Small : ℕ → Range → Type 0
 Small n r = (unsigned_abs r.low ≤ n) × (unsigned_abs r.high ≤ n)
@@ -20,25 +21,23 @@ abs_within n (pos m) high low = omega (arith, ints, high)
 abs_within n (negsuc m) high low = omega (arith, ints, low)
 
 pub sum_abs : (x y s : ℤ) → s ≡ x +ℤ y → unsigned_abs s ≤ unsigned_abs x + unsigned_abs y
-sum_abs x y s e =
-    let a = ends x in
-    let b = ends y in
-    abs_within (unsigned_abs x + unsigned_abs y) s (omega (arith, ints, e)) (omega (arith, ints, e))
+sum_abs x y s e = grind (arith, common_steps, ends, abs_within, unsigned_abs, ints)
 
 pub difference_abs : (x y s : ℤ) → s ≡ x -ℤ y → unsigned_abs s ≤ unsigned_abs x + unsigned_abs y
-difference_abs x y s e =
-    let a = ends x in
-    let b = ends y in
-    abs_within (unsigned_abs x + unsigned_abs y) s (omega (arith, ints, e)) (omega (arith, ints, e))
+difference_abs x y s e = grind (arith, common_steps, ends, abs_within, unsigned_abs, ints)
 
 pub product_abs : (n m : ℕ) (x y : ℤ) → unsigned_abs x ≤ n → unsigned_abs y ≤ m
     → unsigned_abs (x *ℤ y) ≤ n * m
 product_abs n m x y p q =
-    let e = unsigned_abs-mul x y in
-    let a : unsigned_abs x * unsigned_abs y ≤ n * unsigned_abs y =
-    mul-le-mul_right (unsigned_abs y) p in
-    let b : n * unsigned_abs y ≤ n * m = mul-le-mul_left n q in
-    omega (arith, e, a, b)
+    grind (
+      arith,
+      common_steps,
+      ints,
+      unsigned_abs-mul,
+      unsigned_abs,
+      mul-le-mul_right,
+      mul-le-mul_left,
+    )
 
 is_small : (z : ℤ) → is_i64 z ≡ true → unsigned_abs z ≤ 2 ^ 63
 unfolding is_i64
@@ -55,13 +54,7 @@ pub i64_small : (r : Range) → FitsI64 r → Small (2 ^ 63) r
 i64_small r fits = fits_small r ((ranges.fits_i64_fits r).1 fits)
 
 pub small_fits : (n : ℕ) (r : Range) → n < 2 ^ 127 → Small n r → FitsI128 r
-small_fits n r h p = (
-  fits_signed_from_abs w128 r.low (below (unsigned_abs r.low) n (2 ^ 127) p.0 h),
-  fits_signed_from_abs w128 r.high (below (unsigned_abs r.high) n (2 ^ 127) p.1 h),
-)
-  where
-    below : (a n m : ℕ) → a ≤ n → n < m → a < m
-    below a n m p h = omega arith
+small_fits n r h p = grind (arith, common_steps, fits_signed_from_abs, w128, unsigned_abs)
 
 pub only_small : (n : ℕ) (z : ℤ) → unsigned_abs z ≤ n → Small n (only z)
 only_small n z h = (h, h)
@@ -73,29 +66,16 @@ either_small n true x y p q = p
 either_small n false x y p q = q
 
 pub hull_small : (n : ℕ) (a b : Range) → Small n a → Small n b → Small n (hull a b)
-hull_small n a b p q = (
-  either_small n (int_lt b.low a.low) b.low a.low q.0 p.0,
-  either_small n (int_lt b.high a.high) a.high b.high p.1 q.1,
-)
+hull_small n a b p q = grind (arith, common_steps, either_small, int_lt)
 
 pub corner_small : (operation : ℤ → ℤ → ℤ) (n m k : ℕ)
     → ((x y : ℤ) → unsigned_abs x ≤ n → unsigned_abs y ≤ m → unsigned_abs (operation x y) ≤ k)
     → (a b : Range) → Small n a → Small m b → Small k (corner_range operation a b)
 corner_small operation n m k keeps a b p q =
-    hull_small k (hull (only (operation a.low b.low)) (only (operation a.low b.high)))
-    (hull (only (operation a.high b.low)) (only (operation a.high b.high)))
-    (hull_small k (only (operation a.low b.low)) (only (operation a.low b.high))
-    (only_small k (operation a.low b.low) (keeps a.low b.low p.0 q.0))
-    (only_small k (operation a.low b.high) (keeps a.low b.high p.0 q.1)))
-    (hull_small k (only (operation a.high b.low)) (only (operation a.high b.high))
-    (only_small k (operation a.high b.low) (keeps a.high b.low p.1 q.0))
-    (only_small k (operation a.high b.high) (keeps a.high b.high p.1 q.1)))
+    grind (arith, common_steps, ints, hull_small, hull, only, only_small)
 
 pub widened_small : (n : ℕ) (r : Range) → Small n r → Small n (widened r)
 widened_small n r p = hull_small n r (only (pos 0)) p (only_small n (pos 0) (omega arith))
 
 pub multiple_small : (n k : ℕ) (r : Range) → Small k r → Small (n * k) (multiple_range n r)
-multiple_small n k r p = (
-  product_abs n k (pos n) r.low (omega arith) p.0,
-  product_abs n k (pos n) r.high (omega arith) p.1,
-)
+multiple_small n k r p = grind (arith, common_steps, product_abs, pos)

@@ -1,9 +1,10 @@
 -- An admissible program never traps and makes no more turns than its quote.
-use Rattle.std.proofs.Common.{◌≡◌, ℕ, ◌+◌, ◌*◌, ◌≤◌, ◌<◌, Bool, true, false, Option, Some, None, refl, ap, arith}
+use Rattle.std.proofs.Common.{◌≡◌, ℕ, ◌+◌, ◌*◌, ◌≤◌, ◌<◌, Bool, true, false, Option, Some, None, refl, arith}
 use Rattle.star_safety.proofs.Common.{Code, Context, Each, Op, Parts, Put, Stop, TableId, Then, World, after_op, after_scan, at_end, at_place, code_puts_to, code_size, first_reason, group_at, if◌then◌else◌, in_scan, mul-le-mul_right, nat_eq, op_puts_to, op_reason, open_with, or_none, or_parts, scan_reason, turns_met}
 use Rattle.star_safety.proofs.Tally.{Tally, no_tally, plus, times, Tallies, plus_all, times_all, tally_of}
 use Rattle.star_safety.proofs.Gains.{put_tally, op_gain, op_gained, gain, scan_gained}
 use Rattle.star_safety.proofs.TallyOrder.{AtMost, at_most_refl, at_most_trans, at_most_plus, at_most_assoc, at_most_both, at_most_turn, at_most_times, at_most_once, at_most_times_both, at_most_nothing}
+use Rattle.std.proofs.lemmas.Grind.{common_steps}
 
 -- ---- the quote
 
@@ -11,23 +12,19 @@ quoted-times : (w : World) (n : ℕ) (c : Code) → turns_met w.size n c ≡ n *
 quoted-times w n Stop = omega arith
 quoted-times w n (Then op rest) = quoted-times w n rest
 quoted-times w n (Each t r body rest) =
-    each_times n (w.size t) _ _ _ _ (turns_met w.size 1 body) (quoted-times w (n * w.size t) body)
-    (quoted-times w (1 * w.size t) body) (quoted-times w n rest)
-  where
-    each_times : (n s b b1 r r1 q : ℕ) → b ≡ n * s * q → b1 ≡ 1 * s * q → r ≡ n * r1
-        → n * s + b + r ≡ n * (1 * s + b1 + r1)
-    each_times n s b b1 r r1 q e e1 e2 = let h : n * b1 ≡ n * (1 * s * q) =
-        ap (λ z. n * z) e1 in omega arith
+    grind (
+      arith,
+      common_steps,
+      turns_met,
+      quoted-times w (n * w.size t) body,
+      quoted-times w (1 * w.size t) body,
+      quoted-times w n rest,
+    )
 
 pub quoted_each : (w : World) (table : TableId) (r : ℕ) (body rest : Code)
     → turns_met w.size 1 (Each table r body rest)
     ≡ w.size table * (turns_met w.size 1 body + 1) + turns_met w.size 1 rest
-quoted_each w table r body rest =
-    go (w.size table) (turns_met w.size (1 * w.size table) body) (turns_met w.size 1 body)
-    (turns_met w.size 1 rest) (quoted-times w (1 * w.size table) body)
-  where
-    go : (s b q r : ℕ) → b ≡ 1 * s * q → 1 * s + b + r ≡ s * (q + 1) + r
-    go s b q r e = omega arith
+quoted_each w table r body rest = grind (arith, common_steps, turns_met, quoted-times)
 
 -- ---- what is put
 

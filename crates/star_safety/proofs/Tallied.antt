@@ -5,6 +5,7 @@ use borrow.Author.Differences.{up, down, sum_is_lem}
 use Rattle.star_safety.proofs.Tally.{Tally, once, joined_range, plus, tally_of, tally_sum, tally_range, sum_fits, range_is}
 use Rattle.star_safety.proofs.Numbers.{holds_itself, holds_hull_left, holds_hull_right, fits_in, up_grows}
 use Rattle.star_safety.proofs.TallyOrder.{LiesIn, lies_in_left, lies_in_right, AtMost}
+use Rattle.std.proofs.lemmas.Grind.{common_steps}
 
 -- ---- sums, by the sign of their numbers
 
@@ -55,26 +56,23 @@ all_in_wider s t [] p h = tt
 all_in_wider s t (v ∷ vs) p h = (in_wider s t v p h.0, all_in_wider s t vs p h.1)
 
 pub tallied_more : (t u : Tally) (vs : List ℤ) → AtMost t u → IsTallied t vs → IsTallied u vs
-tallied_more t u vs p w =
-    record {
-      above = omega arith;
-      below = omega arith;
-      many = omega arith;
-      each = all_in_wider t.each u.each vs p.each w.each;
-    }
+tallied_more t u vs p w = grind (arith, common_steps, ints, all_in_wider)
 
 -- with one number more
 pub tallied_put : (t : Tally) (r : Range) (v : ℤ) (vs : List ℤ) → IsTallied t vs
     → Holds r v → IsTallied (plus t (once r)) (v ∷ vs)
-tallied_put t r v vs w h = record {
-  above = omega (arith, (up_grows v r.high h.to).0);
-  below = omega (arith, (up_grows r.low v h.from).1);
-  many = omega arith;
-  each = (
-    in_wider (Some r) (joined_range t.each (Some r)) v (lies_in_right t.each (Some r)) h,
-    all_in_wider t.each (joined_range t.each (Some r)) vs (lies_in_left t.each (Some r)) w.each,
-  );
-}
+tallied_put t r v vs w h =
+    grind (
+      arith,
+      common_steps,
+      ints,
+      up_grows,
+      in_wider,
+      joined_range,
+      lies_in_right,
+      all_in_wider,
+      lies_in_left,
+    )
 
 -- ---- what fits
 
@@ -90,10 +88,7 @@ tallies_fit (g ∷ gs) a t = counted_fits g (t a) && tallies_fit gs (suc a) t
 
 tally_fit : (g : Aggregate) (t : Tally) → sum_fits t ≡ true → t.many < 2 ^ 63
     → counted_fits g t ≡ true
-tally_fit Sum t e h = e
-tally_fit Count t e h = lt-ltb t.many (2 ^ 63) h
-tally_fit Min t e h = refl
-tally_fit Max t e h = refl
+tally_fit g t e h = grind (arith, common_steps, lt-ltb)
 
 -- where all sums fit and the counts are few
 pub all_tallies_fit : (gs : List Aggregate) (a : ℕ) (t : ℕ → Tally)
@@ -110,18 +105,11 @@ sum_ends t e =
     (leb-true t.below (2 ^ 127) p.0, ltb-true t.above (2 ^ 127) p.1)
 
 sum_fits_less : (t u : Tally) → AtMost t u → sum_fits u ≡ true → sum_fits t ≡ true
-sum_fits_less t u p e =
-    let q = sum_ends u e in
-    and_from (nat_le t.below (2 ^ 127)) (nat_lt t.above (2 ^ 127))
-    (le-leb t.below (2 ^ 127) (omega (arith, q.0)))
-    (lt-ltb t.above (2 ^ 127) (omega (arith, q.1)))
+sum_fits_less t u p e = grind (arith, common_steps, sum_ends, and_from, le-leb, lt-ltb)
 
 counted_less : (g : Aggregate) (t u : Tally) → AtMost t u → counted_fits g u ≡ true
     → counted_fits g t ≡ true
-counted_less Sum t u p e = sum_fits_less t u p e
-counted_less Count t u p e = lt-ltb t.many (2 ^ 63) (omega (arith, ltb-true u.many (2 ^ 63) e))
-counted_less Min t u p e = refl
-counted_less Max t u p e = refl
+counted_less g t u p e = grind (arith, common_steps, sum_fits_less, lt-ltb, ltb-true)
 
 pub tallies_fit_less : (gs : List Aggregate) (a : ℕ) (t u : ℕ → Tally)
     → ((k : ℕ) → AtMost (t k) (u k)) → tallies_fit gs a u ≡ true → tallies_fit gs a t ≡ true
@@ -139,10 +127,7 @@ joined_sum v (w ∷ ws) = ap (joined_with (λ x y. x +ℤ y) v) (joined_sum w ws
 
 sum_fits_128 : (t : Tally) (vs : List ℤ) → IsTallied t vs → sum_fits t ≡ true
     → is_i128 (sum_of vs) ≡ true
-sum_fits_128 t vs w e =
-    let q = sum_ends t e in
-    let s = sum_between vs in
-    fits_in (sum_of vs) (omega (arith, q.1, s.0, w.above)) (omega (arith, q.0, s.1, w.below))
+sum_fits_128 t vs w e = grind (arith, common_steps, ints, sum_ends, sum_between, fits_in, sum_of)
 
 stays : (g : Aggregate) (t : Tally) (vs : List ℤ) → IsTallied t vs → counted_fits g t ≡ true
     → leaves g (aggregate g vs) ≡ false
@@ -173,20 +158,7 @@ pub record IsNoMore (o : Option Range) (ws vs : List ℤ) : Type 0 where
 one_more : (b : Bool) (o : Option Range) (a : ℕ) (u : Update) (us ms : List Update)
     → IsNoMore o (numbers_for a ms) (numbers_for a us)
     → IsNoMore o (numbers_for a (cond b (u ∷ ms) ms)) (numbers_for a (u ∷ us))
-one_more true o a u us ms p =
-    record {
-      above = omega (arith, p.above);
-      below = omega (arith, p.below);
-      many = omega (arith, p.many);
-      each = λ h. (h.0, p.each h.1);
-    }
-one_more false o a u us ms p =
-    record {
-      above = omega (arith, p.above);
-      below = omega (arith, p.below);
-      many = omega (arith, p.many);
-      each = λ h. p.each h.1;
-    }
+one_more b o a u us ms p = grind (arith, common_steps)
 
 fewer : (o : Option Range) (a : ℕ) (m : List (Option KeyValue)) (us : List Update)
     → IsNoMore o (numbers_for a (members key_value_cmp m us)) (numbers_for a us)

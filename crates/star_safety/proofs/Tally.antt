@@ -1,8 +1,9 @@
 -- What numbers add up to, as two whole numbers: how far the negative ones go below 0, and the
 -- positive ones above it. So all that is said of sums is linear.
-use Rattle.std.proofs.Common.{◌≡◌, ℕ, zero, suc, ◌+◌, ◌*◌, ◌^◌, Bool, List, [], ◌∷◌, Option, Some, None, refl, sym, ap, ◌∙◌, arith}
+use Rattle.std.proofs.Common.{◌≡◌, ℕ, zero, suc, ◌+◌, ◌*◌, ◌^◌, Bool, List, [], ◌∷◌, Option, Some, None, refl, ap, ◌∙◌, arith}
 use Rattle.star_safety.proofs.Common.{Aggregate, Count, IsOrdered, Max, Min, Range, Share, Shares, Sum, aggregate_range, clamps, corner_range, hull, hull_of, hull_with, int_max, int_min, ints, most_of, multiple_range, nat_le, nat_lt, neg_ℤ, negsuc, pos, range_same, sum_ends, sum_range, widened, ℤ, ◌&&◌, ◌*ℤ◌, ◌+ℤ◌}
 use borrow.Author.Differences.{up, down}
+use Rattle.std.proofs.lemmas.Grind.{common_steps}
 
 -- of the numbers that updates give an aggregate
 pub record Tally : Type 0 where
@@ -96,20 +97,13 @@ times_up n u = omega (arith, ints)
 
 -- one put
 share_sum : (n : ℕ) (r : Range) → multiple_range n (widened r) ≡ tally_sum (times n (once r))
-share_sum n r =
-    range_same _ _
-    (ap (λ z. pos n *ℤ z) (down_is r.low) ∙ times_down n (down r.low))
-    (ap (λ z. pos n *ℤ z) (up_is r.high) ∙ times_up n (up r.high))
+share_sum n r = grind (arith, common_steps, range_same, pos, down_is, times_down, up_is, times_up)
 
 tally_ordered : (t : Tally) → IsOrdered (tally_sum t)
 tally_ordered t = omega (arith, ints)
 
 both_sums : (t u : Tally) → corner_range ◌+ℤ◌ (tally_sum t) (tally_sum u) ≡ tally_sum (plus t u)
-both_sums t u =
-    let ends = sum_ends (tally_sum t) (tally_sum u) (tally_ordered t) (tally_ordered u) in
-    range_same _ _
-    (sym ends.0 ∙ omega (arith, ints))
-    (sym ends.1 ∙ omega (arith, ints))
+both_sums t u = grind (arith, common_steps, sum_ends, tally_ordered, range_same, ints)
 
 pub sum_range_is : (ss : List Share) → sum_range ss ≡ tally_sum (tally_of ss)
 sum_range_is [] = refl
@@ -133,7 +127,4 @@ hull_is (s ∷ ss) =
 
 pub range_is : (g : Aggregate) (ss : List Share) → aggregate_range g ss ≡ tally_range g
     (tally_of ss)
-range_is Sum ss = ap Some (sum_range_is ss)
-range_is Count ss = ap (λ n. Some (record { low = pos 0; high = pos n })) (most_is ss)
-range_is Min ss = hull_is ss
-range_is Max ss = hull_is ss
+range_is g ss = grind (arith, common_steps, sum_range_is, pos, most_is, hull_is)

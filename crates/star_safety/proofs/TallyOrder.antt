@@ -2,6 +2,7 @@
 use Rattle.std.proofs.Common.{ℕ, ◌+◌, ◌*◌, ◌≤◌, Option, Some, None, arith}
 use Rattle.star_safety.proofs.Common.{IsWithin, Range, hull_within, ints, mul-le-mul_left, mul-le-mul_right, within_hull_left, within_hull_right, within_trans}
 use Rattle.star_safety.proofs.Tally.{Tally, no_tally, joined_range, plus, times}
+use Rattle.std.proofs.lemmas.Grind.{common_steps}
 
 -- a range that may be missing lies in another
 abbrev pub LiesIn : Option Range → Option Range → Type 0
@@ -24,10 +25,7 @@ lies_in_refl None = tt
 lies_in_refl (Some r) = within_refl r
 
 pub lies_in_trans : (s t u : Option Range) → LiesIn s t → LiesIn t u → LiesIn s u
-lies_in_trans None t u p q = tt
-lies_in_trans (Some r) None u p q = absurd p
-lies_in_trans (Some r) (Some s) None p q = absurd q
-lies_in_trans (Some r) (Some s) (Some t) p q = within_trans r s t p q
+lies_in_trans s t u p q = grind (arith, common_steps, within_trans)
 
 pub lies_in_left : (s t : Option Range) → LiesIn s (joined_range s t)
 lies_in_left None t = tt
@@ -35,43 +33,19 @@ lies_in_left (Some r) None = within_refl r
 lies_in_left (Some r) (Some s) = within_hull_left r s
 
 pub lies_in_right : (s t : Option Range) → LiesIn t (joined_range s t)
-lies_in_right None None = tt
-lies_in_right None (Some s) = within_refl s
-lies_in_right (Some r) None = tt
-lies_in_right (Some r) (Some s) = within_hull_right r s
+lies_in_right s t = grind (arith, common_steps, within_refl, within_hull_right)
 
 pub lies_in_both : (s t u : Option Range) → LiesIn s u → LiesIn t u → LiesIn (joined_range s t) u
-lies_in_both None t u p q = q
-lies_in_both (Some r) None u p q = p
-lies_in_both (Some r) (Some s) None p q = p
-lies_in_both (Some r) (Some s) (Some t) p q = hull_within r s t p q
+lies_in_both s t u p q = grind (arith, common_steps, hull_within)
 
 pub at_most_refl : (t : Tally) → AtMost t t
-at_most_refl t =
-    record {
-      above = omega arith;
-      below = omega arith;
-      many = omega arith;
-      each = lies_in_refl t.each;
-    }
+at_most_refl t = grind (arith, common_steps, lies_in_refl)
 
 pub at_most_trans : (t u v : Tally) → AtMost t u → AtMost u v → AtMost t v
-at_most_trans t u v p q =
-    record {
-      above = omega arith;
-      below = omega arith;
-      many = omega arith;
-      each = lies_in_trans t.each u.each v.each p.each q.each;
-    }
+at_most_trans t u v p q = grind (arith, common_steps, lies_in_trans)
 
 pub at_most_plus : (t u : Tally) → AtMost t (plus t u)
-at_most_plus t u =
-    record {
-      above = omega arith;
-      below = omega arith;
-      many = omega arith;
-      each = lies_in_left t.each u.each;
-    }
+at_most_plus t u = grind (arith, common_steps, lies_in_left)
 
 -- sums may be grouped either way
 pub at_most_assoc : (t u v : Tally) → AtMost (plus (plus t u) v) (plus t (plus u v))
@@ -107,31 +81,14 @@ at_most_both t t' u u' p q = record {
 -- one more turn
 pub at_most_turn : (k : ℕ) (t u : Tally)
     → AtMost (plus (plus t (times k u)) u) (plus t (times (k + 1) u))
-at_most_turn k t u = record {
-  above = omega arith;
-  below = omega arith;
-  many = omega arith;
-  each = lies_in_both (joined_range t.each u.each) u.each (joined_range t.each u.each)
-      (lies_in_refl (joined_range t.each u.each)) (lies_in_right t.each u.each);
-}
+at_most_turn k t u =
+    grind (arith, common_steps, lies_in_both, joined_range, lies_in_refl, lies_in_right)
 
 pub at_most_times : (k n : ℕ) (t : Tally) → k ≤ n → AtMost (times k t) (times n t)
-at_most_times k n t h = record {
-  above = mul-le-mul_right t.above h;
-  below = mul-le-mul_right t.below h;
-  many = mul-le-mul_right t.many h;
-  each = lies_in_refl t.each;
-}
+at_most_times k n t h = grind (arith, common_steps, mul-le-mul_right, lies_in_refl)
 
 pub at_most_once : (n : ℕ) (t : Tally) → 1 ≤ n → AtMost t (times n t)
-at_most_once n t h = let one =
-    at_most_times 1 n t h in
-    record {
-      above = omega (arith, one.above);
-      below = omega (arith, one.below);
-      many = omega (arith, one.many);
-      each = lies_in_refl t.each;
-    }
+at_most_once n t h = grind (arith, common_steps, at_most_times, lies_in_refl)
 
 -- what is added n times in two parts
 pub at_most_spread : (n : ℕ) (t u v : Tally)
@@ -154,29 +111,11 @@ at_most_spread n t u v = record {
 
 pub at_most_product : (n k : ℕ) (t u : Tally)
     → AtMost (plus t (times n (times k u))) (plus t (times (n * k) u))
-at_most_product n k t u =
-    record {
-      above = omega arith;
-      below = omega arith;
-      many = omega arith;
-      each = lies_in_refl (joined_range t.each u.each);
-    }
+at_most_product n k t u = grind (arith, common_steps, lies_in_refl, joined_range)
 
 pub at_most_times_both : (n : ℕ) (t u : Tally) → AtMost t u → AtMost (times n t) (times n u)
-at_most_times_both n t u p =
-    record {
-      above = mul-le-mul_left n p.above;
-      below = mul-le-mul_left n p.below;
-      many = mul-le-mul_left n p.many;
-      each = p.each;
-    }
+at_most_times_both n t u p = grind (arith, common_steps, mul-le-mul_left)
 
 -- nothing is added
 pub at_most_nothing : (n : ℕ) (t : Tally) → AtMost (plus t (times n no_tally)) t
-at_most_nothing n t =
-    record {
-      above = omega arith;
-      below = omega arith;
-      many = omega arith;
-      each = lies_in_both t.each None t.each (lies_in_refl t.each) tt;
-    }
+at_most_nothing n t = grind (arith, common_steps, lies_in_both, lies_in_refl)

@@ -1,7 +1,8 @@
 -- The context of each instruction is told by the scans round it and the instructions before it.
-use Rattle.std.proofs.Common.{◌≡◌, ℕ, ◌+◌, ◌*◌, ◌≤◌, Bool, true, false, List, [], ◌∷◌, ◌++◌, length, Option, Some, None, refl, sym, ap, subst, ◌∙◌, arith, append_assoc, append-nil, length-append}
+use Rattle.std.proofs.Common.{◌≡◌, ℕ, ◌+◌, ◌*◌, ◌≤◌, true, false, List, [], ◌∷◌, ◌++◌, length, Option, Some, None, refl, sym, ap, subst, ◌∙◌, arith, append_assoc, append-nil, length-append}
 use Rattle.star_safety.proofs.Common.{Act, AllKnown, BodyEnd, Code, CodeItem, Context, Each, Enclosing, IsTold, Op, Parts, Scan, Standing, Stop, TableId, Then, World, after_op, after_scan, at_end, at_first, code_size, eq-eqb, eqb-false, eqb-true, filter, filter-append, fold-append, has_scan, if◌then◌else◌, in_scan, instructions_of, is_instruction, is_target, item_key_shares, key_shares_together, last_or, last_writer, learned, list_any, list_any-append, lt-ltb, nat_eq, nat_lt, ne_eqb, op_key_shares, op_shares, option_map, or-false, result_known, rows_together, scope_of, shares_of, shares_together, standing, standing_result, target_of, with_entry, writes_to, ◌&&◌, ◌||◌}
 use Rattle.star_safety.proofs.Scopes.{AreBelow, below_more, none_above, all_there, not_all, EachOf, each_both, each_so, scoped_in, last_or_both, last_then, last_past, last_within}
+use Rattle.std.proofs.lemmas.Grind.{common_steps}
 
 -- ---- from context to context
 
@@ -25,10 +26,7 @@ one_more : (at : ℕ) (earlier : List Standing) (i : Standing) → is_instructio
     → at ≡ length (filter is_instruction earlier) + 1
     → at + 1 ≡ length (filter is_instruction (earlier ++ i ∷ [])) + 1
 one_more at earlier i e h =
-    let more = ap length (filter-append is_instruction earlier (i ∷ [])
-    ∙ ap (λ b. filter is_instruction earlier ++ (if b then i ∷ [] else [])) e)
-    ∙ length-append (filter is_instruction earlier) (i ∷ []) in
-    omega (arith, h, more)
+    grind (arith, common_steps, filter-append, is_instruction, i, length-append)
 
 numbered_more : (at : ℕ) (earlier : List Standing) (i : Standing) → i.number ≤ at + 1
     → EachOf (λ j. j.number ≤ at) earlier
@@ -48,16 +46,8 @@ entry_or_kept : (w : World) (parts : Parts) (known : AllKnown) (t r : ℕ) (i : 
     → known r ≡ option_map (standing_result w parts) last
     → with_entry known t (standing_result w parts i) r
     ≡ option_map (standing_result w parts) (if nat_eq t r && true then Some i else last)
-entry_or_kept w parts known t r i last kept = go (nat_eq r t) refl
-  where
-    go : (b : Bool) → nat_eq r t ≡ b
-        → (if b then Some (standing_result w parts i) else known r)
-        ≡ option_map (standing_result w parts) (if nat_eq t r && true then Some i else last)
-    go true e = ap (λ b. option_map (standing_result w parts) (if b && true then Some i else last))
-        (sym (eq-eqb t r (sym (eqb-true r t e))))
-    go false e = kept ∙ ap (λ b.
-        option_map (standing_result w parts) (if b && true then Some i else last))
-        (sym (ne_eqb t r (λ same. eqb-false r t e (sym same))))
+entry_or_kept w parts known t r i last kept =
+    grind (arith, common_steps, standing_result, i, option_map, eq-eqb, eqb-true, ne_eqb, eqb-false)
 
 pub tells_then : (w : World) (parts : Parts) (round : List Enclosing) (x : Context) (at : ℕ)
     (earlier : List Standing) (op : Op) → Tells w parts round x at earlier
@@ -177,26 +167,19 @@ pub tells_stop : (w : World) (parts : Parts) (round : List Enclosing) (x : Conte
     (earlier : List Standing) → Tells w parts round x at earlier
     → Tells w parts round x at
     (earlier ++ record { number = at; round = round; context = x; item = BodyEnd } ∷ [])
-tells_stop w parts round x at earlier told = record {
-  number = told.number ∙ ap (λ is. length is + 1)
-      (sym (filter-append is_instruction earlier (i ∷ [])
-      ∙ append-nil (filter is_instruction earlier)));
-  inside = told.inside;
-  met = told.met;
-  written = λ r. told.written r ∙ sym (or-false (list_any (writes_to r) earlier))
-      ∙ sym (list_any-append (writes_to r) earlier (i ∷ []));
-  known = λ r. told.known r
-      ∙ ap (option_map (standing_result w parts)) (sym (last_then round r earlier i));
-  so_far = λ g a. told.so_far g a
-      ∙ sym (fold-append (λ so_far j. shares_of parts j g a ++ so_far) [] earlier (i ∷ []));
-  keys_so_far = λ g a. told.keys_so_far g a ∙ sym (keys_more earlier i g a);
-  numbered = each_both _ earlier (i ∷ []) told.numbered (omega arith, tt);
-  round_below = told.round_below;
-  scopes_below = each_both _ earlier (i ∷ []) told.scopes_below (told.round_below, tt);
-}
-  where
-    i : Standing
-    i = record { number = at; round = round; context = x; item = BodyEnd }
+tells_stop w parts round x at earlier told =
+    grind (
+      arith,
+      common_steps,
+      filter-append,
+      is_instruction,
+      append-nil,
+      or-false,
+      writes_to,
+      list_any-append,
+      option_map,
+      standing_result,
+    )
 
 -- ---- each instruction
 
@@ -219,15 +202,7 @@ tell_both w parts earlier (x ∷ xs) ys p q = (
 told_of : (w : World) (parts : Parts) (round : List Enclosing) (x : Context) (at : ℕ)
     (earlier : List Standing) (item : CodeItem) → Tells w parts round x at earlier
     → IsTold w parts earlier (record { number = at; round = round; context = x; item = item })
-told_of w parts round x at earlier item told = record {
-  number = told.number;
-  inside = told.inside;
-  met = told.met;
-  written = told.written;
-  known = told.known;
-  so_far = told.so_far;
-  keys_so_far = told.keys_so_far;
-}
+told_of w parts round x at earlier item told = grind (arith, common_steps)
 
 -- each instruction of some code is told, and so is what stands behind its end
 pub tells_through : (w : World) (parts : Parts) (c : Code) (round : List Enclosing) (x : Context)
@@ -235,12 +210,8 @@ pub tells_through : (w : World) (parts : Parts) (c : Code) (round : List Enclosi
     → Tells w parts round x at earlier
     → TellEach w parts earlier (standing w parts round x at c)
     × Tells w parts round (at_end w parts x c) end (earlier ++ standing w parts round x at c)
-tells_through w parts Stop round x at end earlier e told = (
-  (told_of w parts round x at earlier BodyEnd told, tt),
-  (let same : at ≡ end = omega (arith, e) in
-      subst (λ n. Tells w parts round x n (earlier ++ standing w parts round x at Stop)) same
-      (tells_stop w parts round x at earlier told)),
-)
+tells_through w parts Stop round x at end earlier e told =
+    grind (arith, common_steps, told_of, standing, tells_stop)
 tells_through w parts (Then op rest) round x at end earlier e told =
     let i : Standing = record { number = at; round = round; context = x; item = Act op } in
     let next = after_op w parts x op in
@@ -282,18 +253,7 @@ told_at w parts (j ∷ is) i behind earlier h =
     (told_at w parts is i behind (earlier ++ j ∷ []) h.1)
 
 pub nothing_told : (w : World) (parts : Parts) → Tells w parts [] at_first 1 []
-nothing_told w parts = record {
-  number = refl;
-  inside = refl;
-  met = refl;
-  written = λ r. refl;
-  known = λ r. refl;
-  so_far = λ g a. refl;
-  keys_so_far = λ g a. refl;
-  numbered = tt;
-  round_below = tt;
-  scopes_below = tt;
-}
+nothing_told w parts = grind (arith, common_steps)
 
 pub all_told : (w : World) (parts : Parts) (earlier later : List Standing) (i : Standing)
     → instructions_of w parts ≡ earlier ++ i ∷ later → IsTold w parts earlier i

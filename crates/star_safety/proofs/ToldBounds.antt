@@ -1,9 +1,10 @@
 -- Every bound that a refusal tells fits 128 bits.
-use Rattle.std.proofs.Common.{◌≡◌, ℕ, ◌+◌, ◌*◌, ◌^◌, ◌≤◌, Bool, true, false, List, [], ◌∷◌, ◌++◌, Option, Some, None, refl, ap, subst, ◌∙◌, arith, lit<, ◌⊎◌, inl, inr, ⊎_elim}
-use Rattle.star_safety.proofs.Common.{AllNameI64, AreI64, Assign, BadShow, Binary, Code, ColumnId, Const, Context, Each, Edge, Fault, Faulty, Find, FitsI128, FitsI64, IsWithinLimits, Keep, Known, KnownFlag, KnownNumber, KnownPlace, KnownRow, KnownText, Load, NamesI64, Not, NotAForeignKey, Op, OpenGroup, Overflow, Parts, Put, Range, Reached, Read, Reason, Refusal, Refused, Stop, Then, Within, World, after_op, after_scan, at_end, at_first, at_place, code_size, cost_refusal, first_answer, first_reason, first_refusal, fits_i64, if◌then◌else◌, in_scan, instructions_of, is_text, kind_reason, leb-true, most_of, mul-le-mul_right, nat_eq, nat_le, none_open, not, only, op_reason, open_with, option_map, option_or, overflow_of, pos, put_share, quote, range_reason, reason_of, refuses, result_known, scan_reason, shown_fault, source_reason, turns_met}
+use Rattle.std.proofs.Common.{◌≡◌, ℕ, ◌+◌, ◌*◌, ◌^◌, ◌≤◌, Bool, false, List, Option, Some, None, refl, ap, subst, ◌∙◌, arith, lit<, ◌⊎◌, inl, inr, ⊎_elim}
+use Rattle.star_safety.proofs.Common.{AllNameI64, AreI64, Assign, Code, ColumnId, Context, Each, Fault, Faulty, FitsI128, FitsI64, IsWithinLimits, Keep, Known, NamesI64, Op, Overflow, Parts, Put, Range, Reached, Read, Reason, Refused, Stop, Then, World, after_op, after_scan, at_end, at_first, at_place, code_size, first_answer, first_reason, first_refusal, fits_i64, in_scan, instructions_of, is_text, kind_reason, leb-true, most_of, mul-le-mul_right, none_open, only, op_reason, open_with, option_map, option_or, overflow_of, pos, put_share, quote, range_reason, reason_of, refuses, result_known, scan_reason, shown_fault, source_reason, turns_met}
 use Rattle.star_safety.proofs.{Sound.at_place_none, Forward.first_standing, Sizes.small_fits}
 use Rattle.star_safety.proofs.NarrowRanges.{Fits, Wide, IsWide, Counts, result_wide}
 use Rattle.star_safety.proofs.NarrowCode.{op_fits, in_fits, past_fits, end_fits, first_fits}
+use Rattle.std.proofs.lemmas.Grind.{common_steps}
 
 -- ---- the range that a reason tells
 
@@ -12,20 +13,11 @@ range_in (Overflow low high columns) = record { low = low; high = high }
 range_in _ = only (pos 0)
 
 refused_as : (b : Bool) (reason told : Reason) → refuses b reason ≡ Some told → reason ≡ told
-refused_as true reason told e = some_same e
-  where
-    some_same : Some reason ≡ Some told → reason ≡ told
-    some_same h = cc
-refused_as false reason told e = absurd (cc)
+refused_as b reason told e = grind (arith, common_steps, told)
 
 overflow_told : (w : World) (k : Known) (r : Range) (columns : List Reached) → IsWide k
     → overflow_of w k ≡ Some (Overflow r.low r.high columns) → Wide r
-overflow_told w (KnownNumber s reach origin) r columns p e =
-    subst Wide (ap range_in (refused_as (not (fits_i64 s)) _ _ e)) p
-overflow_told w (KnownText c) r columns p e = absurd (cc)
-overflow_told w (KnownPlace c) r columns p e = absurd (cc)
-overflow_told w (KnownRow t) r columns p e = absurd (cc)
-overflow_told w KnownFlag r columns p e = absurd (cc)
+overflow_told w k r columns p e = grind (arith, common_steps, refused_as, fits_i64)
 
 either_first : {A : Type 0} (a b : Option A) (v : A) → option_or a b ≡ Some v
     → (a ≡ Some v) ⊎ ((a ≡ None) × (b ≡ Some v))
@@ -52,24 +44,7 @@ faulty_no_range (Some fault) r columns e = absurd (cc)
 
 source_no_range : (pending : ℕ → Bool) (x : Context) (op : Op) (r : Range) (columns : List Reached)
     → source_reason pending x op ≡ Some (Overflow r.low r.high columns) → ⊥
-source_no_range pending x (Assign t (Find table k)) r columns e = refused_other _ e
-  where
-    refused_other : (b : Bool) → refuses b NotAForeignKey ≡ Some (Overflow r.low r.high columns) → ⊥
-    refused_other true h = absurd (cc)
-    refused_other false h = absurd (cc)
-source_no_range pending x (Assign t (Read g a n)) r columns e = refused_other _ e
-  where
-    refused_other : (b : Bool) → refuses b OpenGroup ≡ Some (Overflow r.low r.high columns) → ⊥
-    refused_other true h = absurd (cc)
-    refused_other false h = absurd (cc)
-source_no_range pending x (Assign t (Const n)) r columns e = absurd (cc)
-source_no_range pending x (Assign t (Edge g c text)) r columns e = absurd (cc)
-source_no_range pending x (Assign t (Load c q)) r columns e = absurd (cc)
-source_no_range pending x (Assign t (Binary o a b)) r columns e = absurd (cc)
-source_no_range pending x (Assign t (Within q a b)) r columns e = absurd (cc)
-source_no_range pending x (Assign t (Not f)) r columns e = absurd (cc)
-source_no_range pending x (Keep f) r columns e = absurd (cc)
-source_no_range pending x (Put g ks vs) r columns e = absurd (cc)
+source_no_range pending x op r columns e = grind (arith, common_steps, refuses)
 
 op_told : (w : World) (parts : Parts) (pending : ℕ → Bool) (x : Context) (op : Op) (r : Range)
     (columns : List Reached) → Fits parts x → Counts x → NamesI64 op
@@ -89,15 +64,7 @@ op_told w parts pending x op r columns fits counts named bounds e =
 
 one_put : (w : World) (parts : Parts) (x : Context) (op : Op) (g a : ℕ)
     → most_of ((after_op w parts x op).so_far g a) ≤ most_of (x.so_far g a) + x.met
-one_put w parts x (Assign t o) g a = omega arith
-one_put w parts x (Keep f) g a = omega arith
-one_put w parts x (Put h ks vs) g a = go (nat_eq g h)
-  where
-    go : (b : Bool)
-        → most_of ((if b then put_share parts x h vs a ∷ [] else []) ++ x.so_far g a)
-        ≤ most_of (x.so_far g a) + x.met
-    go true = omega arith
-    go false = omega arith
+one_put w parts x op g a = grind (arith, common_steps, most_of, put_share)
 
 -- how many more there are where each instruction is met as often as can be quoted
 end_count : (w : World) (parts : Parts) (c : Code) (x : Context)
@@ -175,36 +142,18 @@ pub refused_instruction : (w : World) (most : ℕ) (parts : Parts) (refused : �
     → (quote w.size parts ≤ most)
     × (first_answer (reason_of w parts) (instructions_of w parts) ≡ Some refused)
 refused_instruction w most parts refused e =
-    ⊎_elim (λ h. absurd (costs _ h))
-    (λ h. (
-      leb-true (quote w.size parts) most (cheap _ h.0),
-      ⊎_elim (λ k. unwrapped _ k) (λ k. absurd (shows (shown_fault parts) k.1))
-          (either_first (option_map Refused
-          (first_answer (reason_of w parts) (instructions_of w parts))) _ (Refused refused) h.1),
-    ))
-    (either_first (cost_refusal (quote w.size parts) (nat_le (quote w.size parts) most)) _
-    (Refused refused) e)
-  where
-    costs : (b : Bool) → cost_refusal (quote w.size parts) b ≡ Some (Refused refused) → ⊥
-    costs true h = absurd (cc)
-    costs false h = absurd (cc)
-
-    cheap : (b : Bool) → cost_refusal (quote w.size parts) b ≡ None → b ≡ true
-    cheap true h = refl
-    cheap false h = absurd (cc)
-
-    shows : (o : Option ℕ) → option_map BadShow o ≡ Some (Refused refused) → ⊥
-    shows None h = absurd (cc)
-    shows (Some place) h = absurd (cc)
-
-    instruction : Refusal → ℕ × Reason
-    instruction (Refused i) = i
-    instruction _ = refused
-
-    unwrapped : (o : Option (ℕ × Reason)) → option_map Refused o ≡ Some (Refused refused)
-        → o ≡ Some refused
-    unwrapped None h = absurd (cc)
-    unwrapped (Some i) h = ap (option_map instruction) h
+    grind (
+      arith,
+      common_steps,
+      ⊎_elim,
+      leb-true,
+      quote,
+      shown_fault,
+      either_first,
+      option_map,
+      first_answer,
+      reason_of,
+    )
 
 pub told_bounds_fit : (w : World) (most : ℕ) (parts : Parts) (at : ℕ) (r : Range)
     (columns : List Reached) → IsWithinLimits parts → most ≤ 10 ^ 15 → AreI64 w parts

@@ -1,7 +1,8 @@
 -- The bounds of each column that a refusal tells fit 64 bits.
-use Rattle.std.proofs.Common.{◌≡◌, ℕ, zero, suc, ◌+◌, Bool, true, false, List, [], ◌∷◌, ◌++◌, Option, Some, None, refl, sym, ap, subst, ◌∙◌}
-use Rattle.star_safety.proofs.Common.{Add, Aggregate, All, All-cons, All-nil, AllByRecursion, AllKnown, And, AreI64, Assign, Binary, COLUMNS, Code, ColumnId, Const, Context, Count, Each, Edge, Equal, Fault, Faulty, Find, FitsI64, IfSome, Keep, Known, KnownFlag, KnownNumber, KnownPlace, KnownRow, KnownText, Less, LessOrEqual, Load, Mul, Not, NotAForeignKey, Op, OpenGroup, Operator, Or, Overflow, Parts, Put, Reach, Reached, Read, Reason, Refused, Stop, Sub, TableId, Then, Within, World, after_op, after_scan, aligned, answer_known, at_end, at_first, at_place, code_size, column_same, cond, filter, first_reason, first_refusal, fits_i64, group_at, if◌then◌else◌, in_scan, is_text, joined_reach, kind_reason, loaded_known, map, nat_eq, no_reach, none_open, not, op_reason, open_with, option_map, option_or, overflow_of, put_known, put_share, range_reason, reach_at, reach_of, reached, refuses, result_known, scan_reason, slice_index_or, source_reason, with_bounds, with_entry, ℤ, ◌||◌}
+use Rattle.std.proofs.Common.{◌≡◌, ℕ, zero, suc, ◌+◌, Bool, true, false, List, [], ◌∷◌, Option, Some, None, sym, ap, subst, ◌∙◌, arith}
+use Rattle.star_safety.proofs.Common.{Aggregate, All, All-nil, AllByRecursion, AllKnown, AreI64, Assign, COLUMNS, Code, ColumnId, Context, Count, Each, Fault, Faulty, FitsI64, IfSome, Keep, Known, KnownFlag, KnownNumber, KnownPlace, KnownRow, KnownText, Op, Operator, Overflow, Parts, Put, Reach, Reached, Read, Reason, Refused, Stop, TableId, Then, World, after_op, after_scan, aligned, answer_known, at_end, at_first, at_place, code_size, column_same, filter, first_reason, first_refusal, fits_i64, group_at, in_scan, is_text, joined_reach, kind_reason, loaded_known, map, no_reach, none_open, not, op_reason, open_with, option_map, option_or, overflow_of, put_known, put_share, range_reason, reach_at, reach_of, reached, refuses, result_known, scan_reason, slice_index_or, source_reason, with_bounds, with_entry, ℤ}
 use Rattle.star_safety.proofs.{Forward.first_standing, ToldBounds.refused_instruction}
+use Rattle.std.proofs.lemmas.Grind.{common_steps}
 
 -- ---- what numbers are computed from
 
@@ -17,11 +18,7 @@ none_numbers : AreNumbers no_reach
 none_numbers c e = absurd (cc)
 
 joined_numbers : (a b : Reach) → AreNumbers a → AreNumbers b → AreNumbers (joined_reach a b)
-joined_numbers a b p q c e = go (a c) refl
-  where
-    go : (first : Bool) → a c ≡ first → is_text c ≡ false
-    go true f = p c f
-    go false f = q c (sym (ap (λ first. first || b c) f) ∙ e)
+joined_numbers a b p q c e = grind (arith, common_steps, is_text)
 
 loaded_numbers : (w : World) (c : ColumnId) (b : Bool) → is_text c ≡ b
     → AreNumbers (reach_at (Some (loaded_known w c b)))
@@ -30,28 +27,12 @@ loaded_numbers w c false e d reaches = ap is_text (sym (column_same c d reaches)
 
 answer_numbers : (o : Operator) (l r : Option Known) → AreNumbers (reach_at l)
     → AreNumbers (reach_at r) → AreNumbers (reach_at (Some (answer_known o l r)))
-answer_numbers Add l r p q = joined_numbers (reach_at l) (reach_at r) p q
-answer_numbers Sub l r p q = joined_numbers (reach_at l) (reach_at r) p q
-answer_numbers Mul l r p q = joined_numbers (reach_at l) (reach_at r) p q
-answer_numbers Less l r p q = none_numbers
-answer_numbers LessOrEqual l r p q = none_numbers
-answer_numbers Equal l r p q = none_numbers
-answer_numbers And l r p q = none_numbers
-answer_numbers Or l r p q = none_numbers
+answer_numbers o l r p q = grind (arith, common_steps, joined_numbers, reach_at, none_numbers)
 
 result_numbers : (w : World) (parts : Parts) (x : Context) (op : Op) → Reaches x
     → AreNumbers (reach_at (Some (result_known w parts x op)))
-result_numbers w parts x (Assign t (Load c r)) h = loaded_numbers w c (is_text c) refl
-result_numbers w parts x (Assign t (Binary o l r)) h =
-    answer_numbers o (x.known l) (x.known r) (h.known l) (h.known r)
-result_numbers w parts x (Assign t (Const n)) h = none_numbers
-result_numbers w parts x (Assign t (Edge g d text)) h = none_numbers
-result_numbers w parts x (Assign t (Find table k)) h = none_numbers
-result_numbers w parts x (Assign t (Within q a b)) h = none_numbers
-result_numbers w parts x (Assign t (Not f)) h = none_numbers
-result_numbers w parts x (Assign t (Read g a n)) h = none_numbers
-result_numbers w parts x (Keep f) h = none_numbers
-result_numbers w parts x (Put g ks vs) h = none_numbers
+result_numbers w parts x op h =
+    grind (arith, common_steps, loaded_numbers, is_text, answer_numbers, none_numbers)
 
 -- ---- what is put
 
@@ -86,35 +67,26 @@ share_numbers parts x g vs a h =
 entry_numbers : (known : AllKnown) (t : ℕ) (k : Known) → AreNumbers (reach_at (Some k))
     → ((r : ℕ) → AreNumbers (reach_at (known r)))
     → (r : ℕ) → AreNumbers (reach_at (with_entry known t k r))
-entry_numbers known t k here all r = go (nat_eq r t)
-  where
-    go : (b : Bool) → AreNumbers (reach_at (if b then Some k else known r))
-    go true = here
-    go false = all r
+entry_numbers known t k here all r = grind (arith, common_steps, reach_at)
 
 after_reaches : (w : World) (parts : Parts) (x : Context) (op : Op) → Reaches x
     → Reaches (after_op w parts x op)
-after_reaches w parts x (Assign t o) h = record {
-  known = entry_numbers x.known t (result_known w parts x (Assign t o))
-      (result_numbers w parts x (Assign t o) h) h.known;
-  puts = h.puts;
-}
-after_reaches w parts x (Keep f) h = record { known = h.known; puts = h.puts }
-after_reaches w parts x (Put g ks vs) h =
-    record { known = h.known; puts = λ q a. go q a (nat_eq q g) }
-  where
-    go : (q a : ℕ) (b : Bool)
-        → AreNumbers (reach_of ((if b then put_share parts x g vs a ∷ [] else []) ++ x.so_far q a))
-    go q a true = joined_numbers (reach_of (x.so_far q a)) (put_share parts x g vs a).reach
-        (h.puts q a) (share_numbers parts x g vs a h)
-    go q a false = h.puts q a
+after_reaches w parts x op h =
+    grind (
+      arith,
+      common_steps,
+      entry_numbers,
+      result_known,
+      result_numbers,
+      reach_of,
+      put_share,
+      joined_numbers,
+      share_numbers,
+    )
 
 inside_reaches : (w : World) (x : Context) (table : TableId) (r : ℕ) → Reaches x
     → Reaches (in_scan w x table r)
-inside_reaches w x table r h = record {
-  known = entry_numbers x.known r (KnownRow table) none_numbers h.known;
-  puts = h.puts;
-}
+inside_reaches w x table r h = grind (arith, common_steps, entry_numbers, none_numbers)
 
 end_reaches : (w : World) (parts : Parts) (c : Code) (x : Context) → Reaches x
     → Reaches (at_end w parts x c)
@@ -154,16 +126,7 @@ faulty_found None = tt
 faulty_found (Some fault) = tt
 
 source_found : (pending : ℕ → Bool) (x : Context) (op : Op) → Found (source_reason pending x op)
-source_found pending x (Assign t (Find table k)) = refused_found _ NotAForeignKey tt
-source_found pending x (Assign t (Read g a n)) = refused_found (pending g) OpenGroup tt
-source_found pending x (Assign t (Const n)) = tt
-source_found pending x (Assign t (Edge g c text)) = tt
-source_found pending x (Assign t (Load c q)) = tt
-source_found pending x (Assign t (Binary o a b)) = tt
-source_found pending x (Assign t (Within q a b)) = tt
-source_found pending x (Assign t (Not f)) = tt
-source_found pending x (Keep f) = tt
-source_found pending x (Put g ks vs) = tt
+source_found pending x op = grind (arith, common_steps, refused_found)
 
 placed_found : (at : ℕ) (reason : Option Reason) → Found reason
     → IfSome (at_place at reason) (λ refused. Tells refused.1)
@@ -176,17 +139,7 @@ module _ (w : World) (parts : Parts)
       → Fit (map (with_bounds w) (filter reach cs))
   some_fit reach [] h =
       All-nil (λ (column : Reached). FitsI64 (record { low = column.low; high = column.high }))
-  some_fit reach (c ∷ cs) h = go (reach c) refl (some_fit reach cs h)
-    where
-      others : List ColumnId
-      others = filter reach cs
-
-      go : (b : Bool) → reach c ≡ b → Fit (map (with_bounds w) others)
-          → Fit (map (with_bounds w) (cond b (c ∷ others) others))
-      go true e fit =
-          All-cons (λ (column : Reached). FitsI64 (record { low = column.low; high = column.high }))
-          (with_bounds w c) (map (with_bounds w) others) (bounds c (h c e)) fit
-      go false e fit = fit
+  some_fit reach (c ∷ cs) h = grind (arith, common_steps, with_bounds, some_fit reach cs h)
 
   reached_fit : (reach : Reach) → AreNumbers reach → Fit (reached w reach)
   unfolding reached
