@@ -4,6 +4,7 @@ ghost use Rattle.std.specs.Prelude.{◌≡◌, ◌≤◌, ℕ, List, All, IfSome
 ghost use Rattle.star_flat.specs.Private.Met.{IsMet};
 
 use crate::slot::slot_of;
+use std::simd::prelude::*;
 
 /// How many bytes a short text has at most.
 const SHORT: usize = 16;
@@ -31,13 +32,44 @@ pub(crate) fn nothing_met() -> [Met; REMEMBERED]
     }; REMEMBERED]
 }
 
-// Whether bytes begin with a short text.
+// How many of 16 bytes come before one that differs from a text's at the same place.
 #[inline(always)]
-fn begin_with(bytes: &[u8; 16], text: &[u8]) -> bool
-    requires { length text.now ≤ 16 }
-    ensures { IsTrue result → take (length text.now) bytes.now ≡ text.now }
+fn same_front(bytes: &[u8; 16], text: &[u8]) -> usize
+    requires { 16 ≤ length text.now }
+    ensures { (count : ℕ) → count ≤ result → take count bytes.now ≡ take count text.now }
 {
-    for at in 0..text.len() {
+    let other = u8x16::from_array(*bytes)
+        .simd_ne(u8x16::from_slice(text))
+        .to_bitmask();
+    if other == 0 {
+        SHORT
+    } else {
+        other.trailing_zeros() as usize
+    }
+}
+
+// Whether bytes begin with the first `count` of a text.
+#[inline(always)]
+fn begin_with(bytes: &[u8; 16], text: &[u8], count: usize) -> bool
+    requires short { count ≤ 16 }
+    requires within { count ≤ length text.now }
+    ensures { IsTrue result → take count bytes.now ≡ take count text.now }
+{
+    if text.len() >= SHORT {
+        same_front(bytes, text) >= count
+    } else {
+        begin_slowly(bytes, text, count)
+    }
+}
+
+// What `begin_with` does, byte by byte.
+#[inline(never)]
+fn begin_slowly(bytes: &[u8; 16], text: &[u8], count: usize) -> bool
+    requires short { count ≤ 16 }
+    requires within { count ≤ length text.now }
+    ensures { IsTrue result → take count bytes.now ≡ take count text.now }
+{
+    for at in 0..count {
         if bytes[at] != text[at] {
             return false;
         }
@@ -45,17 +77,18 @@ fn begin_with(bytes: &[u8; 16], text: &[u8]) -> bool
     true
 }
 
-/// Returns the place of a text that equals this one, if it is remembered.
+/// Returns the place of a text that equals the first `count` bytes of this one, if it is remembered.
 #[inline(always)]
-pub(crate) fn find_met(met: &[Met; REMEMBERED], text: &[u8]) -> Option<usize>
+pub(crate) fn find_met(met: &[Met; REMEMBERED], text: &[u8], count: usize) -> Option<usize>
+    requires { count ≤ length text.now }
     ensures { (kept : List (List ℕ)) → All (IsMet kept) met.now
-        → IfSome result (λ place. slice_get kept place ≡ Some text.now) }
+        → IfSome result (λ place. slice_get kept place ≡ Some (take count text.now)) }
 {
-    if text.len() > SHORT {
+    if count > SHORT {
         return None;
     }
-    let slot = &met[slot_of(text) % REMEMBERED];
-    if slot.len == text.len() && begin_with(&slot.bytes, text) {
+    let slot = &met[slot_of(&text[..count]) % REMEMBERED];
+    if slot.len == count && begin_with(&slot.bytes, text, count) {
         Some(slot.place)
     } else {
         None

@@ -1,6 +1,6 @@
 // A list of texts, many of them equal.
 
-ghost use Rattle.std.specs.Prelude.{◌≡◌, ◌<◌, ◌^◌, ◌++◌, ◌∷◌, [], All, IfOk, IfSome, Some, length, map, slice_get, slice_index, OnErr, OnOk};
+ghost use Rattle.std.specs.Prelude.{◌≡◌, ◌<◌, ◌≤◌, ◌^◌, ◌++◌, ◌∷◌, [], All, IfOk, IfSome, Some, length, map, slice_get, slice_index, take, OnErr, OnOk};
 ghost use Rattle.star_flat.specs.Repeated.{AreRepeated, places_in, texts_at_places};
 
 use crate::marks::may_repeat;
@@ -157,9 +157,20 @@ impl RepeatedTexts {
         ensures ok { OnOk result (self.new ≡ self.old ++ text.now ∷ []) }
         ensures err { OnErr result (self.new ≡ self.old) }
     {
-        match find_met(&self.met, text) {
+        self.push_front(text, text.len())
+    }
+
+    /// Puts the first `count` bytes of a text at the end, or changes nothing where memory is refused.
+    /// Where the text has 16 bytes a short one is compared at once with one that is remembered.
+    #[inline(always)]
+    pub fn push_front(&mut self, text: &[u8], count: usize) -> Result<(), AllocError>
+        requires { count ≤ length text.now }
+        ensures ok { OnOk result (self.new ≡ self.old ++ take count text.now ∷ []) }
+        ensures err { OnErr result (self.new ≡ self.old) }
+    {
+        match find_met(&self.met, text, count) {
             Some(place) => push_place(&mut self.rows, place),
-            None => self.push_other(text),
+            None => self.push_other(&text[..count]),
         }
     }
 

@@ -1,11 +1,11 @@
 -- The first field of a text, as a text.
-use Rattle.std.proofs.Common.{◌≡◌, ◌⊎◌, ◌<◌, ◌≤◌, ◌∙◌, ℕ, zero, suc, List, true, false, get_or, length, take, refl, sym, inl, inr, arith}
+use Rattle.std.proofs.Common.{◌≡◌, ◌⊎◌, ◌+◌, ◌<◌, ◌≤◌, ◌∙◌, ◌||◌, ℕ, zero, suc, Bool, List, [], ◌∷◌, true, false, get_or, length, not, take, refl, sym, inl, inr, arith}
 use Rattle.std.proofs.lemmas.Bool.{and_from, and_parts, cases_Bool, le-leb, leb-true, true≢false}
 use Rattle.std.proofs.{lemmas.List.length-take-le}
-use Rattle.std.specs.{List.list_all, Prelude.nat_le}
+use Rattle.std.specs.{List.list_all, List.prefix_len, Prelude.nat_le}
 use Rattle.star_common.specs.Printable.{is_printable}
-use Rattle.star_schema.specs.Tables.{is_short}
-use Rattle.star_reader.specs.Private.Fronts.{IsFront, is_plain}
+use Rattle.star_schema.specs.{Records.is_bar, Tables.is_short}
+use Rattle.star_reader.specs.Private.Fronts.{IsFront, is_plain, is_stop}
 use Rattle.star_reader.proofs.Fronts.{all_at}
 
 -- a first field reaches as far as there is no bar
@@ -105,3 +105,33 @@ above_tilde b high = elim (cases_Bool (is_printable b)) [
       absurd (omega (arith, high, most))
   | inr bad ↦ bad
 ]
+
+neither : (x y : Bool) → not (x || not y) ≡ true → (not x ≡ true) × (y ≡ true)
+neither true y h = absurd (true≢false (sym h))
+neither false true h = (refl, refl)
+neither false false h = absurd (true≢false (sym h))
+
+-- bytes before the first that fails one test pass another
+passed : (p q : ℕ → Bool) → ((b : ℕ) → p b ≡ true → q b ≡ true) → (text : List ℕ) (n : ℕ)
+    → list_all q (take (prefix_len p (take n text)) text) ≡ true
+passed p q more [] zero = refl
+passed p q more [] (suc n) = refl
+passed p q more (b ∷ text) zero = refl
+passed p q more (b ∷ text) (suc n) = elim (cases_Bool (p b)) [
+  | inl fine ↦
+      let one : 1 + prefix_len p (take n text) ≡ suc (prefix_len p (take n text)) = omega arith in
+      rw (fine, one) (and_from _ _ (more b fine) (passed p q more text n))
+  | inr bad ↦ rw bad refl
+]
+
+-- the bytes before the first stop
+pub near_bytes : (text : List ℕ) (count : ℕ)
+    → count ≡ prefix_len (λ b. not (is_stop b)) (take 16 text)
+    → (list_all is_plain (take count text) ≡ true)
+    × (list_all is_printable (take count text) ≡ true)
+near_bytes text count is = (
+  rw is (passed (λ b. not (is_stop b)) is_plain
+      (λ b h. (neither (is_bar b) (is_printable b) h).0) text 16),
+  rw is (passed (λ b. not (is_stop b)) is_printable
+      (λ b h. (neither (is_bar b) (is_printable b) h).1) text 16),
+)

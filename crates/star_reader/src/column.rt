@@ -108,7 +108,7 @@ impl RawColumn {
             },
             RawColumn::Texts(texts) => match text_front(text) {
                 Some(count) => {
-                    texts.push(&text[..count])?;
+                    texts.push_front(text, count)?;
                     Ok(Some(count))
                 }
                 None => Ok(None),

@@ -1,12 +1,16 @@
 // The first field of what is left of a line.
 
-ghost use Rattle.std.specs.Prelude.{◌≡◌, ◌+◌, ◌<◌, ◌≤◌, ◌^◌, ◌&&◌, if◌then◌else◌, ℕ, None, Some, MatchOption, false, true, length, take};
-ghost use Rattle.std.specs.{List.list_all, Str.Parse.digits_value};
+ghost use Rattle.std.specs.Prelude.{◌≡◌, ◌+◌, ◌<◌, ◌≤◌, ◌^◌, ◌&&◌, if◌then◌else◌, ℕ, None, Some, MatchOption, false, true, length, map, not, take};
+ghost use Rattle.std.specs.{List.list_all, List.prefix_len, Simd.Lanes.mask_l, Str.Parse.digits_value};
 ghost use Rattle.star_common.specs.{Numerals.is_numeral, Printable.is_printable};
-ghost use Rattle.star_reader.specs.Private.Fronts.{IsFront};
+ghost use Rattle.star_reader.specs.Private.Fronts.{IsFront, is_stop};
 ghost use Rattle.star_schema.specs.Tables as spec;
 
 use crate::cell::parse_number;
+use std::simd::prelude::*;
+
+// How many bytes are searched for a bar at once.
+const NEAR: usize = 16;
 
 /// The digits at the front of a text: how many, and the number that they write.
 #[derive(Clone, Copy)]
@@ -91,9 +95,9 @@ pub(crate) fn number_front(text: &[u8]) -> Option<Number>
     }
 }
 
-/// How many bytes the first field of a text has, if these are at most 255 and printable.
-#[inline(always)]
-pub(crate) fn text_front(text: &[u8]) -> Option<usize>
+// What `text_front` does, byte by byte.
+#[inline(never)]
+fn slow_front(text: &[u8]) -> Option<usize>
     ensures { MatchOption result
         ((count : ℕ) → IsFront text.now count
         → (spec.is_short (take count text.now)
@@ -115,6 +119,49 @@ pub(crate) fn text_front(text: &[u8]) -> Option<usize>
         return None;
     }
     Some(most)
+}
+
+// Which of these bytes end a cell, or may not stand in one.
+#[inline(always)]
+fn stops(lanes: u8x16) -> u64
+    ensures { result ≡ mask_l (map is_stop lanes) }
+{
+    let bars = lanes.simd_eq(u8x16::splat(b'|'));
+    let others = (lanes - u8x16::splat(b' ')).simd_ge(u8x16::splat(0x5F));
+    (bars | others).to_bitmask()
+}
+
+// How many of the first 16 bytes of a text come before one that ends a cell, or may not stand in one.
+#[inline(always)]
+fn near_front(text: &[u8]) -> usize
+    requires { 16 ≤ length text.now }
+    ensures { result ≡ prefix_len (λ b. not (is_stop b)) (take 16 text.now) }
+{
+    let stops = stops(u8x16::from_slice(text));
+    if stops == 0 {
+        NEAR
+    } else {
+        stops.trailing_zeros() as usize
+    }
+}
+
+/// How many bytes the first field of a text has, if these are at most 255 and printable.
+#[inline(always)]
+pub(crate) fn text_front(text: &[u8]) -> Option<usize>
+    ensures { MatchOption result
+        ((count : ℕ) → IsFront text.now count
+        → (spec.is_short (take count text.now)
+        && list_all is_printable (take count text.now)) ≡ false)
+        (λ count. IsFront text.now count × (spec.is_short (take count text.now) ≡ true)
+        × (list_all is_printable (take count text.now) ≡ true)) }
+{
+    if text.len() >= NEAR {
+        let count = near_front(text);
+        if count < NEAR && text[count] == b'|' {
+            return Some(count);
+        }
+    }
+    slow_front(text)
 }
 
 /// How many bytes the first field of a text has.

@@ -9,7 +9,7 @@ ghost use Rattle.star_reader.specs.{Columns.AreColumnsOf, Columns.first_rows, Co
 use crate::column::RawColumn;
 use crate::fault::ReadFault;
 use crate::line::add_row;
-use crate::lines::{read_next, records_reader};
+use crate::lines::{leave_out_header, read_next, records_reader};
 use crate::record::field_at;
 use csv::{ByteRecord, Reader};
 use std::alloc::Global;
@@ -90,7 +90,8 @@ pub(crate) fn read_lines(
         (λ fault. UnlessMemory ReadFault.OutOfMemory fault
         (records_fault table most (start + 1) (records_of lines.now) ≡ Some fault)) }
 {
-    let mut reader = records_reader(alloc, lines)?;
+    let mut reader = records_reader(alloc, lines);
+    leave_out_header(alloc, &mut reader)?;
     let mut some = ByteRecord::with_capacity(alloc, lines.len(), lines.len() / 64)?;
     read_records(alloc, &mut reader, &mut some, columns, start, most)
 }

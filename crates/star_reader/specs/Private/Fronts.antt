@@ -1,10 +1,15 @@
 -- The first field of what is left of a line.
-use Rattle.std.specs.Prelude.{◌≡◌, ◌⊎◌, ◌<◌, ◌≤◌, Bool, ℕ, List, [], true, not, if◌then◌else◌, drop, get_or, length, nat_le, take}
+use Rattle.std.specs.Prelude.{◌≡◌, ◌⊎◌, ◌<◌, ◌≤◌, ◌||◌, Bool, ℕ, List, [], true, not, if◌then◌else◌, drop, get_or, length, nat_le, take}
 use Rattle.std.specs.List.{list_all}
+use Rattle.star_common.specs.Printable.{is_printable}
 use Rattle.star_schema.specs.Records.{fields_of, is_bar}
 
 abbrev pub is_plain : ℕ → Bool
 is_plain b = not (is_bar b)
+
+-- a byte that ends a cell, or may not stand in one
+abbrev pub is_stop : ℕ → Bool
+is_stop b = is_bar b || not (is_printable b)
 
 -- the first field of a text has `count` bytes
 pub record IsFront (text : List ℕ) (count : ℕ) : Type 0 where

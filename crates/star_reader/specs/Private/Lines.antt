@@ -13,14 +13,18 @@ abbrev pub by_lines : Config
 by_lines = record default_config { delimiter = 10; quoting = false; terminator = term.Any 13 }
 
 -- the reader is set up for table files, is between records, and has these records left
-pub record HasLeft (reader : Reader (Bor (List ℕ))) (lines : List (List ℕ)) : Type 0 where
+pub record IsBetween (reader : Reader (Bor (List ℕ))) (lines : List (List ℕ)) : Type 0 where
   pub untrimmed : reader_trim reader ≡ trim.None
-  pub ready : Ready reader
   pub config : reader_config reader ≡ by_lines
   pub between : reader_state reader ≡ st.StartRecord
   pub bytes : List ℕ
   pub source : source_of (λ (s : Bor (List ℕ)). Some s.now) reader ≡ Some bytes
   pub left : records_of bytes ≡ lines
+
+-- and its header row is not the next one
+pub record HasLeft (reader : Reader (Bor (List ℕ))) (lines : List (List ℕ)) : Type 0 where
+  pub ready : Ready reader
+  pub between : IsBetween reader lines
 
 -- the fields of a read that have a byte are the first records, and the others are left
 pub record TakesSome (lines fields : List (List ℕ)) (reader : Reader (Bor (List ℕ)))

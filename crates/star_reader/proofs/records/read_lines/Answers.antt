@@ -1,14 +1,16 @@
 use Rattle.std.proofs.Common.{map}
 use Rattle.star_schema.specs.Records.{records_of}
-use Rattle.star_reader.specs.{Columns.first_rows, Columns.values, Private.Lines.HasLeft}
+use Rattle.star_reader.specs.{Columns.first_rows, Columns.values, Private.Lines.IsBetween}
 use Rattle.star_reader.proofs.{Cuts.begun_plain, TableSteps.matched, TableSteps.no_mark, TableSteps.start, TableSteps.whole}
 use Rattle.star_reader.proofs.records.read_lines.Goals as goal
 
 pub returns : goal.returns
 returns c = λ table begun full within.
-    let left : HasLeft c.in_ok-reader.reader (records_of c.args.lines.now) =
+    let between : IsBetween c.records_reader-reader.result (records_of c.args.lines.now) =
     rw (no_mark c.args.lines.now (begun_plain c.args.lines.now begun))
-    at c.in_ok-reader.ensures in
+    at c.records_reader-reader.ensures.between in
+    let left = c.in_ok-leave_out_header.ensures.left (records_of c.args.lines.now)
+    c.records_reader-reader.ensures.named between in
     matched _ _ _ c.read_records.result (λ rows h. whole h)
     (c.read_records.ensures table (first_rows c.args.start (map values c.args.columns.now))
     (records_of c.args.lines.now) (records_of c.args.lines.now) left

@@ -3,7 +3,7 @@ use Rattle.std.proofs.Common.{◌≡◌, take, true}
 use Rattle.std.specs.List.{list_all}
 use Rattle.star_common.specs.Printable.{is_printable}
 use Rattle.star_reader.specs.Private.Fronts.{is_plain}
-use Rattle.star_reader.proofs.front.text_front.Given as goal
+use Rattle.star_reader.proofs.front.slow_front.Given as goal
 
 abbrev pub invariant-loop-count : goal.invariant-loop-count
 invariant-loop-count l = record {

@@ -1,7 +1,7 @@
-use Rattle.std.proofs.Common.{◌++◌, ◌∷◌, [], ap, ◌∙◌}
+use Rattle.std.proofs.Common.{◌++◌, ◌∷◌, [], ap, take, ◌∙◌}
 use Rattle.star_flat.specs.Repeated.{places_in, texts_at_places}
 use Rattle.star_flat.proofs.RepeatedLemmas.{again, either, on_ok, text_again}
-use Rattle.star_flat.proofs.repeated.RepeatedTexts.push.Goals as goal
+use Rattle.star_flat.proofs.repeated.RepeatedTexts.push_front.Goals as goal
 
 pub invariant_of-self : goal.invariant_of-self
 invariant_of-self c =
@@ -10,7 +10,7 @@ invariant_of-self c =
     let there = c.in-Some.ensures ts c.self.invariant.1 in
     either c.push_place.result c.push_place.ensures.ok c.push_place.ensures.err
     (λ pushed. (
-      rw pushed (again ts ps c.self.invariant.0 c.in-Some.place c.args.text.now there),
+      rw pushed (again ts ps c.self.invariant.0 c.in-Some.place (take c.args.count c.args.text.now) there),
       c.self.invariant.1,
     ))
     (λ same. (rw same c.self.invariant.0, c.self.invariant.1))
@@ -22,5 +22,5 @@ returns-in-Some-clause-ok c =
     let there = c.in-Some.ensures ts c.self.invariant.1 in
     on_ok c.push_place.result c.push_place.ensures.ok
     (λ pushed. ap (texts_at_places ts) pushed
-    ∙ text_again ts ps c.self.invariant.0 c.in-Some.place c.args.text.now there
-    ∙ ap (λ all. all ++ c.args.text.now ∷ []) c.self.view_is)
+    ∙ text_again ts ps c.self.invariant.0 c.in-Some.place (take c.args.count c.args.text.now) there
+    ∙ ap (λ all. all ++ take c.args.count c.args.text.now ∷ []) c.self.view_is)
