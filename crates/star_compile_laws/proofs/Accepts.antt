@@ -1,6 +1,6 @@
 -- What refuses the instructions of a compiled program: the first range that leaves 64 bits, or
 -- nothing.
-use Rattle.std.proofs.Common.{◌≡◌, ℕ, suc, ◌+◌, ◌*◌, ◌≤◌, ◌<◌, Bool, true, false, List, [], ◌∷◌, length, map, Option, Some, None, refl, sym, ap, subst, ◌∙◌, arith}
+use Rattle.std.proofs.Common.{◌≡◌, ℕ, ◌+◌, ◌*◌, ◌≤◌, ◌<◌, Bool, true, false, List, [], ◌∷◌, length, map, Option, Some, None, refl, sym, ap, subst, ◌∙◌, arith}
 use Rattle.std.proofs.lemmas.Bool.{and_parts, eq-eqb, lt-ltb, ne_eqb, or_from, true≢false}
 use Rattle.std.specs.Prelude.{pos, ◌&&◌, ◌||◌, not, nat_eq, nat_lt, if◌then◌else◌}
 use Rattle.std.specs.{List.list_all, Option.option_map, Option.option_or}
@@ -8,13 +8,12 @@ use Rattle.star_schema.specs.{declared.table.TableId.TheVariants.Lineorder, decl
 use Rattle.star_schema.specs.declared.column.Kind.TheVariants as kind
 use Rattle.star_schema.proofs.Same.{column_itself}
 use Rattle.star_interval.specs.Range.{fits_i64}
-use Rattle.star_query.specs.declared.token.Fold.{Fold, TheVariants.Sum, TheVariants.Min, TheVariants.Max}
 use Rattle.star_query.specs.Tree.{Expression, Measure, add, column, constant, count, fold, mul, sub}
 use Rattle.star_plan.specs.{Fits.expression_range, Fits.measure_fits, Fits.nodes_fit, Meaning.aggregate_of, Meaning.Plan, Meaning.RowCondition, Names.same_kind, Sound.IsSoundPlan, Sound.in_scope}
-use Rattle.star_program.specs.declared.{fault.Fault.TheVariants.BadGroup, fault.Fault.TheVariants.BadRegister, fault.Fault.TheVariants.WrittenTwice, op.Op.TheVariants.Assign, op.Op.TheVariants.Keep, op.Op.TheVariants.Put, op.Operation.Operation, op.Operation.TheVariants.Read, program.Parts.Parts}
+use Rattle.star_program.specs.declared.{fault.Fault.TheVariants.BadRegister, fault.Fault.TheVariants.WrittenTwice, op.Op.TheVariants.Assign, op.Op.TheVariants.Keep, op.Op.TheVariants.Put, op.Operation.Operation, op.Operation.TheVariants.Read, program.Parts.Parts}
 use Rattle.star_program.specs.declared.group.GroupKey.TheVariants as key
 use Rattle.star_program.specs.{Code.Code, Code.Stop, Code.Then, Values.with_entry, World.World, World.is_column, World.is_text}
-use Rattle.star_program.specs.Faults.{fault_of, fits_key, is_flag_kind, is_number_kind, keys_fault, numbers_fault, operand_fault, place_fault, unless, value_count}
+use Rattle.star_program.specs.Faults.{fault_of, fits_key, is_flag_kind, keys_fault, numbers_fault, operand_fault, unless, value_count}
 use Rattle.star_safety.specs.declared.reason.Reason.{Reason, TheVariants.Faulty, TheVariants.Overflow}
 use Rattle.star_safety.specs.{Contexts.Context, Contexts.after_op, Contexts.at_first, Private.Forward.first_reason, Private.Forward.none_open, Private.Forward.open_with, Standing.at_place}
 use Rattle.star_safety.specs.Ranges.{AllKnown, Known, KnownFlag, KnownNumber, KnownRow, kinds_known, known_kind, loaded_known}
@@ -22,11 +21,12 @@ use Rattle.star_safety.specs.Refusals.{op_reason, overflow_of, reached, refuses,
 use Rattle.star_safety.proofs.Instructions.{both_none}
 use Rattle.star_compile_laws.specs.Compiled.{body_code, compiled, key_of_group, register_count, turn_code}
 use Rattle.star_compile_laws.specs.Wide.{Computed, computed, first_wide, given, too_wide, turn_wide}
-use Rattle.star_compile_laws.proofs.Contents.{AllHold, Content, Makes, OfColumn, OfCondition, OfExpression, numbers_put}
+use Rattle.star_compile_laws.proofs.Contents.{AllHold, Content, Makes, OfColumn, OfCondition, numbers_put}
 use Rattle.star_compile_laws.proofs.{Entries.entry_other, Entries.entry_same, Joins.holds_numbers}
 use Rattle.star_compile_laws.proofs.Pieces.{IsKept, Law, Stays, conjuncts_grade, expression_grade, made, of_turn, values_grade}
 use Rattle.star_compile_laws.proofs.Suits.{Agree, AgreeAt, AreColumnsI64, Point, Suits, at_of, fits, fits_zero, in_turn, number_known, operand, suits}
 use Rattle.star_compile_laws.proofs.Suits as known
+use Rattle.std.proofs.lemmas.Grind.{common_steps}
 
 pub or_none_right : {A : Type 0} (o : Option A) → option_or o None ≡ o
 or_none_right None = refl
@@ -110,9 +110,7 @@ module _ (w : World) (p : Plan) (sound : IsSoundPlan p) (met : ℕ) (pending : �
 
   same_grade : (x : Content) (v : Known) → Is x v → fits v ≡ true → (b : Bool)
       → made node x b ≡ b
-  same_grade (OfExpression a) v is e b =
-      ap (λ c. c && b) (sym (ap fits is.2) ∙ e)
-  same_grade _ v is e b = refl
+  same_grade it v is e b = grind (arith, common_steps)
 
   -- only its range can refuse an operation
   reason_is : (n : ℕ) (a : Point) (o : Operation) (x : Content) (suit : Suits w p met n a o x)
@@ -240,13 +238,7 @@ module _ (w : World) (p : Plan) (sound : IsSoundPlan p) (met : ℕ) (pending : �
       × (length ks ≡ length (map key_of_group cs))
   keys_fit n a room [] [] h = (refl, refl)
   keys_fit n a room (c ∷ cs) (r ∷ rs) h =
-      let later = keys_fit n a room cs rs h.1 in (
-        both_none _ _
-            (operand w p met n a (fits_key (key_of_group c)) r (column_known c) room
-            (at_of w p met n a r (OfColumn c) _ h.0 h.0.3) (key_fits c (is_text c)))
-            later.0,
-        ap suc later.1,
-      )
+      grind (arith, common_steps, both_none, operand, at_of, key_fits, keys_fit n a room cs rs h.1)
   keys_fit n a room [] (r ∷ rs) h = absurd h
   keys_fit n a room (c ∷ cs) [] h = absurd h
 
@@ -259,37 +251,13 @@ module _ (w : World) (p : Plan) (sound : IsSoundPlan p) (met : ℕ) (pending : �
   numbers_fit n a room (count ∷ ms) vs h = numbers_fit n a room ms vs h
   numbers_fit n a room (fold g x ∷ ms) [] h = absurd h
   numbers_fit n a room (fold g x ∷ ms) (r ∷ rs) h =
-      let later = numbers_fit n a room ms rs h.1 in (
-        both_none _ _
-            (operand w p met n a is_number_kind r _ room
-            (at_of w p met n a r (OfExpression x) _ h.0 h.0.3.2) refl)
-            later.0,
-        ap suc later.1 ∙ counted g,
-      )
-    where
-      counted : (g : Fold) → suc (value_count (map aggregate_of ms))
-          ≡ value_count (aggregate_of (fold g x) ∷ map aggregate_of ms)
-      counted Sum = refl
-      counted Min = refl
-      counted Max = refl
+      grind (arith, common_steps, room, both_none, operand, at_of, numbers_fit n a room ms rs h.1)
 
   put : (n : ℕ) (a : Point) (ks vs : List ℕ) → AllHold (Holds n a) (map OfColumn p.keys) ks
       → AllHold (Holds n a) (numbers_put p.measures) vs
       → law.Fact true n a (Then (Put 0 ks vs) Stop)
   put n a ks vs at_k at_v ready =
-      let room = ready.room in
-      let few : n ≤ f.registers = omega (arith, room) in
-      let gs = map aggregate_of p.measures in
-      let keys = keys_fit n a few p.keys ks at_k in
-      let numbers = numbers_fit n a few p.measures vs at_v in
-      let placed : place_fault f true (Put 0 ks vs) ≡ None =
-      λ j. unless (true && (eq-eqb (length ks) (length (map key_of_group p.keys)) keys.1 j
-      && eq-eqb (length vs) (value_count gs) numbers.1 j)) BadGroup in
-      let fault : fault_of f true None (kinds_known a.known) (Put 0 ks vs) ≡ None =
-      both_none _ _ placed (both_none _ _ keys.0 numbers.0) in
-      let none : answer a (Then (Put 0 ks vs) Stop) ≡ None =
-      λ j. option_or (at_place a.at (option_or (option_map Faulty (fault j)) None)) None in
-      record { first = none; fit = λ e. refl; none = λ s b. none }
+      grind (arith, common_steps, keys_fit, numbers_fit, eq-eqb, both_none)
 
   kept : IsKept law
   kept = record {
@@ -309,9 +277,7 @@ module _ (w : World) (p : Plan) (sound : IsSoundPlan p) (met : ℕ) (pending : �
   -- ---- a turn
 
   together_is : (x y z g : Bool) → (x && (y && (z && g))) ≡ ((x && (y && z)) && g)
-  together_is true true z g = refl
-  together_is true false z g = refl
-  together_is false y z g = refl
+  together_is it y z g = grind (arith, common_steps)
 
   two : (x y t : Expression ColumnId) (g : Bool)
       → ((h : Bool) → expression_grade law x h ≡ (nodes_fit w.bounds x && h))
@@ -320,11 +286,7 @@ module _ (w : World) (p : Plan) (sound : IsSoundPlan p) (met : ℕ) (pending : �
       (expression_grade law y (fits_i64 (expression_range w.bounds t) && g))
       ≡ ((nodes_fit w.bounds x && (nodes_fit w.bounds y
       && fits_i64 (expression_range w.bounds t))) && g)
-  two x y t g first second =
-      let z = fits_i64 (expression_range w.bounds t) in
-      first (expression_grade law y (z && g))
-      ∙ ap (λ b. nodes_fit w.bounds x && b) (second (z && g))
-      ∙ together_is (nodes_fit w.bounds x) (nodes_fit w.bounds y) z g
+  two x y t g first second = grind (arith, common_steps, expression_grade, together_is)
 
   nodes_are : (x : Expression ColumnId) (g : Bool)
       → expression_grade law x g ≡ (nodes_fit w.bounds x && g)

@@ -1,7 +1,7 @@
 -- The outcomes of a compiled program are the query's answers.
 use Rattle.std.proofs.Common.{◌≡◌, ℕ, zero, suc, ◌<◌, true, false, List, [], ◌∷◌, length, Option, Some, None, refl, sym, ap, subst, ◌∙◌, arith}
 use mathlib.Core.{Logic.inl, Logic.inr, List.reverse, List.map-map}
-use Rattle.std.specs.{Prelude.pos, Prelude.map, Prelude.nat_lt, Prelude.if◌then◌else◌, List.Contains, List.list_all, Option.option_map, Ordering.is_eq}
+use Rattle.std.specs.{Prelude.pos, Prelude.map, Prelude.nat_lt, List.Contains, List.list_all, Option.option_map, Ordering.is_eq}
 use Rattle.std.proofs.lemmas.{Bool.and_parts, List.length-map, List.length-replicate, List.Sorted.IsPermutation-reverse, List.Sorted.IsPermutation-sym}
 use Rattle.star_common.proofs.Members.{from_contains_map}
 use Rattle.star_schema.specs.declared.{table.TableId.TableId, table.TableId.TheVariants.Lineorder, column.ColumnId.ColumnId, group.Shape.Shape}
@@ -17,6 +17,7 @@ use Rattle.star_query_meaning.proofs.GroupOrders.{groups_reordered}
 use Rattle.star_compile_laws.proofs.{Comparisons.code_eq, Elements.map_same, Elements.contains_filtered, Elements.contains_numbers, Rows.row_of_fact, Rows.is_turn, Rows.joined_are, Rows.puts_the_rows}
 use Rattle.star_compile_laws.proofs.KeyCodes.{applied, applied_some, Keeps, entry_applied, row_applied, groups_applied}
 use Rattle.star_compile_laws.proofs.TurnRows.{Sees, Shows, IsTurn, numbers, place_in}
+use Rattle.std.proofs.lemmas.Grind.{common_steps}
 
 -- ---- keys
 
@@ -28,11 +29,7 @@ decoded_at w (c ∷ cs) (suc i) k = decoded_at w cs i k
 
 decoded_same : (w : World) (c : ColumnId) (n : ℕ) (v : Value) → Shows w c n v
     → decoded w (key_of_group c) (coded w c v) ≡ v
-decoded_same w c n (Number z) shows =
-    λ j. decoded w (if shows.0 j then declared.Text c else declared.Number) (key.Number z)
-decoded_same w c n (Text v) shows =
-    (λ j. decoded w (if shows.0 j then declared.Text c else declared.Number) (key.Code (w.low c v)))
-    ∙ ap Text (ap (w.text c) (sym shows.1.place) ∙ shows.1.shown)
+decoded_same w c n it shows = grind (arith, common_steps)
 
 key_kept : (w : World) (c : ColumnId) (n m : ℕ) (v u : Value) → Shows w c n v → Shows w c m u
     → is_eq (value_cmp v u) ≡ is_eq (by_code.key_value_cmp (coded w c v) (coded w c u))
@@ -60,12 +57,8 @@ keys_kept : (w : World) (cs : List ColumnId) (a b : Joined) → ShowsAll w cs a 
     (map (λ c. coded w c (joined_value c a)) cs)
     (map (λ c. coded w c (joined_value c b)) cs)
 keys_kept w [] a b p q = tt
-keys_kept w (c ∷ cs) a b p q = (
-  (λ i. is_eq (value_cmp (decoded_same w c p.0.0 (joined_value c a) p.0.1 i)
-      (decoded_same w c q.0.0 (joined_value c b) q.0.1 i)))
-      ∙ key_kept w c p.0.0 q.0.0 (joined_value c a) (joined_value c b) p.0.1 q.0.1,
-  keys_kept w cs a b p.1 q.1,
-)
+keys_kept w (c ∷ cs) a b p q =
+    grind (arith, common_steps, decoded_same, key_kept, keys_kept w cs a b p.1 q.1)
 
 keys_applied : (w : World) (cs : List ColumnId) (ks : List (Option KeyValue))
     → length ks ≡ length cs → applied_some (decoded_at w cs) ks ≡ decoded_keys w

@@ -1,21 +1,17 @@
 -- Comparisons of numbers and of places say what comparisons of values do.
-use Rattle.std.proofs.Common.{◌≡◌, ℕ, Bool, true, false, List, refl, sym, ap, ◌∙◌, arith, cond}
-use Rattle.std.proofs.{lemmas.Int.ints}
-use Rattle.std.specs.Prelude.{ℤ, pos, ◌+ℤ◌, ◌&&◌, not, nat_lt, nat_eq, int_lt}
+use Rattle.std.proofs.Common.{◌≡◌, ℕ, Bool, List, refl, sym, ap, ◌∙◌, arith, cond}
+use Rattle.std.proofs.{lemmas.Int.ints, lemmas.Grind.common_steps}
+use Rattle.std.specs.Prelude.{ℤ, pos, ◌+ℤ◌, ◌&&◌, not, nat_lt}
 use Rattle.std.specs.Ordering.{int_cmp, nat_cmp, is_eq, is_ne, is_lt, is_le, is_gt, is_ge, ordering_reverse}
-use Rattle.std.specs.{declared.cmp.Ordering.Ordering, declared.cmp.Ordering.TheVariants.Less, declared.cmp.Ordering.TheVariants.Equal, declared.cmp.Ordering.TheVariants.Greater, Cmp.Lexicographic.slice_cmp, Cmp.Lexicographic.nat_list_cmp_total, Cmp.int_cmp_total, Cmp.nat_cmp_total}
+use Rattle.std.specs.{declared.cmp.Ordering.Ordering, declared.cmp.Ordering.TheVariants.Less, declared.cmp.Ordering.TheVariants.Equal, declared.cmp.Ordering.TheVariants.Greater, Cmp.Lexicographic.slice_cmp, Cmp.Lexicographic.nat_list_cmp_total, Cmp.int_cmp_total}
 
 pub lt_by : (a b : Bool) → is_lt (cond a Less (cond b Greater Equal)) ≡ a
-lt_by true b = refl
-lt_by false true = refl
-lt_by false false = refl
+lt_by it b = grind (arith, common_steps)
 
 -- two tests of an order agree where they do at each of the three
 at_each : (p q : Ordering → Bool) → p Less ≡ q Less → p Equal ≡ q Equal → p Greater ≡ q Greater
     → (o : Ordering) → p o ≡ q o
-at_each p q less equal greater Less = less
-at_each p q less equal greater Equal = equal
-at_each p q less equal greater Greater = greater
+at_each p q less equal greater it = grind (arith, common_steps)
 
 -- the other way round
 pub lt_turned : (o : Ordering) → is_lt (ordering_reverse o) ≡ is_gt o
@@ -47,34 +43,25 @@ number_ge x a = ap is_le (int_cmp_total.antisymm a x) ∙ le_turned (int_cmp x a
 
 -- below one more is at most
 pub number_upto : (x b : ℤ) → is_lt (int_cmp x (b +ℤ pos 1)) ≡ is_le (int_cmp x b)
-number_upto x b =
-    let below : int_lt x (b +ℤ pos 1) ≡ not (int_lt b x) = grind (arith, ints) in
-    lt_by _ _ ∙ below ∙ ap not (sym (lt_by (int_lt b x) (int_lt x b)))
-    ∙ sym (le_not_lt (int_cmp b x)) ∙ ap is_le (sym (int_cmp_total.antisymm x b))
+number_upto x b = grind (arith, common_steps, ints, lt_by, le_not_lt)
 
 -- ---- places
 pub place_lt : (m n : ℕ) → is_lt (int_cmp (pos m) (pos n)) ≡ nat_lt m n
 place_lt m n = lt_by (nat_lt m n) (nat_lt n m)
 
 pub place_le : (m n : ℕ) → is_le (int_cmp (pos n) (pos m)) ≡ not (nat_lt m n)
-place_le m n =
-    ap is_le (int_cmp_total.antisymm (pos n) (pos m)) ∙ le_not_lt (int_cmp (pos m) (pos n))
-    ∙ ap not (place_lt m n)
+place_le m n = grind (arith, common_steps, le_not_lt, place_lt)
 
 -- ---- codes
 
 nat_lt_by : (a b : Bool) → is_lt (cond a Less (cond b Equal Greater)) ≡ a
-nat_lt_by true b = refl
-nat_lt_by false true = refl
-nat_lt_by false false = refl
+nat_lt_by it b = grind (arith, common_steps)
 
 eq_neither : (o : Ordering) → is_eq o ≡ not (is_lt o) && not (is_lt (ordering_reverse o))
 eq_neither = at_each _ _ refl refl refl
 
 pub nat_eq_by : (m n : ℕ) → is_eq (nat_cmp m n) ≡ not (nat_lt m n) && not (nat_lt n m)
-nat_eq_by m n =
-    eq_neither (nat_cmp m n) ∙ λ i. not (nat_lt_by (nat_lt m n) (nat_eq m n) i) && not
-    ((ap is_lt (sym (nat_cmp_total.antisymm n m)) ∙ nat_lt_by (nat_lt n m) (nat_eq n m)) i)
+nat_eq_by m n = grind (arith, common_steps, eq_neither, nat_lt_by)
 
 pub text_eq_by : (v u : List ℕ) → is_eq (slice_cmp nat_cmp v u) ≡ not
     (is_lt (slice_cmp nat_cmp v u)) && not (is_lt (slice_cmp nat_cmp u v))

@@ -1,5 +1,5 @@
 -- What the registers of a turn hold, and what each instruction of a turn makes of it.
-use Rattle.std.proofs.Common.{◌≡◌, ℕ, Bool, true, false, List, [], ◌∷◌, refl}
+use Rattle.std.proofs.Common.{◌≡◌, ℕ, Bool, true, false, List, [], ◌∷◌, refl, arith}
 use Rattle.std.specs.Prelude.{ℤ, pos, ◌+ℤ◌}
 use Rattle.star_schema.specs.{declared.table.TableId.TableId, declared.column.ColumnId.ColumnId, Schema.table_of, Tables.Value, Tables.Number, Tables.Text}
 use Rattle.star_interval.specs.Range.{is_i64}
@@ -11,6 +11,7 @@ use Rattle.star_program.specs.{declared.op.Edge.Edge, declared.op.Edge.TheVarian
 use Rattle.star_compile_laws.specs.Compiled.{Env, Rest, beside, column_code, condition_code, foreign_of, test_code, between_code, write}
 use Rattle.star_query.specs.declared.token.Relation.TheVariants as sign
 use Rattle.star_program.specs.declared.op.Operator.TheVariants as operator
+use Rattle.std.proofs.lemmas.Grind.{common_steps}
 
 -- ---- tests
 
@@ -89,20 +90,7 @@ comparison_code x (between c from upto) env k = between_code c x from upto env k
 
 pub has_form : (x : ℕ) (t : Comparison ColumnId Value) (env : Env) (k : Rest ℕ)
     → form_code (column_tested t) x (comparison_form t) env k ≡ comparison_code x t env k
-has_form x (compare c sign.Equal (Number a)) env k = refl
-has_form x (compare c sign.Equal (Text t)) env k = refl
-has_form x (compare c sign.Unequal (Number a)) env k = refl
-has_form x (compare c sign.Unequal (Text t)) env k = refl
-has_form x (compare c sign.AtMost (Number a)) env k = refl
-has_form x (compare c sign.AtMost (Text t)) env k = refl
-has_form x (compare c sign.Greater (Number a)) env k = refl
-has_form x (compare c sign.Greater (Text t)) env k = refl
-has_form x (compare c _ (Number a)) env k = refl
-has_form x (compare c _ (Text t)) env k = refl
-has_form x (between c (Number a) (Number b)) env k = refl
-has_form x (between c (Number a) (Text u)) env k = refl
-has_form x (between c (Text t) (Number b)) env k = refl
-has_form x (between c (Text t) (Text u)) env k = refl
+has_form x it env k = grind (arith, common_steps)
 
 pub tested_code : (js : List Join) (t : Comparison ColumnId Value) (env : Env) (k : Rest ℕ)
     → column_code js (column_tested t) env (λ e x. comparison_code x t e k)

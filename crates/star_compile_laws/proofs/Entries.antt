@@ -1,9 +1,10 @@
 -- What is known of a key, a column or a table, after one more entry.
-use Rattle.std.proofs.Common.{◌≡◌, ◌⊎◌, inl, inr, ℕ, ◌+◌, ◌≤◌, ◌<◌, Bool, true, false, List, [], ◌∷◌, ◌++◌, Option, Some, None, refl, sym, ap, subst, ◌∙◌, arith}
+use Rattle.std.proofs.Common.{◌≡◌, ◌⊎◌, ℕ, ◌+◌, ◌≤◌, ◌<◌, Bool, true, false, List, [], ◌∷◌, ◌++◌, Option, Some, None, refl, sym, ◌∙◌, arith}
 use Rattle.std.specs.{Prelude.nat_eq, Prelude.if◌then◌else◌, Option.option_or}
 use Rattle.std.proofs.lemmas.{Bool.cond-true, Bool.cond-false, Bool.eq-eqb, Bool.ne_eqb, Option.same_Some}
 use Rattle.star_program.specs.Values.{with_entry}
 use Rattle.star_compile_laws.specs.Compiled.{register_in}
+use Rattle.std.proofs.lemmas.Grind.{common_steps}
 
 abbrev pub one_if : Bool → ℕ
 one_if b = if b then 1 else 0
@@ -27,21 +28,12 @@ pub entry_after : {K : Type 0} (same : K → K → Bool) (es : List (K × ℕ)) 
     → register_in same (es ++ (k, n) ∷ []) q
     ≡ option_or (register_in same es q) (if same q k then Some n else None)
 entry_after same [] k n q = refl
-entry_after same (x ∷ es) k n q =
-    by (same q x.0) (register_in same es q) (register_in same (es ++ (k, n) ∷ []) q)
-    (if same q k then Some n else None) (entry_after same es k n q)
-  where
-    by : (b : Bool) (o p r : Option ℕ) → p ≡ option_or o r
-        → (if b then Some x.1 else p) ≡ option_or (if b then Some x.1 else o) r
-    by true o p r e = refl
-    by false o p r e = e
+entry_after same (x ∷ es) k n q = grind (arith, common_steps, entry_after same es k n q)
 
 -- a key that has a register had it before, or is the one that got the last
 old_or_new : (o : Option ℕ) (b : Bool) (n r : ℕ)
     → option_or o (if b then Some n else None) ≡ Some r → (o ≡ Some r) ⊎ ((b ≡ true) × (n ≡ r))
-old_or_new None true n r e = inr (refl, same_Some n r e)
-old_or_new None false n r e = absurd (cc)
-old_or_new (Some q) b n r e = inl e
+old_or_new it b n r e = grind (arith, common_steps, same_Some)
 
 pub entry_split : {K : Type 0} (same : K → K → Bool) (es : List (K × ℕ)) (k : K) (n : ℕ) (q : K)
     (r : ℕ) → register_in same (es ++ (k, n) ∷ []) q ≡ Some r
@@ -54,11 +46,7 @@ pub entry_added : {K : Type 0} (same : K → K → Bool) (is : (q k : K) → sam
     (es : List (K × ℕ)) (k : K) (n : ℕ) (Says : K → ℕ → Type 0) → Says k n
     → ((q : K) (r : ℕ) → register_in same es q ≡ Some r → Says q r) → (q : K) (r : ℕ)
     → register_in same (es ++ (k, n) ∷ []) q ≡ Some r → Says q r
-entry_added same is es k n Says new old q r e = by (entry_split same es k n q r e)
-  where
-    by : (register_in same es q ≡ Some r) ⊎ ((same q k ≡ true) × (n ≡ r)) → Says q r
-    by (inl e) = old q r e
-    by (inr e) = subst (Says q) e.1 (subst (λ x. Says x n) (sym (is q k e.0)) new)
+entry_added same is es k n it new old q r e = grind (arith, common_steps, entry_split)
 
 -- ---- how often something may still be looked for
 
@@ -79,8 +67,4 @@ pub entry_falls : {K : Type 0} (same : K → K → Bool) (is : (q k : K) → sam
     (es : List (K × ℕ)) (k : K) (n : ℕ) → register_in same es k ≡ None → (q : K)
     → one_if (same q k) + missing (register_in same (es ++ (k, n) ∷ []) q)
     ≤ missing (register_in same es q)
-entry_falls same is es k n none q =
-    let after = ap missing (entry_after same es k n q) in
-    let less =
-    falls (same q k) n (register_in same es q) (λ e. ap (register_in same es) (is q k e) ∙ none) in
-    omega arith
+entry_falls same is es k n none q = grind (arith, common_steps, entry_after, falls)

@@ -1,11 +1,12 @@
 -- A turn of a compiled program has no scan.
-use Rattle.std.proofs.Common.{◌≡◌, ℕ, ◌+◌, ◌*◌, Bool, true, false, refl, ap, ◌∙◌, arith}
+use Rattle.std.proofs.Common.{◌≡◌, ℕ, Bool, true, false, refl, arith}
 use Rattle.star_schema.specs.declared.table.TableId.{TableId, TheVariants.Lineorder}
 use Rattle.star_plan.specs.Meaning.{Plan}
 use Rattle.star_program.specs.Code.{Code, Stop, Then, Each, scan_depth}
 use Rattle.star_safety.specs.Quote.{turns_met, quote}
 use Rattle.star_compile_laws.specs.Compiled.{turn_code, compiled}
 use Rattle.star_compile_laws.proofs.Pieces.{Law, of_turn}
+use Rattle.std.proofs.lemmas.Grind.{common_steps}
 
 abbrev pub flat : Code → Bool
 flat Stop = true
@@ -48,6 +49,4 @@ flat_turns size n (Then o rest) h = flat_turns size n rest h
 flat_turns size n (Each t r body rest) h = absurd (cc)
 
 pub quote_is : (rows : TableId → ℕ) (p : Plan) → quote rows (compiled p) ≡ rows Lineorder
-quote_is rows p =
-    ap (λ turns. 1 * rows Lineorder + turns + 0)
-    (flat_turns rows (1 * rows Lineorder) (turn_code p) (turn_is_flat p)) ∙ omega arith
+quote_is rows p = grind (arith, common_steps, flat_turns, turn_is_flat)

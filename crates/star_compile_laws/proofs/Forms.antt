@@ -3,17 +3,20 @@ use Rattle.std.proofs.Common.{◌≡◌, ℕ, Bool, true, false, List, Some, ref
 use Rattle.std.proofs.{lemmas.Bool.and_parts}
 use Rattle.std.specs.Prelude.{ℤ, pos, ◌+ℤ◌, ◌&&◌, not}
 use Rattle.std.specs.{Ordering.int_cmp, Ordering.nat_cmp, Ordering.is_lt, Ordering.is_le, Cmp.Lexicographic.slice_cmp, Cmp.Lexicographic.nat_list_cmp_total}
-use Rattle.star_schema.specs.{declared.column.ColumnId.ColumnId, Order.value_cmp, Schema.kind_of, Schema.table_of, Tables.kind_of_value}
+use Rattle.star_schema.specs.{declared.column.ColumnId.ColumnId, Order.value_cmp, Schema.kind_of, Tables.kind_of_value}
 use Rattle.star_schema.specs.Tables as held
-use Rattle.star_query.specs.{declared.token.Relation.Relation, Tree.Comparison, Tree.compare, Tree.between, Tree.test}
+use Rattle.star_query.specs.{declared.token.Relation.Relation, Tree.Comparison, Tree.test}
 use Rattle.star_query.specs.declared.token.Relation.TheVariants as sign
-use Rattle.star_plan.specs.{declared.tree.Join.Join, Meaning.Joined, Meaning.holds, Meaning.joined_value, Meaning.tests, Names.same_kind, Sound.comparison_is_sound, Sound.in_scope}
+use Rattle.star_plan.specs.{declared.tree.Join.Join, Meaning.Joined, Meaning.holds, Meaning.joined_value, Meaning.tests, Names.same_kind, Sound.comparison_is_sound}
 use Rattle.star_program.specs.declared.value.Value.{Value, TheVariants.Flag, TheVariants.Number, TheVariants.Place, TheVariants.Text}
 use Rattle.star_program.specs.{Effects.answer_of, Effects.compared, Effects.loaded, Values.flag_read, World.World, World.edge_of, World.is_text}
 use Rattle.star_world.specs.RowsSeen.{IsCodeOf}
 use Rattle.star_compile_laws.proofs.Comparisons.{number_gt, number_ge, number_upto, place_lt, place_le, gt_not_le, ge_not_lt, le_not_lt, eq_both, ne_is}
 use Rattle.star_compile_laws.proofs.Contents.{Form, Limit, after, before, column_tested, comparison_form, edge, ends, equals, form_of, negated, number, operator_of, starts, within}
 use Rattle.star_compile_laws.proofs.{Joins.holds_numbers, Joins.holds_texts, TurnRows.Shows}
+use Rattle.std.proofs.Common.{arith}
+use Rattle.std.proofs.{lemmas.Grind.common_steps}
+use Rattle.std.proofs.lemmas.Int.{ints}
 
 module _ (w : World) (c : ColumnId) where
   abbrev pub limit_value : Limit → Value
@@ -31,12 +34,7 @@ module _ (w : World) (c : ColumnId) where
 
   number_tested : (s : Relation) (z a : ℤ)
       → form_value (Number z) (form_of s (held.Number a)) ≡ Flag (tests s (int_cmp z a))
-  number_tested sign.Equal z a = refl
-  number_tested sign.Unequal z a = ap Flag (ne_is (int_cmp z a))
-  number_tested sign.Less z a = refl
-  number_tested sign.AtMost z a = refl
-  number_tested sign.Greater z a = ap Flag (number_gt z a)
-  number_tested sign.AtLeast z a = ap Flag (number_ge z a)
+  number_tested it z a = grind (arith, common_steps, ints, ne_is, number_gt, number_ge)
 
   module _ (n : ℕ) (v : List ℕ) (code : IsCodeOf w c v n) where
     text_within : (a b : List ℕ)
@@ -52,16 +50,8 @@ module _ (w : World) (c : ColumnId) where
 
     text_tested : (s : Relation) (t : List ℕ)
         → form_value (Text c n) (form_of s (held.Text t)) ≡ Flag (tests s (slice_cmp nat_cmp v t))
-    text_tested sign.Equal t = text_equal t
-    text_tested sign.Unequal t =
-        ap (λ u. Flag (not (flag_read (Some u)))) (text_equal t)
-        ∙ ap Flag (ne_is (slice_cmp nat_cmp v t))
-    text_tested sign.Less t = ap Flag (place_lt n (w.low c t) ∙ code.low t)
-    text_tested sign.AtMost t = ap Flag (place_lt n (w.high c t) ∙ code.high t)
-    text_tested sign.Greater t =
-        ap Flag (place_le n (w.high c t) ∙ ap not (code.high t) ∙ gt_not_le (slice_cmp nat_cmp v t))
-    text_tested sign.AtLeast t =
-        ap Flag (place_le n (w.low c t) ∙ ap not (code.low t) ∙ ge_not_lt (slice_cmp nat_cmp v t))
+    text_tested it t =
+        grind (arith, common_steps, text_equal, ne_is, place_lt, place_le, gt_not_le, ge_not_lt)
 
   -- ---- the value that a row has
 
@@ -118,12 +108,5 @@ pub comparison_says : (w : World) (js : List Join) (t : Comparison ColumnId held
     → form_value w (column_tested t)
     (loaded w (column_tested t) i (is_text (column_tested t))) (comparison_form t)
     ≡ Flag (holds (test t) row)
-comparison_says w js (compare c s lit) i row ok shows =
-    compared_by w c s i (joined_value c row) lit shows
-    (and_parts (in_scope js (table_of c)) (same_kind (kind_of c) (kind_of_value lit)) ok).1
-comparison_says w js (between c a b) i row ok shows =
-    let first = same_kind (kind_of c) (kind_of_value a) in
-    let last = same_kind (kind_of c) (kind_of_value b) in
-    let kinds =
-    and_parts first last (and_parts (in_scope js (table_of c)) (first && last) ok).1 in
-    lies_between w c i (joined_value c row) a b shows kinds.0 kinds.1
+comparison_says w js it i row ok shows =
+    grind (arith, common_steps, compared_by, and_parts, lies_between)

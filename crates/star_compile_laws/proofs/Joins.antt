@@ -2,10 +2,12 @@
 use Rattle.std.proofs.Common.{◌≡◌, Bool, true, false, Some, refl, ap}
 use Rattle.std.proofs.{lemmas.Bool.and_parts}
 use Rattle.star_query_meaning.proofs.Choices.{refers_to}
-use Rattle.star_schema.specs.{declared.column.ColumnId.ColumnId, declared.column.Kind.Kind, Schema.key_of, Schema.kind_of, Schema.references, Schema.table_of}
+use Rattle.star_schema.specs.{declared.column.ColumnId.ColumnId, declared.column.Kind.Kind, Schema.kind_of, Schema.references, Schema.table_of}
 use Rattle.star_schema.specs.declared.column.Kind.TheVariants as kind
-use Rattle.star_plan.specs.{declared.tree.Join.Join, Joins.is_foreign, Joins.is_lone_key, Joins.refers, Names.same_kind}
+use Rattle.star_plan.specs.{declared.tree.Join.Join, Joins.is_foreign, Names.same_kind}
 use Rattle.star_program.specs.World.{is_text}
+use Rattle.std.proofs.Common.{arith}
+use Rattle.std.proofs.{lemmas.Grind.common_steps}
 
 -- ---- kinds
 
@@ -29,7 +31,4 @@ holds_texts c e = ap of_text (kind_same (kind_of c) kind.Text e)
 
 pub foreign_refers : (j : Join) → is_foreign j.foreign j.key ≡ true
     → references j.foreign ≡ Some (table_of j.key)
-foreign_refers j e =
-    refers_to (references j.foreign) (table_of j.key)
-    (and_parts (refers (references j.foreign) (table_of j.key))
-    (is_lone_key j.key (key_of (table_of j.key))) e).0
+foreign_refers j e = grind (arith, common_steps, refers_to, and_parts)

@@ -1,11 +1,12 @@
 -- Groups don't hang on how their keys are coded.
-use Rattle.std.proofs.Common.{◌≡◌, ℕ, zero, suc, ◌+◌, Bool, true, false, List, [], ◌∷◌, Option, Some, None, refl, sym, ap, subst, ◌∙◌, cond}
+use Rattle.std.proofs.Common.{◌≡◌, ℕ, zero, suc, ◌+◌, List, [], ◌∷◌, Option, Some, None, refl, sym, ap, subst, ◌∙◌, arith}
 use mathlib.Core.Logic.{inl, inr}
 use Rattle.std.specs.Prelude.{pos, ◌&&◌, map, replicate, slice_index_or}
 use Rattle.std.specs.{List.Contains, List.list_all, Option.is_none, Option.option_map, Ordering.is_eq, declared.cmp.Ordering.Ordering}
 use Rattle.star_common.proofs.Members.{contains_here, contains_later, contains_mapped, from_contains_map}
 use Rattle.star_schema.specs.Groups.{Entry, IsMasked, IsGroup, belongs, is_grouping, members, aggregate, numbers_for, totals_from, GroupRow, AreGroups}
 use Rattle.star_schema.specs.{declared.group.Shape.Shape, declared.group.Shape.TheVariants.Plain, declared.group.Shape.TheVariants.Cube, declared.group.Shape.TheVariants.Rollup, declared.group.Aggregate.Aggregate}
+use Rattle.std.proofs.lemmas.Grind.{common_steps}
 
 -- each key by the function of its place
 abbrev pub applied : {K L : Type 0} → (ℕ → K → L) → List K → List L
@@ -103,18 +104,7 @@ module _ {K L : Type 0} (same : K → K → Ordering) (also : L → L → Orderi
       (entry_applied f) (members same m es)
   members_applied f m [] h = refl
   members_applied f m (e ∷ es) h =
-      ap (λ b. cond b (entry_applied f e ∷ members also (applied_some f m)
-      (map (entry_applied f) es)) (members also (applied_some f m) (map (entry_applied f) es)))
-      (h e (contains_here e es))
-      ∙ by (belongs same m e.keys) (members_applied f m es (λ d q. h d (contains_later e es d q)))
-    where
-      by : (b : Bool) → members also (applied_some f m) (map (entry_applied f) es) ≡ map
-          (entry_applied f) (members same m es)
-          → cond b (entry_applied f e ∷ members also (applied_some f m) (map (entry_applied f) es))
-          (members also (applied_some f m) (map (entry_applied f) es)) ≡ map (entry_applied f)
-          (cond b (e ∷ members same m es) (members same m es))
-      by true q = ap (λ l. entry_applied f e ∷ l) q
-      by false q = q
+      grind (arith, common_steps, members_applied f m es (λ d q. h d (contains_later e es d q)))
 
   column_applied : (f : ℕ → K → L) (a : ℕ) (es : List (Entry K))
       → numbers_for a (map (entry_applied f) es) ≡ numbers_for a es
@@ -133,10 +123,7 @@ module _ {K L : Type 0} (same : K → K → Ordering) (also : L → L → Orderi
       → Keeps same also f e.keys d.keys) where
     group_belongs : (m : List (Option K)) → IsGroup s k es m → (e : Entry K) → Contains es e
         → belongs also (applied_some f m) (applied f e.keys) ≡ belongs same m e.keys
-    group_belongs m (shown, inl h) e q = belongs_applied f m h.0.keys e.keys h.2 (keeps h.0 e h.1 q)
-    group_belongs m (shown, inr all) e q =
-        ap (λ n. belongs also (applied_some f n) (applied f e.keys)) all ∙ belongs_all f k e.keys
-        ∙ ap (λ n. belongs same n e.keys) (sym all)
+    group_belongs m it e q = grind (arith, common_steps, belongs_applied, belongs_all)
 
     group_applied : (m : List (Option K)) → IsGroup s k es m
         → IsGroup s k (map (entry_applied f) es) (applied_some f m)

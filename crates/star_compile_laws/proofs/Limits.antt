@@ -10,14 +10,13 @@ use Rattle.star_query.specs.declared.token.Relation.TheVariants as sign
 use Rattle.star_plan.specs.{declared.tree.Join.Join, Names.same_kind, Sound.comparison_is_sound, Sound.in_scope, Spelled.condition_is_spelled, Spelled.value_is_spelled}
 use Rattle.star_compile_laws.proofs.Contents.{Form, IsLimit, after, before, column_tested, comparison_form, ends, equals, form_of, negated, starts, within}
 use Rattle.star_compile_laws.proofs.Joins.{holds_numbers, holds_texts}
+use Rattle.std.proofs.lemmas.Grind.{common_steps}
 
 -- ---- what a plan's numbers and texts are
 
 pub constant_said : (z : ℤ) → has_few_digits z ≡ true → is_i64 z ≡ true
 unfolding has_few_digits is_i64
-constant_said (pos n) h = let p = ltb-true n (10 ^ 18) h in lt-ltb n (2 ^ 63) (omega (arith, p))
-constant_said (negsuc n) h = let p = ltb-true (suc n) (10 ^ 18) h in
-    lt-ltb n (2 ^ 63) (omega (arith, p))
+constant_said it h = grind (arith, common_steps, ints, ltb-true, lt-ltb)
 
 said_between : (z : ℤ) → negsuc 9223372036854775807 ≤ℤ z → z ≤ℤ pos 9223372036854775807
     → is_i64 z ≡ true
@@ -42,12 +41,7 @@ said_fits (negsuc n) h = let p = ltb-true n (2 ^ 63) h in omega (arith, p)
 
 pub tested_in_scope : (js : List Join) (t : Comparison ColumnId Value)
     → comparison_is_sound js t ≡ true → in_scope js (table_of (column_tested t)) ≡ true
-tested_in_scope js (compare c s v) ok =
-    (and_parts (in_scope js (table_of c)) (same_kind (kind_of c) (kind_of_value v)) ok).0
-tested_in_scope js (between c from upto) ok =
-    (and_parts (in_scope js (table_of c))
-    (same_kind (kind_of c) (kind_of_value from) && same_kind (kind_of c) (kind_of_value upto))
-    ok).0
+tested_in_scope js it ok = grind (arith, common_steps, and_parts)
 
 module _ (Sound Spelled : Type 0) where
   -- the limits of a form are limits for the column
@@ -60,17 +54,11 @@ module _ (Sound Spelled : Type 0) where
   module _ (c : ColumnId) where
     start_fits : (v : Value) → (Sound → same_kind (kind_of c) (kind_of_value v) ≡ true)
         → (Spelled → value_is_spelled v ≡ true) → IsLimit Sound Spelled c (starts v)
-    start_fits (Number a) kind said =
-        record { kind = λ s. holds_numbers c (kind s); said = λ s. constant_said a (said s) }
-    start_fits (Text t) kind said =
-        record { kind = λ s. holds_texts c (kind s); said = said }
+    start_fits it kind said = grind (arith, common_steps, holds_numbers, constant_said, holds_texts)
 
     end_fits : (v : Value) → (Sound → same_kind (kind_of c) (kind_of_value v) ≡ true)
         → (Spelled → value_is_spelled v ≡ true) → IsLimit Sound Spelled c (ends v)
-    end_fits (Number a) kind said =
-        record { kind = λ s. holds_numbers c (kind s); said = λ s. next_said a (said s) }
-    end_fits (Text t) kind said =
-        record { kind = λ s. holds_texts c (kind s); said = said }
+    end_fits it kind said = grind (arith, common_steps, holds_numbers, next_said, holds_texts)
 
     equal_fits : (v : Value) → (Sound → same_kind (kind_of c) (kind_of_value v) ≡ true)
         → (Spelled → value_is_spelled v ≡ true) → IsForm c (equals v)

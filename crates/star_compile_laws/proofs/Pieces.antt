@@ -1,7 +1,7 @@
 -- A law of a turn by one induction over the pieces of a compiled program: it holds of a piece where
 -- it holds of what follows the piece, at each point that the piece can come to.
-use Rattle.std.proofs.Common.{◌≡◌, ℕ, ◌+◌, Bool, true, false, List, [], ◌∷◌, Option, Some, None, map, refl, subst}
-use Rattle.std.proofs.{lemmas.Bool.and_parts}
+use Rattle.std.proofs.Common.{◌≡◌, ℕ, ◌+◌, Bool, true, false, List, [], ◌∷◌, Option, Some, None, map, refl, subst, arith}
+use Rattle.std.proofs.{lemmas.Bool.and_parts, lemmas.Grind.common_steps}
 use Rattle.std.specs.{Prelude.◌&&◌, Prelude.◌||◌, List.list_all}
 use Rattle.star_schema.specs.{declared.table.TableId.TableId, declared.table.TableId.TheVariants.Lineorder, declared.column.ColumnId.ColumnId, Schema.is_table, Schema.kind_of, Schema.table_of, Tables.Value}
 use Rattle.star_schema.proofs.Same.{column_same, table_same}
@@ -225,9 +225,7 @@ module _ {p : Plan} (law : Law p) where
         → (g : law.Grade) (a : Place) (k : Rest ℕ) (o : Option ℕ)
         → register_in is_column a.env.loaded c ≡ o
         → Follows g a (At (OfColumn c)) k → Fact g a (column_from js c a.env k o)
-    of_column_from c ok g a k (Some r) e h = h a r (λ q x at. at) (a.columns c r e)
-    of_column_from c ok g a k None e h =
-        of_place c g a k (is_table (table_of c) Lineorder) refl ok h
+    of_column_from c ok g a k it e h = grind (arith, common_steps, of_place)
 
     of_column : (c : ColumnId) → (law.Sound → in_scope js (table_of c) ≡ true)
         → Carries (λ g. g) (At (OfColumn c)) (column_code js c)

@@ -1,10 +1,10 @@
 -- A compiled plan is a program: within the limits, of a report that is there, and one that a text
 -- spells.
-use Rattle.std.proofs.Common.{◌≡◌, ℕ, zero, suc, ◌+◌, ◌≤◌, ◌<◌, Bool, true, false, ◌&&◌, ◌||◌, ◌==◌, List, [], ◌∷◌, ◌++◌, length, map, Option, Some, None, All, refl, sym, ap, subst, ◌∙◌, arith}
+use Rattle.std.proofs.Common.{◌≡◌, ℕ, zero, suc, ◌+◌, ◌≤◌, ◌<◌, Bool, true, false, ◌||◌, ◌==◌, List, [], ◌∷◌, ◌++◌, length, map, Option, Some, None, All, refl, ap, ◌∙◌, arith}
 use Rattle.std.specs.{Prelude.nat_lt, Prelude.nat_le, Prelude.slice_index_or, Prelude.if◌then◌else◌, Int.is_in_range, List.list_all}
 use Rattle.std.proofs.lemmas.Bool.{and_parts, and_from, or_right, lt-ltb, ltb-true, le-leb}
 use Rattle.std.proofs.lemmas.List.{length-map, Elements.All-nil, Elements.All-cons, Elements.All-append, Elements.All-map, Folds.list_all-append}
-use Rattle.star_schema.specs.declared.{column.ColumnId.ColumnId, column.ColumnId.TheVariants.DDatekey, group.GroupColumn.GroupColumn, group.SortKey.SortKey, table.TableId.TheVariants.Lineorder}
+use Rattle.star_schema.specs.declared.{column.ColumnId.ColumnId, column.ColumnId.TheVariants.DDatekey, group.GroupColumn.GroupColumn, group.SortKey.SortKey}
 use Rattle.star_schema.specs.declared.group.GroupColumn.TheVariants as group
 use Rattle.star_schema.specs.Schema.{column_name, column_of}
 use Rattle.star_query.specs.Tokens.{begins_with_letter, is_word_byte}
@@ -12,38 +12,26 @@ use Rattle.star_query.specs.Spelled as asked
 use Rattle.star_plan.specs.{Meaning.aggregate_of, Meaning.Plan, Limits.IsPlanWithinLimits, Sound.IsSoundPlan, Sound.is_group_column, Spelled.IsSpelledPlan}
 use Rattle.star_program.specs.{declared.group.GroupDecl.GroupDecl, declared.program.Show.Show, Code.code_size, Code.Code, Code.Stop, Code.Then, Code.Each}
 use Rattle.star_program.specs.declared.group.GroupKey.TheVariants as key
-use Rattle.star_program.specs.{World.is_text, Limits.IsSmall, Limits.IsWithinLimits, Text.Numerals.is_show_name, Text.Numerals.is_name_byte, Text.Spellable.IsKey, Text.Spellable.IsShortColumn, Text.Spellable.IsSayable, Text.Spellable.IsSpellable}
+use Rattle.star_program.specs.{Limits.IsSmall, Limits.IsWithinLimits, Text.Numerals.is_show_name, Text.Numerals.is_name_byte, Text.Spellable.IsKey, Text.Spellable.IsShortColumn, Text.Spellable.IsSayable, Text.Spellable.IsSpellable}
 use Rattle.star_program.specs.declared.spelling.statement.Statement.TheVariants as says
 use Rattle.star_program.specs.ShowLines.{has_column, first_unshown, named_columns, reports, shown_fault}
 use Rattle.star_program.specs.Text.Statements.{Line, line, lines_of_code, show_line, sort_line, lines_of_program}
 use Rattle.star_compile_laws.specs.Compiled.{compiled, body_code, turn_code, plan_group, key_of_group, plan_show}
 use Rattle.star_query_meaning.specs.Answers.{shown_name}
 use Rattle.star_compile_laws.proofs.{Flat.turn_is_flat, Flat.flat_depth, Sizes.body_size, Sizes.registers_size, Sayable.Spelled, Sayable.turn_spelled}
+use Rattle.std.proofs.lemmas.Grind.{common_steps}
 
 -- ---- limits
 
 small : (p : Plan) → IsPlanWithinLimits p → IsSmall (plan_group p)
-small p l = record {
-  keys = omega (arith, length-map p.keys key_of_group, l.keys);
-  aggregates = omega (arith, length-map p.measures aggregate_of, l.measures);
-}
+small p l = grind (arith, common_steps, length-map)
 
 pub is_short : (p : Plan) → IsPlanWithinLimits p → code_size (compiled p).body ≤ 2578
 is_short p l = omega (arith, body_size p, l.comparisons, l.keys, l.operands)
 
 pub is_within_limits : (p : Plan) → IsPlanWithinLimits p → IsWithinLimits (compiled p)
 is_within_limits p l =
-    let short = is_short p l in
-    let flat = flat_depth (turn_code p) (turn_is_flat p) in
-    record {
-      registers = omega (arith, registers_size (body_code p));
-      groups = omega arith;
-      each_group = All-cons IsSmall (plan_group p) [] (small p l) (All-nil IsSmall);
-      instructions = omega arith;
-      scans = subst (λ n. (if nat_lt (1 + n) 0 then 0 else 1 + n) ≤ 3) (sym flat) (omega arith);
-      shows = omega (arith, length-map p.items (plan_show p), l.items);
-      sorts = l.sorts;
-    }
+    grind (arith, common_steps, is_short, flat_depth, turn_is_flat, registers_size, small)
 
 -- ---- the report
 
@@ -102,11 +90,7 @@ shows_what_is_there p sound =
 -- ---- names
 
 turned : (a b c d : Bool) → (((b || c) || d) || a) ≡ true → (((a || b) || c) || d) ≡ true
-turned true b c d h = refl
-turned false b c true h = or_right (false || b || c) true refl
-turned false true c false h = refl
-turned false false true false h = refl
-turned false false false false h = h
+turned it b c d h = grind (arith, common_steps, or_right)
 
 named : (bs : List ℕ) → list_all is_word_byte bs ≡ true → list_all is_name_byte bs ≡ true
 named [] h = refl
@@ -122,11 +106,7 @@ filled (b ∷ bs) h = le-leb 1 (length (b ∷ bs)) (omega arith)
 
 name_said : (bs : List ℕ) → asked.is_name bs ≡ true → is_show_name bs ≡ true
 unfolding asked.is_name is_show_name
-name_said bs h =
-    let a =
-    and_parts (begins_with_letter bs) (list_all is_word_byte bs && nat_le (length bs) 64) h in
-    let b = and_parts (list_all is_word_byte bs) (nat_le (length bs) 64) a.1 in
-    and_from _ _ (and_from _ _ (filled bs a.0) b.1) (named bs b.0)
+name_said bs h = grind (arith, common_steps, and_parts, and_from, filled, named)
 
 column_named : (c : ColumnId) → is_show_name (column_name c) ≡ true
 unfolding column_of is_show_name
@@ -143,21 +123,13 @@ at_place test (x ∷ xs) (suc n) d h below =
 shown_named : (p : Plan) → IsSoundPlan p → IsSpelledPlan p → (c : GroupColumn)
     → is_group_column (length p.keys) (length p.measures) c ≡ true
     → is_show_name (shown_name p c) ≡ true
-shown_named p sound spelled (group.Key n) h = column_named (slice_index_or p.keys n DDatekey)
-shown_named p sound spelled (group.Aggregate n) h =
-    let a = ltb-true n (length p.measures) h in
-    let b = sound.names in
-    name_said (slice_index_or p.names n [])
-    (at_place asked.is_name p.names n [] spelled.names (omega arith))
+shown_named p sound spelled it h =
+    grind (arith, common_steps, column_named, ltb-true, name_said, at_place)
 
 -- ---- statements
 
 key_said : (c : ColumnId) → IsKey (key_of_group c)
-key_said c = by (is_text c) refl
-  where
-    by : (b : Bool) → is_text c ≡ b → IsKey (if b then key.Text c else key.Number)
-    by true h = h
-    by false h = tt
+key_said c = grind (arith, common_steps)
 
 keys_said : (cs : List ColumnId) → All IsKey (map key_of_group cs)
 keys_said [] = All-nil IsKey
@@ -199,10 +171,7 @@ code_said n (Each t r body rest) h = absurd h
 
 body_said : (p : Plan) → Spelled (turn_code p) → All Says (lines_of_code 0 (body_code p))
 unfolding lines_of_code
-body_said p h =
-    All-cons Says (line 0 (says.Scan Lineorder 0)) _ (omega arith)
-    (All-append Says (lines_of_code 1 (turn_code p)) (line 0 says.End ∷ [])
-    (code_said 1 (turn_code p) h) (All-cons Says (line 0 says.End) [] tt (All-nil Says)))
+body_said p h = grind (arith, common_steps, code_said)
 
 pub is_spellable : (p : Plan) → IsPlanWithinLimits p → IsSoundPlan p → IsSpelledPlan p
     → IsSpellable (compiled p)

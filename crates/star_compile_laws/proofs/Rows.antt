@@ -2,20 +2,20 @@
 use Rattle.std.proofs.Common.{◌≡◌, ℕ, zero, suc, ◌+◌, ◌<◌, Bool, true, false, List, [], ◌∷◌, ◌++◌, length, Option, Some, None, refl, sym, ap, subst, ◌∙◌, arith, append-nil, zero-add, cond}
 use mathlib.Core.List.{reverse_aux, map-map}
 use Rattle.std.proofs.lemmas.Bool.{and_parts, cond-true, cond-false, false_from_ne_true, true≢false}
-use Rattle.std.proofs.{lemmas.List.length-map, lemmas.List.Sums.sum_by-cons, lemmas.Cmp.tied_itself}
+use Rattle.std.proofs.{lemmas.List.length-map, lemmas.List.Sums.sum_by-cons, lemmas.Cmp.tied_itself, lemmas.Grind.common_steps}
 use Rattle.std.specs.Prelude.{ℤ, ◌||◌, map, filter, if◌then◌else◌, unwrap_or}
-use Rattle.std.specs.{List.flat_map, List.AllByRecursion, List.sum_by, Ordering.int_cmp, Ordering.is_eq, FinMap.int_cmp-IsAntisymmetric, Cmp.int_cmp_total, declared.cmp.Ordering.Ordering, declared.cmp.Ordering.TheVariants.Less, declared.cmp.Ordering.TheVariants.Equal}
-use Rattle.std.specs.{declared.cmp.Ordering.TheVariants.Greater}
-use Rattle.star_schema.specs.{declared.table.TableId.TableId, declared.table.TableId.TheVariants.Lineorder, declared.column.ColumnId.ColumnId, Order.value_cmp, Schema.is_table, Schema.key_of, Schema.references, Schema.table_of, Tables.Value, Tables.Number, Tables.Text}
+use Rattle.std.specs.{List.flat_map, List.AllByRecursion, List.sum_by, Ordering.is_eq, Cmp.int_cmp_total}
+use Rattle.star_schema.specs.{declared.table.TableId.TableId, declared.table.TableId.TheVariants.Lineorder, declared.column.ColumnId.ColumnId, Order.value_cmp, Schema.is_table, Schema.key_of, Schema.table_of, Tables.Value, Tables.Number, Tables.Text}
 use Rattle.star_schema.proofs.{KeyColumns.foreign_key, Same.table_same}
 use Rattle.star_plan.specs.Meaning.{Row, Tables, Joined, value_in, joined_value, with_row, only_row, matches, partners, joined_rows, all_hold, plan_rows, Plan}
-use Rattle.star_plan.specs.{declared.tree.Join.Join, Joins.is_foreign, Joins.is_lone_key, Joins.refers, Sound.joins_table, Sound.IsSoundPlan}
+use Rattle.star_plan.specs.{declared.tree.Join.Join, Joins.is_foreign, Joins.is_lone_key, Sound.joins_table, Sound.IsSoundPlan}
 use Rattle.star_program.specs.Run.{End, Ended, unless_unshown, meaning_of, run_while}
 use Rattle.star_program.specs.{World.World, World.IsRowNumberOf, World.is_text, Values.no_registers, Effects.State, Effects.empty_state, ShowLines.shown_fault}
 use Rattle.star_query_meaning.proofs.{Choices.IsStar, Choices.is_star, Choices.no_key_of_fact, Choices.table_turned, OwnTables.among_dimensions}
 use Rattle.star_compile_laws.proofs.TurnRows.{Sees, Shows, IsTurn, row_at, numbers, place_in}
-use Rattle.star_compile_laws.proofs.{ForeignKeys.each_passes, ForeignKeys.join_of, Joins.foreign_refers, Joins.of_text, Turns.Scanned, Turns.scan_runs, Turns.updates_of_rows, Programs.shows_what_is_there}
+use Rattle.star_compile_laws.proofs.{ForeignKeys.each_passes, ForeignKeys.join_of, Joins.foreign_refers, Turns.Scanned, Turns.scan_runs, Turns.updates_of_rows, Programs.shows_what_is_there}
 use Rattle.star_compile_laws.specs.{Compiled.foreign_of, Compiled.compiled, Answers.PutsTheRows, Answers.update_of_row, Counts.lookups_of, Counts.turn_lookups}
+use Rattle.std.proofs.lemmas.Int.{ints}
 
 -- what a join of the plan gives
 record IsJoin (ts : Tables) (w : World) (j : Join) : Type 0 where
@@ -29,18 +29,7 @@ record IsJoin (ts : Tables) (w : World) (j : Join) : Type 0 where
 is_join : (ts : Tables) (w : World) → Sees ts w → (j : Join) → is_foreign j.foreign j.key ≡ true
     → IsJoin ts w j
 is_join ts w seen j e =
-    let refers_there = foreign_refers j e in
-    let key = (foreign_key j.foreign (table_of j.key) refers_there).0 in
-    record {
-      fact = key.table;
-      number = ap of_text key.kind;
-      lone = (and_parts (refers (references j.foreign) (table_of j.key))
-          (is_lone_key j.key (key_of (table_of j.key))) e).1;
-      dimension = no_key_of_fact j e;
-      found =
-          λ n below. seen.found j.foreign (table_of j.key) n refers_there
-          (subst (λ t. n < length (ts t)) (sym key.table) below);
-    }
+    grind (arith, common_steps, foreign_refers, foreign_key, and_parts, no_key_of_fact)
 
 -- ---- lists
 
@@ -92,13 +81,7 @@ flat_rows each one (x ∷ xs) i h =
 -- ---- one row
 
 pub value_same : (z : ℤ) (v : Value) → is_eq (value_cmp (Number z) v) ≡ true → v ≡ Number z
-value_same z (Number y) e = ap Number (sym (int_cmp-IsAntisymmetric z y (equal (int_cmp z y) e)))
-  where
-    equal : (o : Ordering) → is_eq o ≡ true → o ≡ Equal
-    equal Less e = absurd (cc)
-    equal Equal e = refl
-    equal Greater e = absurd (cc)
-value_same z (Text t) e = absurd (cc)
+value_same z it e = grind (arith, common_steps, ints)
 
 same_compared : (z : ℤ) (v : Value) → v ≡ Number z → is_eq (value_cmp (Number z) v) ≡ true
 same_compared z v e =
@@ -145,33 +128,8 @@ module _ (ts : Tables) (w : World) (seen : Sees ts w) (i : ℕ)
       → row_with js (with_row base (table_of j.key) (row_at (ts (table_of j.key))
       (unwrap_or (w.find (table_of j.key) (w.number j.foreign i)) 0))) u
       ≡ row_with (j ∷ js) base u
-  one_more j js base u is alone = by (joins_table js u) (is_table u t) refl refl
-    where
-      t : TableId
-      t = table_of j.key
-
-      place : ColumnId → TableId → ℕ
-      place c s = unwrap_or (w.find s (w.number c i)) 0
-
-      by : (a b : Bool) → joins_table js u ≡ a → is_table u t ≡ b
-          → (if a
-          then row_at (ts u) (if is_table u Lineorder then i else place (foreign_of js u) u)
-          else (if b then row_at (ts t) (place j.foreign t) else base u))
-          ≡ (if b || a
-          then row_at (ts u) (if is_table u Lineorder
-          then i
-          else place (if b then j.foreign else foreign_of js u) u)
-          else base u)
-      by true true p q =
-          absurd (true≢false (sym p ∙ ap (joins_table js) (table_same u t q) ∙ alone))
-      by true false p q = refl
-      by false true p q =
-          let same : t ≡ u = sym (table_same u t q) in
-          let other : is_table u Lineorder ≡ false =
-          ap (λ s. is_table s Lineorder) (sym same) ∙ table_turned Lineorder t is.dimension in
-          (λ k. row_at (ts (same k)) (place j.foreign (same k)))
-          ∙ ap (λ b. row_at (ts u) (if b then i else place j.foreign u)) (sym other)
-      by false false p q = refl
+  one_more j js base u is alone =
+      grind (arith, common_steps, row_at, true≢false, table_same, table_turned)
 
   partners_are : (js : List Join) (base : Joined) → AllByRecursion (IsJoin ts w) js
       → IsStar js → base Lineorder ≡ row_at (ts Lineorder) i
@@ -214,59 +172,23 @@ module _ (ts : Tables) (w : World) (seen : Sees ts w) (p : Plan) (sound : IsSoun
   found_at : (i : ℕ) → i < length (ts Lineorder) → (t : TableId) → joins_table p.joins t ≡ true
       → w.find t (w.number (foreign_of p.joins t) i) ≡ Some (place_in w p.joins i t)
   found_at i below t joined =
-      let j = joined_by t joined in
-      let z = w.number (foreign_of p.joins t) i in
-      found_some w t (w.find t z)
-      (subst (λ s. IsRowNumberOf w s (w.find s z)) j.1 (j.2.found i below))
-      ∙ ap Some (sym (cond-false (is_table t Lineorder) i (unwrap_or (w.find t z) 0)
-      (table_turned Lineorder t (subst (λ s. is_table Lineorder s ≡ false) j.1 j.2.dimension))))
+      grind (arith, common_steps, joined_by, t, found_some, cond-false, table_turned)
 
   row_there : (i : ℕ) → i < length (ts Lineorder) → (t : TableId) (a b : Bool)
       → is_table t Lineorder ≡ a → joins_table p.joins t ≡ b → (a || b) ≡ true
       → (place_in w p.joins i t < length (ts t))
       × ((if b then row_at (ts t) (place_in w p.joins i t) else only_row Lineorder
       (row_at (ts Lineorder) i) t) ≡ row_at (ts t) (place_in w p.joins i t))
-  row_there i below t a true e j q =
-      let k = joined_by t j in
-      let n = place_in w p.joins i t in
-      let z = w.number (foreign_of p.joins t) i in
-      let there =
-      (seen.finds k.0 z n k.2.lone
-      (subst (λ s. w.find s z ≡ Some n) (sym k.1) (found_at i below t j))).0 in
-      (subst (λ s. n < length (ts s)) k.1 there, refl)
-  row_there i below t true false e j q =
-      let here : t ≡ Lineorder = table_same t Lineorder e in
-      let there : place_in w p.joins i t ≡ i = ap (place_in w p.joins i) here in (
-        subst (λ x. place_in w p.joins i x < length (ts x)) (sym here) below,
-        cond-true (is_table t Lineorder) (row_at (ts Lineorder) i) [] e
-            ∙ λ k. row_at (ts (sym here k)) (sym there k),
-      )
-  row_there i below t false false e j q = absurd (cc)
+  row_there i below t a it e j q =
+      grind (arith, common_steps, joined_by, t, place_in, found_at, table_same, cond-true, row_at)
 
   pub is_turn : (i : ℕ) → i < w.size Lineorder
       → IsTurn w p.joins (place_in w p.joins i) (row_of_fact i)
-  is_turn i less =
-      let below : i < length (ts Lineorder) = subst (λ n. i < n) (seen.size Lineorder) less in
-      record {
-        shows =
-            λ c e. (let r = row_there i below (table_of c) (is_table (table_of c) Lineorder)
-            (joins_table p.joins (table_of c)) refl refl e in
-            subst (λ x. Shows w c (place_in w p.joins i (table_of c)) (value_in c x)) (sym r.1)
-            (seen.shows c (place_in w p.joins i (table_of c)) r.0));
-        keys = λ t j. (let k = joined_by t j in (k.2.fact, k.2.number));
-        found = λ t j. found_at i below t j;
-      }
+  is_turn i less = grind (arith, common_steps, row_there, place_in, joined_by, found_at)
 
   -- one joined row for each row of the fact, in order
   pub joined_are : joined_rows ts p.joins ≡ map row_of_fact (numbers (length (ts Lineorder)) 0)
-  joined_are =
-      flat_rows (λ l. partners ts p.joins (only_row Lineorder l)) row_of_fact (ts Lineorder) 0
-      (λ j below. partners_are ts w seen j below p.joins
-      (only_row Lineorder (row_at (ts Lineorder) j))
-      (each_passes (λ j. is_foreign j.foreign j.key) (IsJoin ts w) (is_join ts w seen) p.joins
-      sound.joins)
-      (is_star p.joins sound.joins sound.distinct) refl
-      ∙ ap (λ n. row_of_fact n ∷ []) (omega arith))
+  joined_are = grind (arith, flat_rows, partners_are, row_at, each_passes, is_join, is_star)
 
   pub rows_are : map (update_of_row w p) (plan_rows ts p) ≡ map
       (λ i. update_of_row w p (row_of_fact i))
@@ -296,20 +218,13 @@ module _ (ts : Tables) (w : World) (seen : Sees ts w) (p : Plan) (sound : IsSoun
 
   -- the laws
   pub puts_the_rows : PutsTheRows ts w p
-  puts_the_rows may e h =
-      (scanned may e h).put
-      ∙ ap (λ n. reverse_aux (map (λ i. update_of_row w p (row_of_fact i))
-      (filter (λ i. all_hold p.conjuncts (row_of_fact i)) (numbers n 0))) []) (seen.size Lineorder)
-      ∙ ap (λ us. reverse_aux us []) (sym rows_are)
+  puts_the_rows may e h = grind (arith, common_steps, scanned, numbers, rows_are)
 
   looked_up_in : (is : List ℕ)
       → sum_by (turn_lookups p) (map row_of_fact is)
       ≡ sum_by (λ i. turn_lookups p (row_of_fact i)) is
   looked_up_in [] = refl
-  looked_up_in (i ∷ is) =
-      sum_by-cons (turn_lookups p) (row_of_fact i) (map row_of_fact is)
-      ∙ ap (λ n. turn_lookups p (row_of_fact i) + n) (looked_up_in is)
-      ∙ sym (sum_by-cons (λ i. turn_lookups p (row_of_fact i)) i is)
+  looked_up_in (i ∷ is) = grind (arith, common_steps, sum_by-cons, looked_up_in is)
 
   pub counts_the_rows : (may : ℕ → Bool) (e : State) → run_while w may (compiled p) ≡ Ended e
       → (e.visits ≡ length (ts Lineorder)) × (e.lookups ≡ lookups_of ts p)

@@ -1,11 +1,11 @@
 -- A world of some rows sees them.
 use Rattle.std.proofs.Common.{◌≡◌, ◌<◌, ℕ, ℤ, true, false, List, [], length, Some, refl, sym, ap, subst, ◌∙◌, arith}
-use Rattle.std.specs.{Prelude.pos, Prelude.slice_get, Prelude.All, Option.option_map}
+use Rattle.std.specs.{Prelude.pos, Prelude.slice_get, Prelude.All}
 use Rattle.std.proofs.lemmas.Option.{same_Some, slice_get-map, slice_get-get_or, slice_get_within, get_or_from_slice_get}
 use Rattle.star_plan.proofs.Options.{mapped_gave}
 use Rattle.star_schema.specs.declared.{table.TableId.TableId, table.Key.Key, table.Key.TheVariants.One, table.Key.TheVariants.Two, column.ColumnId.ColumnId}
 use Rattle.star_schema.specs.declared.column.Kind.TheVariants as kind
-use Rattle.star_schema.specs.{Bounds.number_in, Bounds.numbers_at, Database.Database, Database.rows_in, Schema.key_of, Schema.kind_of, Schema.place_of, Schema.table_of, Texts.text_in, Texts.texts_at}
+use Rattle.star_schema.specs.{Bounds.number_in, Bounds.numbers_at, Database.Database, Database.rows_in, Schema.key_of, Schema.kind_of, Schema.place_of, Schema.table_of, Texts.texts_at}
 use Rattle.star_schema.specs.Tables.{Value, Number, Text, IsRowOf, kind_of_value}
 use Rattle.star_schema.proofs.{KeyColumns.kind_at_place, KeyColumns.key_column, Same.column_same}
 use Rattle.star_plan.specs.{Joins.is_lone_key, Meaning.Row, Meaning.value_in}
@@ -13,6 +13,8 @@ use Rattle.star_program.specs.World.{World}
 use Rattle.star_world.specs.RowsSeen.{HasNumber, HasText, IsWorldOf}
 use Rattle.star_world.proofs.Loaded.{numbers_len}
 use Rattle.star_compile_laws.proofs.{Joins.of_text, TurnRows.Sees, TurnRows.Shows, TurnRows.row_at}
+use Rattle.std.proofs.lemmas.Grind.{common_steps}
+use Rattle.std.proofs.lemmas.Int.{ints}
 
 -- a row has a value for a column, of its kind
 record Holds (c : ColumnId) (row : Row) : Type 0 where
@@ -46,32 +48,18 @@ module _ (database : Database) (w : World) (rows : (t : TableId) → All (IsRowO
       → slice_get (row_at (rows_in database (table_of c)) n) (place_of c) ≡ Some (Number z)
       → HasNumber database c n z
   unfolding numbers_at
-  number_there c n z below e =
-      slice_get-map (λ row. number_in (slice_get row (place_of c))) (rows_in database (table_of c))
-      n
-      ∙ ap (option_map (λ row. number_in (slice_get row (place_of c))))
-      (slice_get-get_or (rows_in database (table_of c)) n [] below)
-      ∙ ap (λ o. Some (number_in o)) e
+  number_there c n z below e = grind (arith, common_steps, ints, slice_get-map, slice_get-get_or)
 
   text_there : (c : ColumnId) (n : ℕ) (v : List ℕ) → n < length (rows_in database (table_of c))
       → slice_get (row_at (rows_in database (table_of c)) n) (place_of c) ≡ Some (Text v)
       → HasText database c n v
   unfolding texts_at
-  text_there c n v below e =
-      slice_get-map (λ row. text_in (slice_get row (place_of c))) (rows_in database (table_of c)) n
-      ∙ ap (option_map (λ row. text_in (slice_get row (place_of c))))
-      (slice_get-get_or (rows_in database (table_of c)) n [] below)
-      ∙ ap (λ o. Some (text_in o)) e
+  text_there c n v below e = grind (arith, common_steps, slice_get-map, slice_get-get_or)
 
   shows_value : (c : ColumnId) (n : ℕ) (v : Value) → n < length (rows_in database (table_of c))
       → slice_get (row_at (rows_in database (table_of c)) n) (place_of c) ≡ Some v
       → kind_of_value v ≡ kind_of c → Shows w c n v
-  shows_value c n (Number z) below e k =
-      let of_kind = ap of_text (sym k) in
-      (of_kind, world.number c n z of_kind (number_there c n z below e))
-  shows_value c n (Text v) below e k =
-      let of_kind = ap of_text (sym k) in
-      (of_kind, world.code c n v of_kind (text_there c n v below e))
+  shows_value c n it below e k = grind (arith, common_steps, number_there, text_there)
 
   shows : (c : ColumnId) (n : ℕ) → n < length (rows_in database (table_of c))
       → Shows w c n (value_in c (row_at (rows_in database (table_of c)) n))

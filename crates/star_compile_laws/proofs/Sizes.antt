@@ -1,6 +1,6 @@
 -- How long the body of a compiled program is: a column costs one instruction to load, and a
 -- dimension two more, once.
-use Rattle.std.proofs.Common.{◌≡◌, ℕ, zero, suc, ◌+◌, ◌*◌, ◌≤◌, Bool, true, false, List, [], ◌∷◌, ◌++◌, length, Option, Some, None, refl, ap, ◌∙◌, arith}
+use Rattle.std.proofs.Common.{◌≡◌, ℕ, zero, suc, ◌+◌, ◌*◌, ◌≤◌, Bool, true, false, List, [], ◌∷◌, ◌++◌, length, Option, Some, None, refl, arith}
 use Rattle.std.specs.List.{sum_by}
 use Rattle.std.proofs.lemmas.List.Sums.{sum_by-cons}
 use Rattle.star_schema.specs.{declared.table.TableId.TableId, declared.column.ColumnId.ColumnId, Schema.is_table, Schema.table_of, Tables.Value, Tables.Number, Tables.Text}
@@ -15,6 +15,7 @@ use Rattle.star_program.specs.declared.op.Operator.TheVariants as operator
 use Rattle.star_program.specs.{Code.Code, Code.Stop, Code.Then, Code.Each, Code.code_size, Faults.target_of, World.is_column}
 use Rattle.star_compile_laws.specs.Compiled.{Env, Rest, one_before, binary_code, column_code, env_first, register_in, one_more, with_loaded, with_found, foreign_of, fact_code, row_code, place_code, column_from, test_code, between_code, condition_code, expression_code, conjuncts_code, keys_code, values_code, body_code, write, load_code, writes_one, register_count}
 use Rattle.star_compile_laws.proofs.Entries.{one_if, missing, entry_falls}
+use Rattle.std.proofs.lemmas.Grind.{common_steps}
 
 -- ---- tables whose rows are not found
 
@@ -32,13 +33,7 @@ few_missing (Some r) = omega arith
 
 pub few_unfound : (es : List (TableId × ℕ)) → unfound es ≤ 5
 unfolding unfound
-few_unfound es =
-    let a = few_missing (register_in is_table es Date) in
-    let b = few_missing (register_in is_table es Customer) in
-    let c = few_missing (register_in is_table es Supplier) in
-    let d = few_missing (register_in is_table es Part) in
-    let e = few_missing (register_in is_table es Lineorder) in
-    omega arith
+few_unfound es = grind (arith, common_steps, few_missing)
 
 falls : (f g : TableId → ℕ) (t : TableId) → ((s : TableId) → one_if (is_table s t) + f s ≤ g s)
     → total f + 1 ≤ total g
@@ -49,10 +44,7 @@ falls f g _ h = omega (arith, h Date, h Customer, h Supplier, h Part, h Lineorde
 pub found_once : (es : List (TableId × ℕ)) (t : TableId) (n : ℕ) → register_in is_table es t ≡ None
     → unfound (es ++ (t, n) ∷ []) + 1 ≤ unfound es
 unfolding unfound
-found_once es t n h =
-    falls (λ s. missing (register_in is_table (es ++ (t, n) ∷ []) s))
-    (λ s. missing (register_in is_table es s)) t
-    (entry_falls is_table table_same es t n h)
+found_once es t n h = grind (arith, common_steps, falls, missing, entry_falls, table_same)
 
 -- ---- pieces
 
@@ -101,11 +93,7 @@ of_found : (t : TableId) (es : List (TableId × ℕ)) (k : Rest ℕ) (m : ℕ) (
     → register_in is_table es t ≡ None → Short m k → e.found ≡ es
     → code_size (Then (Assign e.next (Find t r)) (k (with_found e t) e.next)) + 1
     ≤ m + 2 * unfound es
-of_found t es k m e r none h same =
-    let p = h (with_found e t) e.next in
-    let q = found_once e.found t e.next (ap (λ l. register_in is_table l t) same ∙ none) in
-    let s : unfound e.found ≡ unfound es = ap unfound same in
-    omega arith
+of_found t es k m e r none h same = grind (arith, common_steps, found_once, unfound)
 
 of_one : (o : Operation) (env : Env) (k : Rest ℕ) (m : ℕ) → Short m k
     → code_size (write o env k) ≤ 1 + m + 2 * unfound env.found

@@ -3,37 +3,35 @@ use Rattle.std.proofs.Common.{◌≡◌, ℕ, ◌≤◌, ◌<◌, Bool, true, fa
 use Rattle.std.proofs.lemmas.Bool.{and_from, and_parts, lt-ltb}
 use Rattle.std.specs.Prelude.{ℤ, pos, ◌+ℤ◌, ◌-ℤ◌, ◌*ℤ◌, ◌&&◌, not, if◌then◌else◌}
 use Rattle.std.specs.{Option.option_map}
-use Rattle.star_schema.specs.{declared.column.ColumnId.ColumnId, declared.column.Kind.Kind as ColumnKind, Columns.AreBoundsI64, Schema.is_table, Schema.kind_of, Schema.table_of}
+use Rattle.star_schema.specs.{declared.column.ColumnId.ColumnId, Columns.AreBoundsI64, Schema.is_table, Schema.kind_of, Schema.table_of}
 use Rattle.star_schema.specs.declared.column.Kind.TheVariants as kind
 use Rattle.star_schema.proofs.Same.{column_itself, table_itself}
 use Rattle.star_interval.specs.Range.{Range, corner_range, fits_i64, is_i64, only}
 use Rattle.star_interval.proofs.Ranges.{fits_i64_fits}
 use Rattle.star_query.specs.Tree as condition
-use Rattle.star_query.specs.Tree.{Expression, add, column, constant, mul, sub}
+use Rattle.star_query.specs.Tree.{Expression, add, constant, mul, sub}
 use Rattle.star_plan.specs.{Fits.expression_range, Meaning.Plan, Sound.IsSoundPlan, Spelled.IsSpelledPlan}
-use Rattle.star_program.specs.declared.{fault.Fault.TheVariants.BadColumn, fault.Fault.TheVariants.BadRegister, fault.Fault.TheVariants.WrongKind, op.Op.TheVariants.Assign, op.Operation.Operation, op.Operator.Operator, program.Parts.Parts, value.Kind.Kind}
+use Rattle.star_program.specs.declared.{fault.Fault.TheVariants.BadColumn, op.Op.TheVariants.Assign, op.Operation.Operation, op.Operator.Operator, program.Parts.Parts, value.Kind.Kind}
 use Rattle.star_program.specs.declared.op.Operation.TheVariants.{Binary, Const, Not, Read, Within}
 use Rattle.star_program.specs.declared.op.Operator.TheVariants as operator
-use Rattle.star_program.specs.Faults.{Kinds, binary_fault, both_fault, compare_fault, compares_with, is_flag_kind, is_number_kind, is_ordered, is_row_kind, is_row_of, kind_fault, operand_fault, operation_fault, unless}
+use Rattle.star_program.specs.Faults.{Kinds, binary_fault, both_fault, compare_fault, compares_with, is_flag_kind, is_number_kind, is_ordered, is_row_kind, is_row_of, operand_fault, operation_fault, unless}
 use Rattle.star_program.specs.World.{World, is_column, is_text}
 use Rattle.star_safety.specs.declared.reason.Reason.TheVariants.{NotAForeignKey}
 use Rattle.star_safety.specs.{Contexts.Context, Contexts.operation_known, Refusals.is_some_table, Refusals.refers_to, Refusals.refuses, Refusals.source_reason, Tallies.no_shares}
 use Rattle.star_safety.specs.Ranges.{AllKnown, Known, KnownFlag, KnownNumber, KnownPlace, KnownRow, Reach, answer_known, joined_reach, kinds_known, known_arithmetic, known_kind, known_number, loaded_known, no_reach, origin_at, range_at, reach_at}
 use Rattle.star_safety.proofs.Instructions.{both_none}
 use Rattle.star_compile_laws.specs.{Compiled.compiled, Compiled.foreign_of, Wide.Computed, Wide.computed, Wide.given, Wide.together}
-use Rattle.star_compile_laws.proofs.{ForeignKeys.are_foreign, Joins.of_text, Pieces.made}
+use Rattle.star_compile_laws.proofs.{ForeignKeys.are_foreign, Pieces.made}
 use Rattle.star_compile_laws.proofs.Contents.{Comparing, Content, Limit, Makes, after, before, negated, OfColumn, OfCondition, OfExpression, OfLimit, OfRow, OfTest, adds, at_most, both, constant_made, denies, edge, either, equal, fails, finds, is_after, is_before, is_within, less, limits, loads, multiplies, number, of_texts, operator_of, subtracts, within}
+use Rattle.std.proofs.lemmas.Grind.{common_steps}
+use Rattle.std.proofs.lemmas.Int.{ints}
 
 -- the bounds of columns are of 64 bits, and so are the constants
 abbrev pub AreColumnsI64 : World → Plan → Type 0
 AreColumnsI64 w p = AreBoundsI64 w.bounds × IsSpelledPlan p
 
 number_kind : (c : ColumnId) → is_text c ≡ false → kind_of c ≡ kind.Number
-number_kind c e = by (kind_of c) refl
-  where
-    by : (k : ColumnKind) → kind_of c ≡ k → kind_of c ≡ kind.Number
-    by kind.Number p = p
-    by kind.Text p = let wrong : true ≡ false = sym (ap of_text p) ∙ e in absurd (cc)
+number_kind c e = grind (arith, common_steps)
 
 -- ---- ranges
 
@@ -131,19 +129,13 @@ module _ (w : World) (p : Plan) (met : ℕ) where
   pub operand : (n : ℕ) (a : Point) (takes : Kind → Bool) (r : ℕ) (v : Known) → n ≤ f.registers
       → Has n a r v → takes (known_kind v) ≡ true
       → operand_fault f.registers (kinds_known a.known) takes r ≡ None
-  operand n a takes r v room at ok =
-      let below = at.0 in
-      both_none _ _
-      (ap (λ b. unless b BadRegister) (lt-ltb r f.registers (omega arith)))
-      (ap (λ o. kind_fault takes (option_map known_kind o)) at.1 ∙ ap (λ b. unless b WrongKind) ok)
+  operand n a takes r v room at ok = grind (arith, common_steps, both_none, lt-ltb)
 
   compares : (n : ℕ) (a : Point) (x r : ℕ) (u v : Known) → n ≤ f.registers → Has n a x u
       → Has n a r v → compares_with (Some (known_kind u)) (known_kind v) ≡ true
       → operand_fault f.registers (kinds_known a.known) (compares_with (kinds_known a.known x)) r
       ≡ None
-  compares n a x r u v room at_x at_r ok =
-      operand n a (compares_with (kinds_known a.known x)) r v room at_r
-      (ap (λ o. compares_with (option_map known_kind o) (known_kind v)) at_x.1 ∙ ok)
+  compares n a x r u v room at_x at_r ok = grind (arith, common_steps, operand)
 
   ordered_column : (c : ColumnId) (b : Bool) → is_ordered (known_kind (loaded_known w c b)) ≡ true
   ordered_column c true = refl
@@ -190,16 +182,7 @@ module _ (w : World) (p : Plan) (met : ℕ) where
       → ((later : ℕ → Bool) (t : ℕ) → source_reason later (context a) (Assign t o) ≡ None)
       → operation_known w f (context a) o ≡ KnownFlag
       → given (pos 0) ≡ computed w.bounds a.computed o → Suits n a o x
-  flag_suits n a o x is plain operands source makes none = record {
-    v = KnownFlag;
-    is = is;
-    plain = plain;
-    operands = operands;
-    source = source;
-    makes = makes;
-    agree = record { range = ap (λ n. n.range) none; columns = ap (λ n. n.columns) none };
-    sure = λ b s e. fits_zero;
-  }
+  flag_suits n a o x is plain operands source makes none = grind (arith, common_steps, fits_zero)
 
   compares_suit : (n : ℕ) (a : Point) (o : Comparing) (x : Content) (l r : ℕ) (u v : Known)
       → n ≤ f.registers → Is x KnownFlag → Has n a l u → Has n a r v
@@ -215,9 +198,7 @@ module _ (w : World) (p : Plan) (met : ℕ) where
 
   two_flags : (n : ℕ) (a : Point) (l r : ℕ) → n ≤ f.registers → Has n a l KnownFlag
       → Has n a r KnownFlag → both_fault f.registers (kinds_known a.known) is_flag_kind l r ≡ None
-  two_flags n a l r room at_l at_r =
-      both_none _ _ (operand n a is_flag_kind l KnownFlag room at_l refl)
-      (operand n a is_flag_kind r KnownFlag room at_r refl)
+  two_flags n a l r room at_l at_r = grind (arith, common_steps, both_none, operand)
 
   not_suits : (n : ℕ) (a : Point) (x : Content) (r : ℕ) → n ≤ f.registers → Is x KnownFlag
       → Has n a r KnownFlag → Suits n a (Not r) x
@@ -228,16 +209,7 @@ module _ (w : World) (p : Plan) (met : ℕ) where
   number_suits : (n : ℕ) (a : Point) (z : ℤ) (x : Content) → Is x (known_number (only z))
       → ((b : Bool) → Asked → made node x b ≡ true → fits_i64 (only z) ≡ true)
       → Suits n a (Const z) x
-  number_suits n a z x is sure = record {
-    v = known_number (only z);
-    is = is;
-    plain = refl;
-    operands = refl;
-    source = λ g t. refl;
-    makes = refl;
-    agree = record { range = refl; columns = refl };
-    sure = sure;
-  }
+  number_suits n a z x is sure = grind (arith, common_steps, ints)
 
   -- arithmetic on two numbers
   computes_suit : (n : ℕ) (a : Point) (o : Operator) (z : ℤ → ℤ → ℤ) (x y t : Expression ColumnId)

@@ -16,13 +16,14 @@ use Rattle.star_program.specs.declared.{fault.TrapKind.TrapKind, op.Op.TheVarian
 use Rattle.star_program.specs.declared.op.Operator.TheVariants as operator
 use Rattle.star_program.specs.{Code.Code, Code.Stop, Code.Then, World.World, World.is_text, Puts.Update, Puts.aligned, Private.Doing.keeps}
 use Rattle.star_program.specs.Values.{Registers, with_entry, number_read, flag_read, key_read, row_read}
-use Rattle.star_program.specs.Effects.{Effect, State, Updates, answer_of, compared, loaded, mark_of, marked, result_of, trap_of, unless_trap, update_of, with_update}
-use Rattle.star_program.specs.Run.{End, Ended, Trapped, Limited, follow, after, begin, turns, scans, meaning}
-use Rattle.star_compile_laws.specs.Compiled.{body_code, compiled, foreign_of, plan_group, turn_code}
+use Rattle.star_program.specs.Effects.{Effect, State, answer_of, compared, loaded, mark_of, marked, result_of, trap_of, unless_trap, with_update}
+use Rattle.star_program.specs.Run.{End, Ended, follow, after, begin, turns, scans, meaning}
+use Rattle.star_compile_laws.specs.Compiled.{body_code, compiled, foreign_of, turn_code}
 use Rattle.star_compile_laws.specs.{Answers.coded, Answers.update_of_row, Counts.lookups_in, Counts.turn_lookups}
 use Rattle.star_compile_laws.proofs.Contents.{AllHold, Content, Makes, OfColumn, OfCondition, OfExpression, OfLimit, OfRow, OfTest, adds, both, column_tested, constant_made, denies, edge, either, fails, finds, is_after, is_before, is_within, limits, loads, multiplies, number, numbers_put, operator_of, subtracts}
 use Rattle.star_compile_laws.proofs.{Entries.entry_other, Entries.entry_same, Entries.one_if, Forms.comparison_says, Forms.form_value, Forms.limit_value, Joins.holds_numbers, Limits.tested_in_scope, TurnRows.Shows, TurnRows.IsTurn, TurnRows.numbers, TurnRows.place_in}
 use Rattle.star_compile_laws.proofs.Pieces.{IsKept, Law, Stays, conjuncts_grade, expression_grade, made, of_turn, values_grade}
+use Rattle.std.proofs.lemmas.Grind.{common_steps}
 
 -- the updates of each group, with that of the row where it is selected
 abbrev pub put_if : World → Plan → Joined → Bool → (ℕ → List Update) → ℕ → List Update
@@ -163,14 +164,7 @@ module _ (w : World) (may : ℕ → Bool) (at : TableId → ℕ) (p : Plan) (row
       ≡ Ended e
       → e ≡ turned w p row (b && all_so flags) a.state
       (a.state.lookups + lookups_in (Then (Keep r) rest) (b ∷ flags))
-  kept_by true flags a r rest next h = next h
-  kept_by false flags a r rest next h =
-      let same : a.state ≡ e = cc in
-      sym same
-      ∙ (λ i. record a.state {
-        lookups = sym (add-zero a.state.lookups) i;
-        updates = sym (add-zero a.state.updates) i;
-      })
+  kept_by it flags a r rest next h = grind (arith, common_steps, add-zero)
 
   keep : (flags : List Bool) (n : ℕ) (a : Point) (d : RowCondition) (r : ℕ) (rest : Code)
       → Holds n a r (OfCondition d)
@@ -227,32 +221,13 @@ module _ (w : World) (may : ℕ → Bool) (at : TableId → ℕ) (p : Plan) (row
       → AllHold (Holds n a) (numbers_put p.measures) vs
       → law.Fact [] n a (Then (Put 0 ks vs) Stop)
   put n a ks vs at_k at_v h =
-      let s = a.state in
-      let u = update_of (plan_group p) a.regs ks vs in
-      let goes : Ended (marked (Updates 0 u) s) ≡ Ended e =
-      untrapped (trap_of w f true a.regs s (Put 0 ks vs)) _ a.number
-      (meaning w f may Stop (a.number + 1) true) e h in
-      let same : marked (Updates 0 u) s ≡ e = cc in
-      let row_put : u ≡ update_of_row w p row =
-      λ i. record {
-        keys = keys_stand n a p.keys sound.keys ks at_k i;
-        values = values_stand n a p.measures vs at_v i;
-      } in
-      sym same
-      ∙ (λ i. record s {
-        updates_of = with_update s.updates_of 0 (row_put i);
-        lookups = sym (add-zero s.lookups) i;
-        updates = s.updates + 1;
-      })
+      grind (arith, common_steps, untrapped, keys_stand, values_stand, add-zero)
 
   -- ---- a turn
 
   shown_number : (c : ColumnId) (i : ℕ) (v : held.Value) (b : Bool) → is_text c ≡ b → b ≡ false
       → Shows w c i v → loaded w c i b ≡ Number (value_number v)
-  shown_number c i (held.Number z) false p q shows = ap Number shows.1
-  shown_number c i (held.Text v) false p q shows =
-      let a : true ≡ false = sym shows.0 ∙ p in absurd (cc)
-  shown_number c i v true p q shows = absurd (cc)
+  shown_number c i v it p q shows = grind (arith, common_steps)
 
   kept : IsKept law
   kept = record {
@@ -324,9 +299,7 @@ module _ (w : World) (may : ℕ → Bool) (p : Plan) (sound : IsSoundPlan p) (ro
 
   after_ends : (x : End) (next : State → End) (e : State) → after x next ≡ Ended e → (s : State)
       × (x ≡ Ended s) × (next s ≡ Ended e)
-  after_ends (Ended s) next e h = (s, refl, h)
-  after_ends (Trapped n t) next e h = absurd (cc)
-  after_ends Limited next e h = absurd (cc)
+  after_ends it next e h = grind (arith, common_steps)
 
   begin_ends : (b : Bool) (s : State) (go : State → End) (e : State) → begin b s go ≡ Ended e
       → go (record s { visits = s.visits + 1 }) ≡ Ended e
@@ -354,14 +327,7 @@ module _ (w : World) (may : ℕ → Bool) (p : Plan) (sound : IsSoundPlan p) (ro
       → e ≡ turned w p (row i) (all_hold p.conjuncts (row i)) s (s.lookups + looked_up i))
       → (k i : ℕ) → i + k ≡ w.size Lineorder → (s e : State) → turns may k i go s ≡ Ended e
       → Scanned (updates_of_rows (numbers k i)) k (sum_by looked_up (numbers k i)) s e
-  turns_run go each zero i q s e h =
-      let same : s ≡ e = cc in
-      record {
-        put = ap (λ x. x.updates_of 0) (sym same);
-        visits = ap (λ x. x.visits) (sym same) ∙ sym (add-zero s.visits);
-        lookups = ap (λ x. x.lookups) (sym same) ∙ sym (add-zero s.lookups);
-        updates = ap (λ x. x.updates) (sym same) ∙ sym (add-zero s.updates);
-      }
+  turns_run go each zero i q s e h = grind (arith, common_steps, put, add-zero)
   turns_run go each (suc k) i q s e h =
       let begun : State = record s { visits = s.visits + 1 } in
       let a = after_ends (begin (may s.visits) s (go i)) (turns may k (i + 1) go) e h in

@@ -1,7 +1,7 @@
 -- What refuses a compiled program, if anything does.
-use Rattle.std.proofs.Common.{◌≡◌, ◌⊎◌, ◌+◌, inl, inr, ℕ, ◌≤◌, ◌<◌, Bool, true, false, Option, Some, None, refl, sym, ap, subst, ◌∙◌, arith}
+use Rattle.std.proofs.Common.{◌≡◌, ◌⊎◌, ◌+◌, inl, inr, ℕ, ◌≤◌, ◌<◌, Bool, true, false, Option, Some, None, refl, ap, subst, ◌∙◌, arith}
 use Rattle.std.proofs.lemmas.Bool.{false_from_ne_true, le-leb, leb-true}
-use Rattle.std.specs.{Prelude.nat_eq, Prelude.nat_le, Prelude.pos, Prelude.if◌then◌else◌, List.list_all, Option.option_map, Option.option_or}
+use Rattle.std.specs.{Prelude.nat_eq, Prelude.nat_le, Prelude.if◌then◌else◌, List.list_all, Option.option_map, Option.option_or}
 use Rattle.star_schema.specs.{declared.table.TableId.TheVariants.Lineorder, declared.column.ColumnId.ColumnId, Columns.AreBoundsI64}
 use Rattle.star_common.specs.First.{first_answer}
 use Rattle.star_plan.specs.{Meaning.Plan, Sound.IsSoundPlan, Spelled.IsSpelledPlan, Fits.measure_fits, Fits.Fits}
@@ -11,8 +11,9 @@ use Rattle.star_program.specs.{Code.Code, Code.Each, Code.Stop, Code.Then, World
 use Rattle.star_safety.specs.{Admissible.Refusal, Admissible.TooCostly, Admissible.Refused, Admissible.BadShow, Admissible.cost_refusal, Admissible.first_refusal, declared.reason.Reason.Reason}
 use Rattle.star_safety.specs.Standing.{instructions_of, reason_of}
 use Rattle.star_safety.proofs.Forward.{first_standing}
-use Rattle.star_compile_laws.specs.{Compiled.compiled, Compiled.turn_code, Judged.IsOverflow, Wide.Computed, Wide.computed, Wide.first_wide, Wide.given, Wide.too_wide, Wide.turn_wide}
+use Rattle.star_compile_laws.specs.{Compiled.compiled, Judged.IsOverflow, Wide.Computed, Wide.computed, Wide.first_wide, Wide.too_wide, Wide.turn_wide}
 use Rattle.star_compile_laws.proofs.{Accepts.Judged, Accepts.or_none_right, Accepts.program_judged, Suits.AreColumnsI64, Flat.quote_is, Programs.shows_what_is_there}
+use Rattle.std.proofs.lemmas.Grind.{common_steps}
 
 not_at_most : (n m : ℕ) → m < n → nat_le n m ≡ false
 not_at_most n m h =
@@ -48,17 +49,10 @@ module _ (w : World) (most : ℕ) (p : Plan) where
   by_rows : first_refusal w most (compiled p)
       ≡ option_or (cost_refusal rows (nat_le rows most))
       (option_or (option_map Refused reason) (option_map BadShow (shown_fault (compiled p))))
-  by_rows =
-      ap (λ n. option_or (cost_refusal n (nat_le n most))
-      (option_or (option_map Refused reason) (option_map BadShow (shown_fault (compiled p)))))
-      (quote_is w.size p)
+  by_rows = grind (arith, common_steps, quote_is)
 
   pub costly : most < rows → first_refusal w most (compiled p) ≡ Some (TooCostly rows)
-  costly h =
-      by_rows
-      ∙ ap (λ b. option_or (cost_refusal rows b)
-      (option_or (option_map Refused reason) (option_map BadShow (shown_fault (compiled p)))))
-      (not_at_most rows most h)
+  costly h = grind (arith, common_steps, by_rows, not_at_most)
 
   module _ (sound : IsSoundPlan p) where
     -- by the number of rows and the instructions alone
@@ -73,9 +67,7 @@ module _ (w : World) (most : ℕ) (p : Plan) where
         (or_none_right (option_map Refused reason))
 
     within : rows ≤ most → first_refusal w most (compiled p) ≡ option_map Refused reason
-    within h =
-        told ∙ ap (λ b. option_or (cost_refusal rows b) (option_map Refused reason))
-        (le-leb rows most h)
+    within h = grind (arith, common_steps, told, le-leb)
 
     abbrev nodes : Bool
     nodes = list_all (measure_fits w.bounds) p.measures
@@ -97,20 +89,13 @@ module _ (w : World) (most : ℕ) (p : Plan) where
     not_refused (Some r) e = absurd (cc)
 
     pub accepted_fits : first_refusal w most (compiled p) ≡ None → Fits rows most w.bounds p
-    accepted_fits e =
-        let c = cheap (nat_le rows most) (option_map Refused reason) (sym told ∙ e) in
-        record {
-          visits = leb-true rows most c.0;
-          nodes = judged.fit (not_refused reason c.1);
-        }
+    accepted_fits e = grind (arith, common_steps, cheap, told, leb-true, judged, not_refused)
 
     -- ---- what fits is accepted
 
     pub fitting_accepted : AreBoundsI64 w.bounds → IsSpelledPlan p → Fits rows most w.bounds p
         → first_refusal w most (compiled p) ≡ None
-    fitting_accepted bounds spelled fits =
-        within fits.visits
-        ∙ ap (option_map Refused) (judged.none (bounds, spelled) fits.nodes)
+    fitting_accepted bounds spelled fits = grind (arith, common_steps, within, judged)
 
     -- ---- and nothing else refuses it
 
@@ -121,10 +106,4 @@ module _ (w : World) (most : ℕ) (p : Plan) where
 
     pub overflows : rows ≤ most → (Fits rows most w.bounds p → ⊥)
         → IsOverflow (first_refusal w most (compiled p))
-    overflows few wide = by (only_wide w.bounds (λ r. given (pos 0)) 2 (turn_code p))
-      where
-        by : (turn_wide w.bounds p ≡ None) ⊎ IsOverflow (option_map Refused (turn_wide w.bounds p))
-            → IsOverflow (first_refusal w most (compiled p))
-        by (inl none) =
-            absurd (wide (accepted_fits (first few ∙ ap (option_map Refused) none)))
-        by (inr over) = subst IsOverflow (sym (first few)) over
+    overflows few wide = grind (arith, common_steps, only_wide, accepted_fits, first)

@@ -1,7 +1,7 @@
 -- No run makes more turns than are quoted, and one that may make as many as that is the run without
 -- a bound.
 use Rattle.std.proofs.Common.{◌≡◌, ℕ, zero, suc, ◌+◌, ◌*◌, ◌≤◌, ◌<◌, Bool, true, false, Option, Some, None, refl, subst, arith, zero-add, le_trans}
-use Rattle.star_safety.proofs.Common.{Code, Each, Effect, End, Ended, EndsTurn, GoesOn, Limited, Op, Parts, Registers, Row, State, Stop, Then, TrapKind, Trapped, Traps, World, act, after, begin, bounded_run_of, code_size, effect_of, empty_state, flag_read, follow, if◌then◌else◌, lt-ltb, meaning, mul-le-mul_right, nat_lt, no_registers, quote, run_of, scans, shown_fault, trap_of, turns, turns_met, unless_trap, unless_unshown, visited, with_entry}
+use Rattle.star_safety.proofs.Common.{Code, Each, Effect, End, Ended, EndsTurn, GoesOn, Limited, Op, Parts, Registers, Row, State, Stop, Then, TrapKind, Trapped, Traps, World, act, after, begin, bounded_run_of, code_size, effect_of, flag_read, follow, if◌then◌else◌, lt-ltb, meaning, mul-le-mul_right, nat_lt, quote, run_of, scans, trap_of, turns, turns_met, unless_trap, visited, with_entry}
 use Rattle.star_safety.proofs.Sound.{quoted_each, in_time}
 use Rattle.std.proofs.lemmas.Grind.{common_steps}
 
@@ -131,16 +131,4 @@ module _ (w : World) (parts : Parts) (may : ℕ → Bool) where
 
 pub unbounded : (w : World) (parts : Parts) (most : ℕ) → quote w.size parts ≤ most
     → bounded_run_of w most parts ≡ run_of w parts
-unbounded w parts most enough =
-    grind (
-      arith,
-      common_steps,
-      same_meaning,
-      no_registers,
-      empty_state,
-      zero-add,
-      quote,
-      lt-ltb,
-      unless_unshown,
-      shown_fault,
-    )
+unbounded w parts most enough = grind (arith, common_steps, same_meaning, zero-add, lt-ltb)

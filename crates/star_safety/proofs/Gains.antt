@@ -20,18 +20,7 @@ pub op_gained : (w : World) (parts : Parts) (x : Context) (op : Op) (g a : ℕ)
     → AtMost (plus (tally_of (x.so_far g a)) (times x.met (op_gain parts x op g a)))
     (tally_of ((after_op w parts x op).so_far g a))
 op_gained w parts x op g a =
-    grind (
-      arith,
-      common_steps,
-      plus,
-      tally_of,
-      times,
-      group_at,
-      no_tally,
-      put_share,
-      at_most_refl,
-      at_most_nothing,
-    )
+    grind (arith, common_steps, tally_of, group_at, no_tally, at_most_refl, at_most_nothing)
 
 -- and no more numbers than that
 pub op_counted : (w : World) (parts : Parts) (x : Context) (op : Op) (g a : ℕ)

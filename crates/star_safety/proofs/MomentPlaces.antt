@@ -53,15 +53,7 @@ module _ (w : World) (parts : Parts) where
     },
   )
   stretch m (behind x op rest at before after s t earlier goes) =
-      grind (
-        arith,
-        common_steps,
-        moment,
-        one_on,
-        standing,
-        after_op,
-        stretch (moment x (Then op rest) at before s) earlier,
-      )
+      grind (arith, common_steps, one_on, stretch (moment x (Then op rest) at before s) earlier)
   stretch m (in_turn x table r body rest at registers s t row earlier declared within turned) =
       let was = stretch (moment x (Each table r body rest) at registers s) earlier in
       let inner = in_scan w x table r in
@@ -78,11 +70,7 @@ module _ (w : World) (parts : Parts) where
         arith,
         common_steps,
         moment,
-        in_scan,
-        standing,
-        after_scan,
         at_end,
-        code_size,
         right_part,
         one_on,
         stretch (moment x (Each table r body rest) at registers s) earlier,

@@ -1,7 +1,7 @@
 -- Where nothing refuses some code, what is known at its end lies within 2 ^ 63 of zero, and so does
 -- each number that it puts.
 use Rattle.std.proofs.Common.{◌≡◌, ℕ, ◌+◌, Bool, None, arith}
-use Rattle.star_safety.proofs.Common.{Code, Context, Each, Op, Parts, Stop, TableId, Then, World, after_op, after_scan, at_end, at_first, at_place, code_size, first_reason, in_scan, kind_reason, op_reason, open_with, or_none, range_reason, scan_reason, source_reason}
+use Rattle.star_safety.proofs.Common.{Code, Context, Each, Op, Parts, Stop, TableId, Then, World, after_op, after_scan, at_end, at_first, at_place, code_size, first_reason, in_scan, op_reason, open_with, or_none, scan_reason}
 use Rattle.star_safety.proofs.{Sound.at_place_none, NarrowRanges.Fits, NarrowRanges.zero_narrow, NarrowRanges.entry_narrow, NarrowRanges.after_narrow}
 use Rattle.std.proofs.lemmas.Grind.{common_steps}
 
@@ -13,8 +13,7 @@ first_fits parts =
 pub op_fits : (w : World) (parts : Parts) (pending : ℕ → Bool) (x : Context) (op : Op)
     → Fits parts x
     → op_reason w parts pending x op ≡ None → Fits parts (after_op w parts x op)
-op_fits w parts pending x op fits e =
-    grind (arith, common_steps, after_narrow, or_none, source_reason, range_reason, kind_reason)
+op_fits w parts pending x op fits e = grind (arith, common_steps, after_narrow, or_none)
 
 pub in_fits : (w : World) (parts : Parts) (x : Context) (table : TableId) (r : ℕ)
     → Fits parts x → Fits parts (in_scan w x table r)

@@ -92,8 +92,7 @@ sum_fits ss all few =
 
 pub after_narrow : (w : World) (parts : Parts) (x : Context) (op : Op) → Fits parts x
     → range_reason w parts x op ≡ None → Fits parts (after_op w parts x op)
-after_narrow w parts x (Assign t o) fits e =
-    grind (arith, common_steps, entry_narrow, result_known, made_narrow)
+after_narrow w parts x (Assign t o) fits e = grind (arith, common_steps, entry_narrow, made_narrow)
 after_narrow w parts x (Keep f) fits e =
     record { known = fits.known; each = fits.each }
 after_narrow w parts x (Put g ks vs) fits e = grind (arith, common_steps, put_share, share_narrow)
@@ -190,15 +189,4 @@ pub result_wide : (w : World) (parts : Parts) (x : Context) (t : ℕ) (o : Opera
     → ((c : ColumnId) → is_text c ≡ false → FitsI64 (w.bounds c))
     → IsWide (result_known w parts x (Assign t o))
 result_wide w parts x t o fits counts named bounds =
-    grind (
-      arith,
-      common_steps,
-      narrow_wide,
-      only,
-      only_small,
-      named_small,
-      loaded_wide,
-      is_text,
-      answer_wide,
-      read_wide,
-    )
+    grind (arith, common_steps, only, only_small, named_small, loaded_wide, answer_wide, read_wide)

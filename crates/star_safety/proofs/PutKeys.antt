@@ -1,6 +1,6 @@
 -- Each key of an update is one of the values that are known of it before the run.
 use Rattle.std.proofs.Common.{◌≡◌, ℕ, zero, suc, ◌+◌, ◌<◌, Bool, true, false, List, [], ◌∷◌, ◌++◌, Option, Some, None, length, map, refl, sym, ap, subst, ◌∙◌, arith, ⊎_elim, zero-add}
-use Rattle.star_safety.proofs.Common.{Agrees, AllByRecursion, AllKnown, Assign, BadGroup, BadRegister, Code, Contains, Contains-append_right, Context, Each, Effect, End, Ended, EndsTurn, EndsWith, FitsAt, Flag, GoesOn, GroupKey, Holds, InEachTurn, Keep, KeyValue, Known, KnownFlag, KnownNumber, KnownPlace, KnownRow, KnownText, Limited, Number, Onward, Op, Parts, Place, Put, Range, Registers, Row, Share, Shares, State, Stop, Text, Then, Throughout, TrapKind, Trapped, Traps, Update, Value, World, WrongKind, act, after, after_op, after_scan, all_key_shares, and_parts, at_end, code_size, column_same, contains_cases, contains_here, contains_mapped, contains_none, each_values, effect_of, eqb-true, fault_of, fits_key, follow, get_or-range_with_len, group_at, hull_of, hull_with, if◌then◌else◌, in_scan, ints, is_column, is_text, key_read, key_share, keys_fault, kind_fault, kinds_in, known_share, length-map, length-range_with_len, loaded_known, lt-ltb, meaning, most_of, nat_eq, nat_lt, negsuc, numbers_fault, numbers_to, op_key_shares, operand_fault, operation_known, option_map, or_none, place_fault, pos, possible_values, put_share, range_width, range_with_len, register_kind, result_known, scans, slice_index_or, target_fault, trap_of, turns, unless, unless_none, unless_trap, update_of, visited, width, with_entry, ℤ, ◌+ℤ◌, ◌-ℤ◌}
+use Rattle.star_safety.proofs.Common.{Agrees, AllByRecursion, AllKnown, Assign, BadGroup, BadRegister, Code, Contains, Contains-append_right, Context, Each, Effect, End, Ended, EndsTurn, EndsWith, FitsAt, Flag, GoesOn, GroupKey, Holds, InEachTurn, Keep, KeyValue, Known, KnownFlag, KnownNumber, KnownPlace, KnownRow, KnownText, Limited, Number, Onward, Op, Parts, Place, Put, Range, Registers, Row, Share, Shares, State, Stop, Text, Then, Throughout, TrapKind, Trapped, Traps, Update, Value, World, WrongKind, act, after, after_op, after_scan, all_key_shares, and_parts, at_end, code_size, column_same, contains_cases, contains_here, contains_mapped, contains_none, each_values, eqb-true, fault_of, fits_key, follow, get_or-range_with_len, group_at, hull_of, hull_with, if◌then◌else◌, in_scan, ints, is_column, is_text, key_read, key_share, keys_fault, kind_fault, kinds_in, known_share, length-map, length-range_with_len, lt-ltb, meaning, most_of, nat_eq, nat_lt, negsuc, numbers_fault, numbers_to, op_key_shares, operand_fault, option_map, or_none, place_fault, pos, possible_values, put_share, range_with_len, register_kind, scans, slice_index_or, target_fault, turns, unless, unless_none, unless_trap, update_of, visited, width, with_entry, ℤ, ◌+ℤ◌, ◌-ℤ◌}
 use Rattle.star_program.specs.declared.group.GroupKey.TheVariants as declared
 use Rattle.star_program.specs.declared.key.KeyValue.TheVariants as key
 use Rattle.star_safety.proofs.{BeforePuts.moment_of, FewGroups.sizes, Instructions.unmapped_none, Numbers.holds_hull_left, Numbers.holds_hull_right}
@@ -28,17 +28,7 @@ each_listed w parts g place (declared ∷ rest) =
 length-listed : (w : World) (shares : List Share) (declared : GroupKey)
     → length (listed w shares declared) ≡ possible_values w shares declared
 length-listed w shares declared =
-    grind (
-      arith,
-      common_steps,
-      is_text,
-      range_with_len,
-      length-map,
-      length-range_with_len,
-      hull_of,
-      range_width,
-      width,
-    )
+    grind (arith, common_steps, length-map, length-range_with_len, width)
 
 pub sizes_are : (w : World) (parts : Parts) (g place : ℕ) (keys : List GroupKey)
     → sizes (each_listed w parts g place keys)
@@ -219,18 +209,7 @@ module _ (w : World) (parts : Parts) (g : ℕ) (vss : List (List KeyValue)) wher
       → AreListed s
       → ListsKeys x op → Leaves (act w parts x.inside regs s op)
   leaves x regs s op agrees h lists =
-      grind (
-        arith,
-        common_steps,
-        leaves_unless,
-        trap_of,
-        effect_of,
-        unmapped_none,
-        or_none,
-        option_map,
-        fault_of,
-        kinds_in,
-      )
+      grind (arith, common_steps, leaves_unless, unmapped_none, or_none)
 
   kept_follow : (at : ℕ) (e : Effect) (next : Registers → State → End)
       (Next : Registers → State → Type 0)
@@ -297,8 +276,7 @@ text_entry known t k q texts here = grind (arith, common_steps)
 text_then : (w : World) (parts : Parts) (x : Context) (op : Op)
     → ((r : ℕ) → IsTextAlone (x.known r))
     → (r : ℕ) → IsTextAlone ((after_op w parts x op).known r)
-text_then w parts x op texts r =
-    grind (arith, common_steps, text_entry, result_known, is_text, loaded_known, operation_known)
+text_then w parts x op texts r = grind (arith, common_steps, text_entry)
 
 -- what is put to the keys of groups stays
 keys_stay : (w : World) (parts : Parts) (x : Context) (c : Code) (g place : ℕ) (s : Share)

@@ -1,6 +1,6 @@
 -- The visits that a refusal tells fit 128 bits.
 use Rattle.std.proofs.Common.{◌≡◌, ℕ, ◌*◌, ◌^◌, ◌≤◌, ◌<◌, Some, arith, subst}
-use Rattle.star_safety.proofs.Common.{Code, Each, IsWithinLimits, Parts, Stop, TableId, Then, TooCostly, World, code_size, cost_refusal, first_answer, first_refusal, instructions_of, option_map, option_or, pow-le-pow_right, quote, reason_of, scan_depth, shown_fault, turns_met}
+use Rattle.star_safety.proofs.Common.{Code, Each, IsWithinLimits, Parts, Stop, TableId, Then, TooCostly, World, code_size, first_refusal, pow-le-pow_right, quote, scan_depth, turns_met}
 use Rattle.star_safety.proofs.Nested.{body_nested, rest_nested, met_within}
 use Rattle.std.proofs.lemmas.Grind.{common_steps}
 
@@ -22,25 +22,12 @@ module _ (size : TableId → ℕ) (small : (t : TableId) → size t < 2 ^ 32) wh
       omega (arith, inside, turns, later)
 
   quote_within : (parts : Parts) → IsWithinLimits parts → quote size parts < 2 ^ 128
-  quote_within parts limits =
-      grind (arith, common_steps, scan_depth, pow-le-pow_right, turns_within)
+  quote_within parts limits = grind (arith, common_steps, pow-le-pow_right, turns_within)
 
 -- what it tells is the quote
 quoted : (w : World) (most : ℕ) (parts : Parts) (visits : ℕ)
     → first_refusal w most parts ≡ Some (TooCostly visits) → quote w.size parts ≡ visits
-quoted w most parts visits =
-    grind (
-      arith,
-      common_steps,
-      option_map,
-      option_or,
-      quote,
-      cost_refusal,
-      first_answer,
-      reason_of,
-      instructions_of,
-      shown_fault,
-    )
+quoted w most parts visits = grind (arith, common_steps)
 
 pub told_visits_fit : (w : World) (most : ℕ) (parts : Parts) (visits : ℕ) → IsWithinLimits parts
     → ((t : TableId) → w.size t < 2 ^ 32)

@@ -1,6 +1,6 @@
 -- What refuses a program, if anything does.
 use Rattle.std.proofs.Common.{◌≡◌, ℕ, ◌≤◌, Bool, true, false, None, refl, arith}
-use Rattle.star_safety.proofs.Common.{IsAdmissible, Parts, World, all_without_answer, cost_refusal, first_answer, first_answer_none, first_refusal, instructions_of, le-leb, option_map, or_none, quote, reason_of}
+use Rattle.star_safety.proofs.Common.{IsAdmissible, Parts, World, all_without_answer, cost_refusal, first_answer_none, first_refusal, le-leb, or_none, quote}
 use Rattle.star_safety.proofs.Instructions.{both_none}
 use Rattle.std.proofs.lemmas.Grind.{common_steps}
 
@@ -10,32 +10,8 @@ cheap visits false e = absurd (cc)
 
 pub is_admissible : (w : World) (most : ℕ) (parts : Parts) → first_refusal w most parts ≡ None
     → IsAdmissible w parts × (quote w.size parts ≤ most)
-is_admissible w most parts e =
-    grind (
-      arith,
-      common_steps,
-      or_none,
-      cost_refusal,
-      quote,
-      option_map,
-      first_answer,
-      reason_of,
-      instructions_of,
-      all_without_answer,
-    )
+is_admissible w most parts e = grind (arith, common_steps, or_none, all_without_answer)
 
 pub not_refused : (w : World) (most : ℕ) (parts : Parts)
     → IsAdmissible w parts × (quote w.size parts ≤ most) → first_refusal w most parts ≡ None
-not_refused w most parts h =
-    grind (
-      arith,
-      common_steps,
-      both_none,
-      cost_refusal,
-      quote,
-      le-leb,
-      option_map,
-      first_answer_none,
-      reason_of,
-      instructions_of,
-    )
+not_refused w most parts h = grind (arith, common_steps, both_none, le-leb, first_answer_none)

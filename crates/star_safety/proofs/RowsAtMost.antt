@@ -35,8 +35,7 @@ total_itself None = refl
 total_itself (Some z) = own_reverse _ (int_cmp_total.antisymm z z)
 
 sort_itself : (sort : SortKey) → IsNever (sort_cmp value_cmp sort)
-sort_itself sort row =
-    grind (arith, common_steps, sort_cmp, value_cmp, row, key_itself, slice_index_or, total_itself)
+sort_itself sort row = grind (arith, common_steps, row, key_itself, total_itself)
 
 row_itself : (sorts : List SortKey) → IsNever (row_cmp value_cmp sorts)
 row_itself [] row = keys_itself row.keys

@@ -1,6 +1,6 @@
 -- The run of an admissible program: it ends with no trap, within its quote.
 use Rattle.std.proofs.Common.{◌≡◌, ℕ, zero, suc, ◌+◌, ◌*◌, ◌^◌, ◌≤◌, ◌<◌, Bool, true, Option, Some, None, refl, sym, subst, arith, zero-add, le_refl, lt_of_lt_of_le, ◌∙◌}
-use Rattle.star_safety.proofs.Common.{Agrees, BadRegister, Code, Context, Each, End, Ended, EndsWith, Faulty, IsAccepted, IsLoaded, KnownRow, Limited, List, Parts, Registers, Row, Share, State, Stop, Then, Trapped, World, WrittenTwice, act, after, after_op, after_scan, all_shares, and_from, at_end, at_first, at_place, code_puts_to, code_size, empty_state, first_answer_none, first_reason, group_at, in_scan, instructions_of, le-leb, meaning, meaning_of, most_of, mul-le-mul_left, mul-le-mul_right, nat_lt, neg_ℤ, no_registers, none_open, not, op_reason, open_with, or_none, or_parts, pos, quote, reason_of, run_while, scan_reason, shown_fault, turns, turns_met, unless, unless_none, unless_unshown, unsigned_abs, with_entry}
+use Rattle.star_safety.proofs.Common.{Agrees, BadRegister, Code, Context, Each, End, Ended, EndsWith, Faulty, IsAccepted, IsLoaded, KnownRow, Limited, List, Parts, Registers, Row, Share, State, Stop, Then, Trapped, World, WrittenTwice, act, after, after_op, after_scan, all_shares, and_from, at_end, at_first, at_place, code_puts_to, code_size, empty_state, first_answer_none, first_reason, group_at, in_scan, instructions_of, meaning, meaning_of, mul-le-mul_left, mul-le-mul_right, nat_lt, neg_ℤ, no_registers, none_open, not, op_reason, open_with, or_none, or_parts, pos, quote, reason_of, run_while, scan_reason, shown_fault, turns, turns_met, unless, unless_none, unless_unshown, unsigned_abs, with_entry}
 use Rattle.star_safety.proofs.Tally.{no_tally, plus, times, Tallies, no_tallies, plus_all, times_all, tally_of, sum_fits, sum_range_is, most_is}
 use Rattle.star_safety.proofs.TallyOrder.{AtMost, at_most_refl, at_most_trans, at_most_plus, at_most_assoc, at_most_both, at_most_once}
 use Rattle.star_safety.proofs.Gains.{op_gain, op_counted, gain, gained, whole_gain}
@@ -166,18 +166,7 @@ negated (suc n) = refl
 few_fit : (ss : List Share) → AllNarrow ss → (tally_of ss).many < 2 ^ 63
     → sum_fits (tally_of ss) ≡ true
 few_fit ss all h =
-    grind (
-      arith,
-      common_steps,
-      tally_of,
-      most_of,
-      sum_range_is,
-      sum_small,
-      most_is,
-      negated,
-      and_from,
-      le-leb,
-    )
+    grind (arith, common_steps, tally_of, sum_range_is, sum_small, most_is, negated, and_from)
 
 -- each number that is put has 64 bits
 pub all_narrow : (w : World) (parts : Parts) → IsAccepted w parts

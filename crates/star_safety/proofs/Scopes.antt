@@ -1,6 +1,6 @@
 -- Which scans stand round which instructions, by their numbers.
 use Rattle.std.proofs.Common.{◌≡◌, ℕ, ◌+◌, ◌≤◌, ◌<◌, Bool, true, false, List, [], ◌∷◌, ◌++◌, length, get_or, Option, Some, None, refl, ap, ◌∙◌, arith, append-nil}
-use Rattle.star_safety.proofs.Common.{AllByRecursion, Any-from_list_any, Code, Context, Each, Enclosing, Parts, Standing, Stop, Then, World, after_op, after_scan, and_right, at_end, code_size, eq-eqb, eqb-true, filter, filter-append, has_scan, if◌then◌else◌, in_scan, is_in_scope, item_scope, last_or, last_writer, list_all, list_all_at, list_any, list_any_at, nat_eq, ne_eqb, or_right, scope_of, standing, writes_to, ◌&&◌, ◌||◌}
+use Rattle.star_safety.proofs.Common.{AllByRecursion, Any-from_list_any, Code, Context, Each, Enclosing, Parts, Standing, Stop, Then, World, after_op, after_scan, and_right, at_end, code_size, eq-eqb, eqb-true, filter, filter-append, has_scan, if◌then◌else◌, in_scan, is_in_scope, last_or, last_writer, list_all, list_all_at, list_any, list_any_at, nat_eq, ne_eqb, or_right, scope_of, standing, writes_to, ◌&&◌, ◌||◌}
 use Rattle.std.proofs.lemmas.Grind.{common_steps}
 
 -- ---- scans by their numbers
@@ -139,8 +139,7 @@ stand_in w parts (Each table r body rest) round x at n h =
 pub scoped_in : (w : World) (parts : Parts) (c : Code) (round : List Enclosing) (x : Context)
     (at n : ℕ) → has_scan round n ≡ true
     → EachOf (λ i. has_scan (scope_of i) n ≡ true) (standing w parts round x at c)
-scoped_in w parts c round x at n h =
-    grind (arith, common_steps, each_so, standing, stand_in, has_scan, item_scope, or_right)
+scoped_in w parts c round x at n h = grind (arith, common_steps, each_so, stand_in, or_right)
 
 -- ---- the last that writes a register in scope
 
@@ -168,24 +167,13 @@ no_writer : (scans : List Enclosing) (r : ℕ) (is : List Standing)
     → EachOf (λ i. is_in_scope scans i ≡ false) is
     → filter (λ j. writes_to r j && is_in_scope scans j) is ≡ []
 no_writer scans r [] h = refl
-no_writer scans r (i ∷ is) h =
-    grind (arith, common_steps, writes_to, is_in_scope, and_right, no_writer scans r is h.1)
+no_writer scans r (i ∷ is) h = grind (arith, common_steps, and_right, no_writer scans r is h.1)
 
 -- what is out of scope changes nothing
 pub last_past : (scans : List Enclosing) (r : ℕ) (xs ys : List Standing)
     → EachOf (λ i. is_in_scope scans i ≡ false) ys
     → last_writer scans r (xs ++ ys) ≡ last_writer scans r xs
-last_past scans r xs ys h =
-    grind (
-      arith,
-      common_steps,
-      last_or,
-      filter-append,
-      writes_to,
-      is_in_scope,
-      no_writer,
-      append-nil,
-    )
+last_past scans r xs ys h = grind (arith, common_steps, filter-append, no_writer, append-nil)
 
 -- nor do scans of later numbers
 pub last_within : (new : Enclosing) (scans : List Enclosing) (r : ℕ) (is : List Standing)

@@ -29,15 +29,7 @@ difference_abs x y s e = grind (arith, common_steps, ends, abs_within, unsigned_
 pub product_abs : (n m : ℕ) (x y : ℤ) → unsigned_abs x ≤ n → unsigned_abs y ≤ m
     → unsigned_abs (x *ℤ y) ≤ n * m
 product_abs n m x y p q =
-    grind (
-      arith,
-      common_steps,
-      ints,
-      unsigned_abs-mul,
-      unsigned_abs,
-      mul-le-mul_right,
-      mul-le-mul_left,
-    )
+    grind (arith, common_steps, ints, unsigned_abs-mul, mul-le-mul_right, mul-le-mul_left)
 
 is_small : (z : ℤ) → is_i64 z ≡ true → unsigned_abs z ≤ 2 ^ 63
 unfolding is_i64

@@ -4,7 +4,7 @@ use Rattle.star_safety.proofs.Common.{Aggregate, Count, Holds, KeyValue, Max, Mi
 use borrow.Author.Differences.{up, down, sum_is_lem}
 use Rattle.star_safety.proofs.Tally.{Tally, once, joined_range, plus, tally_of, tally_sum, tally_range, sum_fits, range_is}
 use Rattle.star_safety.proofs.Numbers.{holds_itself, holds_hull_left, holds_hull_right, fits_in, up_grows}
-use Rattle.star_safety.proofs.TallyOrder.{LiesIn, lies_in_left, lies_in_right, AtMost}
+use Rattle.star_safety.proofs.TallyOrder.{LiesIn, lies_in_right, AtMost}
 use Rattle.std.proofs.lemmas.Grind.{common_steps}
 
 -- ---- sums, by the sign of their numbers
@@ -62,17 +62,7 @@ tallied_more t u vs p w = grind (arith, common_steps, ints, all_in_wider)
 pub tallied_put : (t : Tally) (r : Range) (v : ℤ) (vs : List ℤ) → IsTallied t vs
     → Holds r v → IsTallied (plus t (once r)) (v ∷ vs)
 tallied_put t r v vs w h =
-    grind (
-      arith,
-      common_steps,
-      ints,
-      up_grows,
-      in_wider,
-      joined_range,
-      lies_in_right,
-      all_in_wider,
-      lies_in_left,
-    )
+    grind (arith, common_steps, ints, up_grows, in_wider, joined_range, lies_in_right, all_in_wider)
 
 -- ---- what fits
 

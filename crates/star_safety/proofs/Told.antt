@@ -25,8 +25,7 @@ pub record Tells (w : World) (parts : Parts) (round : List Enclosing) (x : Conte
 one_more : (at : ℕ) (earlier : List Standing) (i : Standing) → is_instruction i ≡ true
     → at ≡ length (filter is_instruction earlier) + 1
     → at + 1 ≡ length (filter is_instruction (earlier ++ i ∷ [])) + 1
-one_more at earlier i e h =
-    grind (arith, common_steps, filter-append, is_instruction, i, length-append)
+one_more at earlier i e h = grind (arith, common_steps, filter-append, i, length-append)
 
 numbered_more : (at : ℕ) (earlier : List Standing) (i : Standing) → i.number ≤ at + 1
     → EachOf (λ j. j.number ≤ at) earlier
@@ -168,18 +167,7 @@ pub tells_stop : (w : World) (parts : Parts) (round : List Enclosing) (x : Conte
     → Tells w parts round x at
     (earlier ++ record { number = at; round = round; context = x; item = BodyEnd } ∷ [])
 tells_stop w parts round x at earlier told =
-    grind (
-      arith,
-      common_steps,
-      filter-append,
-      is_instruction,
-      append-nil,
-      or-false,
-      writes_to,
-      list_any-append,
-      option_map,
-      standing_result,
-    )
+    grind (arith, common_steps, filter-append, append-nil, or-false, list_any-append)
 
 -- ---- each instruction
 

@@ -1,6 +1,6 @@
 -- Every bound that a refusal tells fits 128 bits.
 use Rattle.std.proofs.Common.{◌≡◌, ℕ, ◌+◌, ◌*◌, ◌^◌, ◌≤◌, Bool, false, List, Option, Some, None, refl, ap, subst, ◌∙◌, arith, lit<, ◌⊎◌, inl, inr, ⊎_elim}
-use Rattle.star_safety.proofs.Common.{AllNameI64, AreI64, Assign, Code, ColumnId, Context, Each, Fault, Faulty, FitsI128, FitsI64, IsWithinLimits, Keep, Known, NamesI64, Op, Overflow, Parts, Put, Range, Reached, Read, Reason, Refused, Stop, Then, World, after_op, after_scan, at_end, at_first, at_place, code_size, first_answer, first_reason, first_refusal, fits_i64, in_scan, instructions_of, is_text, kind_reason, leb-true, most_of, mul-le-mul_right, none_open, only, op_reason, open_with, option_map, option_or, overflow_of, pos, put_share, quote, range_reason, reason_of, refuses, result_known, scan_reason, shown_fault, source_reason, turns_met}
+use Rattle.star_safety.proofs.Common.{AllNameI64, AreI64, Assign, Code, ColumnId, Context, Each, Fault, Faulty, FitsI128, FitsI64, IsWithinLimits, Keep, Known, NamesI64, Op, Overflow, Parts, Put, Range, Reached, Read, Reason, Refused, Stop, Then, World, after_op, after_scan, at_end, at_first, at_place, code_size, first_answer, first_reason, first_refusal, fits_i64, in_scan, instructions_of, is_text, kind_reason, leb-true, most_of, mul-le-mul_right, none_open, only, op_reason, open_with, option_map, option_or, overflow_of, pos, put_share, quote, range_reason, reason_of, refuses, result_known, scan_reason, source_reason, turns_met}
 use Rattle.star_safety.proofs.{Sound.at_place_none, Forward.first_standing, Sizes.small_fits}
 use Rattle.star_safety.proofs.NarrowRanges.{Fits, Wide, IsWide, Counts, result_wide}
 use Rattle.star_safety.proofs.NarrowCode.{op_fits, in_fits, past_fits, end_fits, first_fits}
@@ -142,18 +142,7 @@ pub refused_instruction : (w : World) (most : ℕ) (parts : Parts) (refused : �
     → (quote w.size parts ≤ most)
     × (first_answer (reason_of w parts) (instructions_of w parts) ≡ Some refused)
 refused_instruction w most parts refused e =
-    grind (
-      arith,
-      common_steps,
-      ⊎_elim,
-      leb-true,
-      quote,
-      shown_fault,
-      either_first,
-      option_map,
-      first_answer,
-      reason_of,
-    )
+    grind (arith, common_steps, ⊎_elim, leb-true, either_first)
 
 pub told_bounds_fit : (w : World) (most : ℕ) (parts : Parts) (at : ℕ) (r : Range)
     (columns : List Reached) → IsWithinLimits parts → most ≤ 10 ^ 15 → AreI64 w parts

@@ -72,17 +72,7 @@ entry_numbers known t k here all r = grind (arith, common_steps, reach_at)
 after_reaches : (w : World) (parts : Parts) (x : Context) (op : Op) → Reaches x
     → Reaches (after_op w parts x op)
 after_reaches w parts x op h =
-    grind (
-      arith,
-      common_steps,
-      entry_numbers,
-      result_known,
-      result_numbers,
-      reach_of,
-      put_share,
-      joined_numbers,
-      share_numbers,
-    )
+    grind (arith, common_steps, entry_numbers, result_numbers, joined_numbers, share_numbers)
 
 inside_reaches : (w : World) (x : Context) (table : TableId) (r : ℕ) → Reaches x
     → Reaches (in_scan w x table r)

@@ -1,17 +1,15 @@
 -- Blanks in front of a text.
-use Rattle.std.proofs.Common.{◌≡◌, ◌++◌, ◌&&◌, ℕ, List, [], ◌∷◌, Bool, true, false, refl}
+use Rattle.std.proofs.Common.{◌≡◌, ◌++◌, ◌&&◌, ℕ, List, [], ◌∷◌, Bool, true, false, refl, arith}
 use Rattle.std.specs.Prelude.{if◌then◌else◌}
 use Rattle.star_statements.specs.{Blanks.without_blanks, Private.Drafts.is_empty}
 use Rattle.star_common.specs.WhiteSpace.{is_blank}
 
 module _ {X : Type 0} (x y : X) where
   pub if_true : (b : Bool) → b ≡ true → (if b then x else y) ≡ x
-  if_true true e = refl
-  if_true false e = cc
+  if_true it e = grind arith
 
   pub if_false : (b : Bool) → b ≡ false → (if b then x else y) ≡ y
-  if_false true e = cc
-  if_false false e = refl
+  if_false it e = grind arith
 
 -- one less
 pub past_blank : (c : ℕ) (rest : List ℕ) → is_blank c ≡ true
@@ -30,8 +28,4 @@ pub without_blanks-more : (text : List ℕ) (c : ℕ) → without_blanks (text +
     ≡ (if is_empty (without_blanks text) && is_blank c then [] else without_blanks text ++ c ∷ [])
 unfolding without_blanks
 without_blanks-more [] c = refl
-without_blanks-more (x ∷ text) c =
-    elim (is_blank x) as (λ b. (if b then without_blanks (text ++ c ∷ []) else x ∷ (text ++ c ∷ []))
-    ≡ (if is_empty (if b then without_blanks text else x ∷ text) && is_blank c then []
-    else (if b then without_blanks text else x ∷ text) ++ c ∷ []))
-    [ true ↦ without_blanks-more text c | false ↦ refl ]
+without_blanks-more (x ∷ text) c = grind (arith, without_blanks-more text c)

@@ -1,7 +1,7 @@
 -- The statements of a text have its bytes, and are cut by its bytes one after another.
-use Rattle.std.proofs.Common.{◌≡◌, ◌∙◌, ◌++◌, ◌==◌, ◌&&◌, ◌||◌, ℕ, List, [], ◌∷◌, Bool, true, false, append_assoc, ap, refl, subst, sym}
-use Rattle.std.proofs.{lemmas.Bool.eqb-true, lemmas.List.Folds.list_all-append, Math.Bool.and-false}
-use Rattle.std.specs.{Prelude.if◌then◌else◌, List.concat, List.list_all}
+use Rattle.std.proofs.Common.{◌≡◌, ◌∙◌, ◌++◌, ◌==◌, ◌&&◌, ◌||◌, ℕ, List, [], ◌∷◌, Bool, true, false, ap, refl, subst, sym, arith}
+use Rattle.std.proofs.{lemmas.Bool.eqb-true, Math.Bool.and-false, lemmas.Grind.common_steps}
+use Rattle.std.specs.{Prelude.if◌then◌else◌, List.concat}
 use Rattle.star_statements.proofs.BlankLemmas.{if_false}
 use Rattle.star_common.specs.WhiteSpace.{is_blank}
 use Rattle.star_statements.specs.Statements.{ends_statement, joined_to_first, statement_lines, statements_in, statements_of}
@@ -10,34 +10,24 @@ use Rattle.star_statements.specs.{Private.Drafts.cut_statements, Private.Drafts.
 pub concat-joined : (piece : List ℕ) (others : List (List ℕ))
     → concat (joined_to_first piece others) ≡ piece ++ concat others
 unfolding joined_to_first
-concat-joined piece [] = refl
-concat-joined piece (first ∷ others) = append_assoc piece first (concat others)
+concat-joined piece it = grind (arith, common_steps)
 
 concat-chosen : (b : Bool) (xs ys : List (List ℕ)) (text : List ℕ) → concat xs ≡ text
     → concat ys ≡ text
     → concat (if b then xs else ys) ≡ text
-concat-chosen true xs ys text e f = e
-concat-chosen false xs ys text e f = f
+concat-chosen it xs ys text e f = grind arith
 
 concat-lines : (text : List ℕ) → concat (statement_lines text) ≡ text
 unfolding statement_lines
 concat-lines [] = refl
-concat-lines (c ∷ rest) =
-    concat-chosen (c == 10) ((c ∷ []) ∷ statement_lines rest)
-    (joined_to_first (c ∷ []) (statement_lines rest)) (c ∷ rest)
-    (ap (λ l. c ∷ l) (concat-lines rest))
-    (concat-joined (c ∷ []) (statement_lines rest) ∙ ap (λ l. c ∷ l) (concat-lines rest))
+concat-lines (c ∷ rest) = grind (arith, concat-lines rest, concat-chosen, concat-joined)
 
 concat-grouped : (lines : List (List ℕ)) → concat (statements_in lines) ≡ concat lines
 unfolding statements_in
 concat-grouped [] = refl
 concat-grouped (line ∷ []) = refl
 concat-grouped (line ∷ (next ∷ lines)) =
-    concat-chosen (ends_statement line) (line ∷ statements_in (next ∷ lines))
-    (joined_to_first line (statements_in (next ∷ lines)))
-    (line ++ (next ++ concat lines)) (ap (λ l. line ++ l) (concat-grouped (next ∷ lines)))
-    (concat-joined line (statements_in (next ∷ lines))
-    ∙ ap (λ l. line ++ l) (concat-grouped (next ∷ lines)))
+    grind (arith, concat-grouped (next ∷ lines), concat-chosen, concat-joined)
 
 pub concat-statements : (text : List ℕ) → concat (statements_of text) ≡ text
 concat-statements text = concat-grouped (statement_lines text) ∙ concat-lines text
@@ -47,9 +37,7 @@ concat-statements text = concat-grouped (statement_lines text) ∙ concat-lines 
 pub joined_assoc : (piece next : List ℕ) (others : List (List ℕ))
     → joined_to_first piece (joined_to_first next others) ≡ joined_to_first (piece ++ next) others
 unfolding joined_to_first
-joined_assoc piece next [] = refl
-joined_assoc piece next (first ∷ others) =
-    ap (λ l. l ∷ others) (sym (append_assoc piece next first))
+joined_assoc piece next it = grind (arith, common_steps)
 
 -- one piece at least
 abbrev pub HasOne : List (List ℕ) → Type 0
@@ -68,55 +56,35 @@ chosen_some false xs ys _ some = some
 pub lines_some : (text : List ℕ) → HasOne (statement_lines text)
 unfolding statement_lines
 lines_some [] = ([], ([], refl))
-lines_some (c ∷ rest) =
-    chosen_some (c == 10) ((c ∷ []) ∷ statement_lines rest)
-    (joined_to_first (c ∷ []) (statement_lines rest))
-    (c ∷ [], (statement_lines rest, refl)) (joined_some (c ∷ []) (statement_lines rest))
+lines_some (c ∷ rest) = grind (arith, chosen_some, joined_some)
 
 cut_some : (ends : Bool) (text : List ℕ) → HasOne (cut_statements ends text)
 unfolding cut_statements
 cut_some ends [] = ([], ([], refl))
-cut_some ends (c ∷ rest) =
-    chosen_some (ends && (c == 10)) ((c ∷ []) ∷ cut_statements false rest)
-    (joined_to_first (c ∷ []) (cut_statements (ends_behind ends c) rest))
-    (c ∷ [], (cut_statements false rest, refl))
-    (joined_some (c ∷ []) (cut_statements (ends_behind ends c) rest))
+cut_some ends (c ∷ rest) = grind (arith, chosen_some, joined_some)
 
 joined-nil : (pieces : List (List ℕ)) → HasOne pieces → joined_to_first [] pieces ≡ pieces
 unfolding joined_to_first
-joined-nil [] some = cc
-joined-nil (first ∷ others) some = refl
+joined-nil it some = grind arith
 
 grouped_line : (line : List ℕ) (lines : List (List ℕ)) → HasOne lines → statements_in (line ∷ lines)
     ≡ (if ends_statement line then line ∷ statements_in lines
     else joined_to_first line (statements_in lines))
 unfolding statements_in
-grouped_line line [] some = cc
-grouped_line line (next ∷ lines) some = refl
+grouped_line line it some = grind arith
 
 both : (a p b s e : Bool)
     → ((a && (p && (b && true))) || (s || (e && b))) ≡ (s || (((a && p) || e) && b))
-both false p b s e = refl
-both true false b s e = refl
-both true true false s true = refl
-both true true false s false = refl
-both true true true true e = refl
-both true true true false e = refl
+both it p b s e = grind arith
 
 ends-one : (s b : Bool) → ((s && true) || false) ≡ (s || (false && b))
-ends-one true b = refl
-ends-one false b = refl
+ends-one it b = grind arith
 
 ends-more : (line : List ℕ) (c : ℕ)
     → ends_statement (line ++ c ∷ []) ≡ ends_behind (ends_statement line) c
 unfolding ends_statement
 ends-more [] c = ends-one (c == 59) (is_blank c)
-ends-more (x ∷ line) c =
-    ap (λ r. ((x == 59) && r) || ends_statement (line ++ c ∷ []))
-    (list_all-append is_blank line (c ∷ []))
-    ∙ ap (λ r. ((x == 59) && (list_all is_blank line && (is_blank c && true))) || r)
-    (ends-more line c)
-    ∙ both (x == 59) (list_all is_blank line) (is_blank c) (c == 59) (ends_statement line)
+ends-more (x ∷ line) c = grind (arith, common_steps, ends-more line c)
 
 -- what stands behind a line end
 behind_end : (line rest : List ℕ) (ends : Bool) → ends_statement line ≡ ends
@@ -125,18 +93,7 @@ behind_end : (line rest : List ℕ) (ends : Bool) → ends_statement line ≡ en
     ≡ joined_to_first line (if ends && true then (10 ∷ []) ∷ cut_statements false rest
     else joined_to_first (10 ∷ []) (cut_statements (ends_behind ends 10) rest))
 unfolding joined_to_first
-behind_end line rest ends e same =
-    grouped_line (line ++ 10 ∷ []) (statement_lines rest) (lines_some rest)
-    ∙ ap (λ pieces. if ends_statement (line ++ 10 ∷ []) then (line ++ 10 ∷ []) ∷ pieces
-    else joined_to_first (line ++ 10 ∷ []) pieces) same
-    ∙ ap (λ b. if b then (line ++ 10 ∷ []) ∷ cut_statements false rest
-    else joined_to_first (line ++ 10 ∷ []) (cut_statements false rest))
-    (ends-more line 10 ∙ ap (λ b. ends_behind b 10) e)
-    ∙ (elim ends as (λ b. (if ends_behind b 10 then (line ++ 10 ∷ []) ∷ cut_statements false rest
-    else joined_to_first (line ++ 10 ∷ []) (cut_statements false rest))
-    ≡ joined_to_first line (if b && true then (10 ∷ []) ∷ cut_statements false rest
-    else joined_to_first (10 ∷ []) (cut_statements (ends_behind b 10) rest)))
-    [ true ↦ refl | false ↦ sym (joined_assoc line (10 ∷ []) (cut_statements false rest)) ])
+behind_end line rest ends e same = grind (arith, grouped_line, lines_some, ends-more, joined_assoc)
 
 -- what a line that has begun comes to with these bytes behind it
 abbrev IsCutAfter : List ℕ → List ℕ → Type 0
@@ -160,12 +117,7 @@ one_more rest behind c line true e =
     ≡ joined_to_first line (if ends_statement line && true then (x ∷ []) ∷ cut_statements false rest
     else joined_to_first (x ∷ []) (cut_statements (ends_behind (ends_statement line) x) rest)))
     (sym (eqb-true c 10 e)) (behind_end line rest (ends_statement line) refl same)
-one_more rest behind c line false e =
-    ap statements_in (joined_assoc line (c ∷ []) (statement_lines rest)) ∙ behind (line ++ c ∷ [])
-    ∙ ap (λ b. joined_to_first (line ++ c ∷ []) (cut_statements b rest)) (ends-more line c)
-    ∙ sym (joined_assoc line (c ∷ []) (cut_statements (ends_behind (ends_statement line) c) rest))
-    ∙ ap (joined_to_first line)
-    (sym (if_false _ _ (ends_statement line && false) (and-false (ends_statement line))))
+one_more rest behind c line false e = grind (arith, joined_assoc, ends-more, if_false, and-false)
 
 lines_cut : (text line : List ℕ) → IsCutAfter text line
 unfolding statement_lines statements_in joined_to_first cut_statements
@@ -179,5 +131,4 @@ statements_cut text =
     ap statements_in (sym (joined-nil (statement_lines text) (lines_some text))) ∙ lines_cut text []
 
 pub statements_from_cut : (text : List ℕ) → statements_of text ≡ cut_statements false text
-statements_from_cut text =
-    statements_cut text ∙ joined-nil (cut_statements false text) (cut_some false text)
+statements_from_cut text = grind (arith, statements_cut, joined-nil, cut_some)

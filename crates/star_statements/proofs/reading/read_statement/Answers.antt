@@ -1,7 +1,7 @@
-use Rattle.std.proofs.Common.{◌≡◌, ◌∙◌, ◌++◌, ◌+◌, ◌∷◌, [], true, false, Ok, arith, ap, inr, length, refl, rules, subst, sym}
+use Rattle.std.proofs.Common.{◌≡◌, ◌∙◌, ◌++◌, ◌+◌, ◌∷◌, [], true, false, Ok, arith, ap, inr, refl, rules, subst, sym}
 use Rattle.std.proofs.{lemmas.List.length-append}
 use Rattle.std.specs.Io.KnownBytes.{Consumes}
-use Rattle.star_statements.specs.{Sources.IsStatementRead, Sources.reader_of, Private.Drafts.IsDraft, Private.Drafts.closes_statement, Private.Drafts.ends_behind, Private.Drafts.with_byte}
+use Rattle.star_statements.specs.{Sources.IsStatementRead, Sources.reader_of, Private.Drafts.IsDraft, Private.Drafts.closes_statement, Private.Drafts.ends_behind}
 use Rattle.star_statements.proofs.DraftLemmas.{draft_begins, draft_ends, draft_goes_on, draft_is_last, kept-more, length-kept, of_some}
 use Rattle.star_statements.proofs.reading.read_statement.Goals as goal
 
@@ -24,10 +24,7 @@ returns-in_default-clause-read g c =
     (drafted.0, draft_is_last _ _ _ _ _ _ drafted.2 ended.0 ended.1)
 
 pub returns-in_default-clause-within : goal.returns-in_default-clause-within
-returns-in_default-clause-within g c =
-    let drafted = c.bytes.invariant.1 in
-    let few = length-kept drafted.0 in
-    omega (arith, few, ap length drafted.2.keeps)
+returns-in_default-clause-within g c = grind (arith, length-kept)
 
 pub returns-then-closes-clause-read : goal.returns-then-closes-clause-read
 returns-then-closes-clause-read g c =
@@ -45,12 +42,7 @@ returns-then-closes-clause-read g c =
     )
 
 pub returns-then-closes-clause-within : goal.returns-then-closes-clause-within
-returns-then-closes-clause-within g c =
-    let drafted = c.bytes.invariant.1 in
-    let few = length-kept (drafted.0 ++ c.in-Some.byte ∷ []) in
-    let whole = c.in_ok-keep.ensures ∙ ap (λ text. with_byte text c.in-Some.byte) drafted.2.keeps
-    ∙ kept-more drafted.0 c.in-Some.byte in
-    omega (arith, few, ap length whole)
+returns-then-closes-clause-within g c = grind (arith, length-kept, kept-more)
 
 pub bytes-preserved : goal.bytes-preserved
 bytes-preserved g c =
