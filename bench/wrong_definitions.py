@@ -1,6 +1,7 @@
 """The small wrong definitions of a file of `specs/`: one edit of one clause each."""
 
 import re
+from collections import Counter
 from pathlib import Path
 from typing import Iterator, NamedTuple
 
@@ -168,8 +169,8 @@ def changes(text: str, found: list[Clause], at: int) -> Iterator[tuple[str, str]
 
 
 def edits(text: str) -> Iterator[Edit]:
-    """Yields the wrong definitions of a file, each text once."""
-    found, seen = clauses(text), set()
+    """Yields the wrong definitions of a file, each text once and each description once."""
+    found, seen, made = clauses(text), set(), Counter()
     for at, clause in enumerate(found):
         before, body, after = text[: clause.start], text[clause.start : clause.end], text[clause.end :]
         for change, new in changes(text, found, at):
@@ -178,7 +179,9 @@ def edits(text: str) -> Iterator[Edit]:
             if new != body and whole not in seen:
                 seen.add(whole)
                 line = text.count("\n", 0, clause.start) + 1
-                yield Edit(clause.name, f"line {line}: {change}", imported(whole, change))
+                made[line, change] += 1
+                number = f" ({made[line, change]})" if made[line, change] > 1 else ""
+                yield Edit(clause.name, f"line {line}: {change}{number}", imported(whole, change))
 
 
 def files_of(specs: Path) -> list[Path]:

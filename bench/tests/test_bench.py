@@ -36,6 +36,7 @@ class Blocks(unittest.TestCase):
         cases = {"left out: IsText ms a", "exchanged in the result: ms ns", "another case's (single b)", "another case's result"}
         self.assertLessEqual(cases, set(made["IsText"]))
         self.assertNotIn("Either", made)
+        self.assertIn("line 1: 0 -> 1 (2)", [it.change for it in edits("ends xs = 0 ∷ xs ++ 0 ∷ []\n")])
 
 
 class Endings(unittest.TestCase):
