@@ -1,12 +1,12 @@
 // The catalogue: five loaded tables.
 
-ghost use Rattle.std.specs.Prelude.{◌≡◌, ◌↔◌, ◌≤◌, ◌<◌, ◌∷◌, [], ℕ, ℤ, All, Some, IfErr, IfOk, IsSome, length, slice_get};
+ghost use Rattle.std.specs.Prelude.{◌≡◌, ◌↔◌, ◌≤◌, ◌<◌, ◌∷◌, [], ℕ, ℤ, All, Some, IfErr, IfOk, IsSome, List, length, slice_get};
 ghost use Rattle.star_common.specs.Memory.{UnlessMemory};
 ghost use Rattle.star_schema.specs.Columns.{AreBoundsI64, bounds_in, column_dictionary, column_numbers, column_texts};
 ghost use Rattle.star_schema.specs.{Bounds.greatest, Bounds.least, Database.TableTexts, Database.rows_in, Loadable.IsLoadable, Loadable.IsSound, Loadable.database_of, Loadable.keys_of, Schema.kind_of, Schema.references, Schema.table_of, Sizes.size_of, Tables.IsRowOf};
 ghost use Rattle.star_schema.specs.{declared.table.TableId.TableId, Dictionary.HasCode, Dictionary.codes_of, Dictionary.high_in, Dictionary.low_in};
 ghost use Rattle.star_column.specs.{Masks.lies, Masks.mask_of, Width.bits_of};
-ghost use Rattle.star_catalogue.specs.{ReferredRows.AreReferredRows, Load.load_fault, Load.texts_view, Pieces.AreRead, Pieces.AreReadSome};
+ghost use Rattle.star_catalogue.specs.{ReferredRows.AreReferredRows, Load.load_fault, Load.texts_view, Pieces.AreRead, Pieces.AreReadSome, Pieces.IsReadNextTo, Pieces.with_lineorder_text, Private.FiveTables.AreRowsOfTables};
 
 use crate::fault::LoadFault;
 use crate::read_tables::ReadTables;
@@ -16,6 +16,7 @@ use crate::tables::Tables;
 use crate::texts::Texts;
 use star_column::{ColumnData, ColumnView, JoinIndex};
 use star_interval::Interval;
+use star_reader::TableReader;
 use star_schema::{ColumnId, Kind, Limits, Sizes, TableId, kind_of};
 use std::alloc::Global;
 use std::marker::Model;
@@ -74,6 +75,46 @@ impl Catalogue {
             ((load_fault most texts ≡ Some fault) × ¬ IsLoadable most texts)) }
     {
         let loaded = Tables::finish(alloc, read)?;
+        Catalogue::of_tables(alloc, loaded)
+    }
+
+    /// Returns the catalogue of the same dimensions and the lineorder that a reader was given, or the
+    /// first error, as `load` does.
+    pub fn with_lineorder(
+        self,
+        alloc: Global,
+        reader: Box<TableReader>,
+    ) -> Result<Catalogue, LoadFault>
+        requires { (most : ℕ) × (texts : TableTexts) × (text : List (List ℕ))
+            × IsReadNextTo self reader.value most texts text }
+        ensures loadable { (most : ℕ) (texts : TableTexts) (text : List (List ℕ))
+            → IsReadNextTo self reader.value most texts text
+            → IfOk result (λ catalogue. IsLoadable most (with_lineorder_text texts text)) }
+        ensures rows { (most : ℕ) (texts : TableTexts) (text : List (List ℕ))
+            → IsReadNextTo self reader.value most texts text → IfOk result
+            (λ catalogue. catalogue ≡ database_of (with_lineorder_text texts text)) }
+        ensures refused { (most : ℕ) (texts : TableTexts) (text : List (List ℕ))
+            → IsReadNextTo self reader.value most texts text
+            → let all = with_lineorder_text texts text in
+            IfErr result (λ fault. UnlessMemory LoadFault.OutOfMemory fault
+            ((load_fault most all ≡ Some fault) × ¬ IsLoadable most all)) }
+    {
+        let Catalogue { tables, .. } = self;
+        let loaded = Box::into_inner(tables).with_lineorder(alloc, reader)?;
+        Catalogue::of_tables(alloc, loaded)
+    }
+
+    // Finds the rows that the foreign keys of five tables refer to.
+    fn of_tables(alloc: Global, loaded: Tables) -> Result<Catalogue, LoadFault>
+        requires { (most : ℕ) × (texts : TableTexts) × AreRowsOfTables most texts loaded }
+        ensures loadable { (most : ℕ) (texts : TableTexts) → AreRowsOfTables most texts loaded
+            → IfOk result (λ catalogue. IsLoadable most texts) }
+        ensures rows { (most : ℕ) (texts : TableTexts) → AreRowsOfTables most texts loaded
+            → IfOk result (λ catalogue. catalogue ≡ database_of texts) }
+        ensures refused { (most : ℕ) (texts : TableTexts) → AreRowsOfTables most texts loaded
+            → IfErr result (λ fault. UnlessMemory LoadFault.OutOfMemory fault
+            ((load_fault most texts ≡ Some fault) × ¬ IsLoadable most texts)) }
+    {
         let tables = Box::new(alloc, loaded)?;
         match Referred::build(alloc, &tables)? {
             Some(referred) => Ok(Catalogue {

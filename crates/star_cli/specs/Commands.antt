@@ -4,7 +4,7 @@ use Rattle.std.specs.Borrow.{Bor}
 use Rattle.star_schema.specs.Database.{TableTexts}
 use Rattle.star_engine.specs.{Answered.Change, Loads.Loaded}
 use Rattle.star_service.specs.{Lines.IsTextTold, Reports.AreAllDelivered, Reports.AreAllJudged, Sessions.IsSession, Shelves.Shelving, declared.reports.Errand.Errand, declared.reports.Halt.Halt}
-use Rattle.star_words.specs.{Requests.IsRequest, Requests.IsWordsFault, declared.fault.WordsFault.WordsFault, declared.request.Merge.Merge as MergeAsked, declared.request.Reports.Reports as ReportsAsked, declared.request.Request.TheVariants.Answer, declared.request.Request.TheVariants.Merge, declared.request.Request.TheVariants.Partial, declared.request.Request.TheVariants.Reports, declared.request.Request.TheVariants.Session, declared.request.Task.Task}
+use Rattle.star_words.specs.{Requests.IsRequest, Requests.IsWordsFault, declared.fault.WordsFault.WordsFault, declared.request.Merge.Merge as MergeAsked, declared.request.Partials.Partials as PartialsAsked, declared.request.Reports.Reports as ReportsAsked, declared.request.Request.TheVariants.Answer, declared.request.Request.TheVariants.Merge, declared.request.Request.TheVariants.Partial, declared.request.Request.TheVariants.Reports, declared.request.Request.TheVariants.Session, declared.request.Task.Task}
 use Rattle.star_cli.specs.{Answers.IsExitOf, Failures.AreReportsEnded, Failures.IsFailureTold, FolderLoads.IsFolderRefused, FolderLoads.IsWidest, declared.failure.Failure.Failure, declared.failure.Failure.TheVariants.OutOfMemory, declared.failure.Failure.TheVariants.Words}
 
 -- a task is answered over some tables and some file; or the failure to read one is printed
@@ -82,7 +82,7 @@ pub data IsCommandDone {S E : Type 0} (K : Type 0) (words : List (List ℕ)) (in
       → AreReportsDone K asked.is_quote out err status
       → IsCommandDone K words input out err status
   -- of the output of `partial` and `merge` nothing is promised
-  a_partial : (folder file : Bor (List ℕ)) (part : ℕ) → IsRequest words (Partial folder file part)
+  some_partials : (asked : PartialsAsked) → IsRequest words (Partial asked)
       → IsCommandDone K words input out err status
   a_merge : (asked : MergeAsked) → IsRequest words (Merge asked)
       → IsCommandDone K words input out err status

@@ -18,7 +18,7 @@ use crate::failure::{Failure, end};
 use crate::files::{find_folder, read_file, read_tables, sample_tables};
 use crate::input::StandardInput;
 use crate::loads::load_engine;
-use crate::partials::{make_partial, merge_partials};
+use crate::partials::{make_partials, merge_partials};
 use crate::progress::Watch;
 use star_common::{Out, Sink};
 use star_engine::{Engine, ReadTables};
@@ -212,6 +212,7 @@ fn report_over<'f, R: Files + AllocGlobal, S: Sink>(
     let mut shelf = Directory {
         rt,
         folder: asked.target,
+        ending: "report",
         failed_at: None,
     };
     deliver_all(rt.alloc(), engine, errands, &mut shelf, out)
@@ -322,9 +323,7 @@ pub fn command<R: Files + AllocGlobal, I: io::Read + Drop, P: Watch, S: Sink, E:
         Request::Answer(task) => answer_task(rt, task, progress, out, err),
         Request::Session { folder } => hold_session(rt, folder, input, progress, out, err),
         Request::Reports(asked) => make_reports(rt, &asked, progress, out, err),
-        Request::Partial { folder, file, part } => {
-            make_partial(rt, folder, file, part, progress, out, err)
-        }
+        Request::Partial(asked) => make_partials(rt, &asked, progress, out, err),
         Request::Merge(asked) => merge_partials(rt, &asked, out, err),
     }
 }

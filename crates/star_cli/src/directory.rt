@@ -12,12 +12,14 @@ use std::{fs, io};
 
 // A part that a killed run left is written over by the next. A folder is one command's at a time:
 // two that write reports of one name at once share its part.
-/// A folder as a shelf. A report is the file `NAME.report`. It is written whole under another name,
-/// `NAME.report.part`, and then renamed, so that no half report is ever seen under its own.
+/// A folder as a shelf. A report is the file `NAME.report`, a partial `NAME.partial`. It is written
+/// whole under another name, `NAME.report.part`, and then renamed, so that no half report is ever seen
+/// under its own.
 #[derive(Clone, Copy)]
 pub(crate) struct Directory<'a, R> {
     pub(crate) rt: &'a R,
     pub(crate) folder: &'a str,
+    pub(crate) ending: &'static str,
     // How many bytes of the last report were sent, where a write of it failed.
     pub(crate) failed_at: Option<u64>,
 }
@@ -69,8 +71,9 @@ impl<'a, R: Files> Shelf for Directory<'a, R> {
 
     fn keep(&mut self, alloc: Global, name: &str, report: &[u8]) -> Result<(), ShelfFault> {
         let folder = self.folder;
-        let path = format!(in alloc; "{folder}/{name}.report")?;
-        let part = format!(in alloc; "{folder}/{name}.report.part")?;
+        let ending = self.ending;
+        let path = format!(in alloc; "{folder}/{name}.{ending}")?;
+        let part = format!(in alloc; "{folder}/{name}.{ending}.part")?;
         match write_renamed(self.rt, part.as_str(), path.as_str(), report) {
             Ok(()) => {
                 self.failed_at = None;

@@ -338,6 +338,21 @@ pub(crate) fn read_part_tables<R: Files + AllocGlobal, P: Watch>(
     read
 }
 
+/// Reads one part of lineorder, as `read_part_tables` does.
+pub(crate) fn read_lineorder_part<R: Files + AllocGlobal, P: Watch>(
+    rt: &R,
+    folder: &str,
+    part: u16,
+    progress: &mut P,
+) -> Result<Box<TableReader>, Failure<'static>>
+    ensures { IfOk result (λ reader. HasReadSome reader.value TableId.Lineorder) }
+{
+    progress.begin();
+    let read = read_one_part(rt, folder, part, progress);
+    progress.end();
+    read
+}
+
 /// The tables of the sample.
 pub(crate) fn sample_tables(alloc: Global) -> Result<ReadTables, AllocError>
     ensures { IfOk result AreWidelyRead }

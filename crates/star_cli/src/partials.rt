@@ -1,18 +1,21 @@
-// The commands on partials: one is printed, or some are merged.
+// The commands on partials: some are made, or merged.
 
-ghost use Rattle.std.specs.Prelude.{IfOk};
-ghost use Rattle.star_cli.specs.ReadFolders.{AreWidelyRead};
+ghost use Rattle.std.specs.Prelude.{IfOk, IfSome};
+ghost use Rattle.star_cli.specs.FolderLoads.{IsWidest};
 
+use crate::directory::Directory;
 use crate::failure::Failure;
-use crate::files::{read_file, read_part_tables, read_partial_file};
+use crate::files::{
+    find_folder, read_file, read_lineorder_part, read_part_tables, read_partial_file,
+};
 use crate::loads::engine_of;
 use crate::progress::Watch;
 use star_common::Sink;
-use star_engine::{EngineFault, Question, ReadTables};
-use star_merger::{Merger, Partial, PartialFault, PartialsFault, write_partial};
+use star_engine::{Engine, EngineFault, Question};
+use star_merger::{Merger, Partial, PartialFault, PartialsFault, partial_text, write_partial};
 use star_schema::Limits;
-use star_service::{Shown, tell, tell_fault};
-use star_words::Merge;
+use star_service::{Shelf, ShelfFault, Shown, tell, tell_fault};
+use star_words::{Merge, Partials};
 use std::alloc::{AllocError, Global};
 use std::fmt;
 use std::rt::Files;
@@ -20,9 +23,9 @@ use std::rt::Files;
 /// The exit status of a fault of a partial.
 const PARTIAL_STATUS: u8 = 8;
 
-/// Why partials were not merged.
+/// Why partials were not made or merged.
 #[derive(Drop)]
-enum Unmerged<'a> {
+enum Undone<'a> {
     Failure(Failure<'a>),
     Fault(EngineFault),
     /// The file of this name has a fault; the keys of another may overlap its own.
@@ -33,15 +36,15 @@ enum Unmerged<'a> {
     },
 }
 
-impl<'a> From<Failure<'a>> for Unmerged<'a> {
-    fn from(failure: Failure<'a>) -> Unmerged<'a> {
-        Unmerged::Failure(failure)
+impl<'a> From<Failure<'a>> for Undone<'a> {
+    fn from(failure: Failure<'a>) -> Undone<'a> {
+        Undone::Failure(failure)
     }
 }
 
-impl<'a> From<EngineFault> for Unmerged<'a> {
-    fn from(fault: EngineFault) -> Unmerged<'a> {
-        Unmerged::Fault(fault)
+impl<'a> From<EngineFault> for Undone<'a> {
+    fn from(fault: EngineFault) -> Undone<'a> {
+        Undone::Fault(fault)
     }
 }
 
@@ -79,21 +82,21 @@ fn tell_partial<S: Sink, E: Sink>(
     }
 }
 
-impl<'a> Unmerged<'a> {
+impl<'a> Undone<'a> {
     // A fault of the partial of this name.
-    fn of_partial(name: &'a str, fault: PartialFault, other: Option<&'a str>) -> Unmerged<'a> {
+    fn of_partial(name: &'a str, fault: PartialFault, other: Option<&'a str>) -> Undone<'a> {
         match fault {
-            PartialFault::OutOfMemory => Unmerged::Fault(EngineFault::OutOfMemory),
-            fault => Unmerged::Partial { name, fault, other },
+            PartialFault::OutOfMemory => Undone::Fault(EngineFault::OutOfMemory),
+            fault => Undone::Partial { name, fault, other },
         }
     }
 
     // Tells what happened, and gives the exit status.
     fn tell<S: Sink, E: Sink>(self, alloc: Global, out: &mut S, err: &mut E) -> u8 {
         match self {
-            Unmerged::Failure(failure) => failure.tell(alloc, out, err),
-            Unmerged::Fault(fault) => tell_fault(alloc, err, &fault),
-            Unmerged::Partial { name, fault, other } => {
+            Undone::Failure(failure) => failure.tell(alloc, out, err),
+            Undone::Fault(fault) => tell_fault(alloc, err, &fault),
+            Undone::Partial { name, fault, other } => {
                 tell_partial(alloc, PartialLine { name, fault, other }, out, err)
             }
         }
@@ -105,7 +108,7 @@ fn read_partials<'a, R: Files + AllocGlobal>(
     rt: &R,
     merger: &Merger,
     paths: &[&'a str],
-) -> Result<Vec<Partial>, Unmerged<'a>> {
+) -> Result<Vec<Partial>, Undone<'a>> {
     let mut partials = Vec::new(rt.alloc());
     for path in paths {
         let text = read_partial_file(rt, path)?;
@@ -115,7 +118,7 @@ fn read_partials<'a, R: Files + AllocGlobal>(
                     .push(partial)
                     .map_err(|_| EngineFault::OutOfMemory)?;
             }
-            Err(fault) => return Err(Unmerged::of_partial(path, fault, None)),
+            Err(fault) => return Err(Undone::of_partial(path, fault, None)),
         }
     }
     Ok(partials)
@@ -130,9 +133,9 @@ fn name_at<'a>(paths: &[&'a str], place: usize) -> &'a str {
 }
 
 // Why the partials of these files were not merged.
-fn fault_of_merge<'a>(paths: &[&'a str], fault: PartialsFault) -> Unmerged<'a> {
+fn fault_of_merge<'a>(paths: &[&'a str], fault: PartialsFault) -> Undone<'a> {
     match fault {
-        PartialsFault::Engine(fault) => Unmerged::Fault(fault),
+        PartialsFault::Engine(fault) => Undone::Fault(fault),
         PartialsFault::Partial {
             place,
             fault,
@@ -142,7 +145,7 @@ fn fault_of_merge<'a>(paths: &[&'a str], fault: PartialsFault) -> Unmerged<'a> {
                 Some(other) => Some(name_at(paths, other)),
                 None => None,
             };
-            Unmerged::of_partial(name_at(paths, place), fault, other)
+            Undone::of_partial(name_at(paths, place), fault, other)
         }
     }
 }
@@ -153,7 +156,7 @@ fn merge_read<'a, R: Files + AllocGlobal, S: Sink, E: Sink>(
     asked: &Merge<'a>,
     out: &mut S,
     err: &mut E,
-) -> Result<(), Unmerged<'a>> {
+) -> Result<(), Undone<'a>> {
     let file = read_file(rt, asked.file)?;
     let merger = Merger::of_query(rt.alloc(), &file)?;
     let paths = asked.partials.as_slice();
@@ -185,53 +188,133 @@ pub(crate) fn merge_partials<R: Files + AllocGlobal, S: Sink, E: Sink>(
     }
 }
 
-// What is read for a partial.
-#[derive(Drop)]
-struct PartRead {
-    file: Vec<u8>,
-    tables: ReadTables,
+// Reads and checks the query of the partials, and finds the folder for them.
+fn query_of_partials<'a, R: Files + AllocGlobal>(
+    rt: &R,
+    asked: &Partials<'a>,
+) -> Result<Vec<u8>, Undone<'a>> {
+    let file = read_file(rt, asked.file)?;
+    let _question = Question::query(rt.alloc(), &file)?;
+    if let Some(target) = asked.target {
+        find_folder(rt, target)?;
+    }
+    Ok(file)
 }
 
-fn read_for_partial<'a, R: Files + AllocGlobal, P: Watch>(
+// Loads a part of lineorder, with the dimensions of a part that was loaded before, if there is one.
+fn load_part<R: Files + AllocGlobal, P: Watch>(
     rt: &R,
     folder: &str,
-    file: &'a str,
     part: u16,
+    loaded: Option<Engine>,
     progress: &mut P,
-) -> Result<PartRead, Failure<'a>>
-    ensures { IfOk result (λ read. AreWidelyRead read.tables) }
+) -> Result<Result<Engine, EngineFault>, Failure<'static>>
+    requires { IfSome loaded IsWidest }
+    ensures { IfOk result (λ loaded. IfOk loaded IsWidest) }
 {
-    let file = read_file(rt, file)?;
-    let tables = read_part_tables(rt, folder, part, progress)?;
-    Ok(PartRead { file, tables })
+    match loaded {
+        Some(engine) => {
+            let lineorder = read_lineorder_part(rt, folder, part, progress)?;
+            Ok(engine.with_lineorder(rt.alloc(), lineorder))
+        }
+        None => {
+            let tables = read_part_tables(rt, folder, part, progress)?;
+            Ok(engine_of(rt.alloc(), tables))
+        }
+    }
 }
 
-// Writes the partial of a query over the tables that were read. A fault of the query comes first.
-fn answer_partial<S: Sink>(alloc: Global, read: PartRead, out: &mut S) -> Result<(), EngineFault>
-    requires { AreWidelyRead read.tables }
-{
-    let PartRead { file, tables } = read;
-    let _question = Question::query(alloc, &file)?;
-    let engine = engine_of(alloc, tables)?;
-    write_partial(alloc, &engine, &file, out)
-}
-
-/// Writes the partial of the query of a file over one part of lineorder, and gives the exit status.
-pub(crate) fn make_partial<R: Files + AllocGlobal, P: Watch, S: Sink, E: Sink>(
+// Keeps a partial under the name of its part in a folder.
+fn keep_partial<'a, R: Files + AllocGlobal>(
     rt: &R,
-    folder: &str,
-    file: &str,
+    target: &str,
+    name: &'a str,
+    partial: &[u8],
+) -> Result<(), Failure<'a>> {
+    let mut directory = Directory {
+        rt,
+        folder: target,
+        ending: "partial",
+        failed_at: None,
+    };
+    match directory.keep(rt.alloc(), name, partial) {
+        Ok(()) => Ok(()),
+        Err(ShelfFault::OutOfMemory) => Err(Failure::OutOfMemory),
+        Err(ShelfFault::Write { sent }) => Err(Failure::Unkept(name, sent)),
+    }
+}
+
+// Keeps the partial of a query over loaded tables under the name of its part, or writes it if there
+// is no folder for it.
+fn deliver_partial<'a, R: Files + AllocGlobal, S: Sink>(
+    rt: &R,
+    engine: &Engine,
+    file: &[u8],
+    target: Option<&str>,
+    name: &'a str,
+    out: &mut S,
+) -> Result<(), Undone<'a>> {
+    match target {
+        Some(target) => {
+            let partial = partial_text(rt.alloc(), engine, file)?;
+            Ok(keep_partial(rt, target, name, &partial)?)
+        }
+        None => Ok(write_partial(rt.alloc(), engine, file, out)?),
+    }
+}
+
+// Loads a part of lineorder and makes the partial over it. Returns the loaded tables, or the exit status
+// of what went wrong.
+fn make_partial<R: Files + AllocGlobal, P: Watch, S: Sink, E: Sink>(
+    rt: &R,
+    asked: &Partials<'_>,
+    file: &[u8],
     part: u16,
+    loaded: Option<Engine>,
+    progress: &mut P,
+    out: &mut S,
+    err: &mut E,
+) -> Result<Engine, u8>
+    requires { IfSome loaded IsWidest }
+    ensures { IfOk result IsWidest }
+{
+    let name = match format!(in rt.alloc(); "{part}") {
+        Ok(name) => name,
+        Err(_) => return Err(Failure::OutOfMemory.tell(rt.alloc(), out, err)),
+    };
+    let loaded = match load_part(rt, asked.folder, part, loaded, progress) {
+        Ok(loaded) => loaded,
+        Err(failure) => return Err(failure.tell(rt.alloc(), out, err)),
+    };
+    match loaded {
+        Ok(engine) => match deliver_partial(rt, &engine, file, asked.target, &name, out) {
+            Ok(()) => Ok(engine),
+            Err(fault) => Err(fault.tell(rt.alloc(), out, err)),
+        },
+        Err(fault) if asked.target.is_none() => Err(tell_fault(rt.alloc(), err, &fault)),
+        Err(fault) => Err(Failure::of_file(&name, fault).tell(rt.alloc(), out, err)),
+    }
+}
+
+/// Makes the partials of the query of a file over parts of lineorder, and gives the exit status. The
+/// dimensions are loaded once. The first failure ends it; the partials before it are kept.
+pub(crate) fn make_partials<R: Files + AllocGlobal, P: Watch, S: Sink, E: Sink>(
+    rt: &R,
+    asked: &Partials<'_>,
     progress: &mut P,
     out: &mut S,
     err: &mut E,
 ) -> u8 {
-    let read = match read_for_partial(rt, folder, file, part, progress) {
-        Ok(read) => read,
-        Err(failure) => return failure.tell(rt.alloc(), out, err),
+    let file = match query_of_partials(rt, asked) {
+        Ok(file) => file,
+        Err(fault) => return fault.tell(rt.alloc(), out, err),
     };
-    match answer_partial(rt.alloc(), read, out) {
-        Ok(()) => 0,
-        Err(fault) => tell_fault(rt.alloc(), err, &fault),
+    let mut loaded = None;
+    for part in &asked.parts {
+        match make_partial(rt, asked, &file, *part, loaded, progress, out, err) {
+            Ok(engine) => loaded = Some(engine),
+            Err(status) => return status,
+        }
     }
+    0
 }

@@ -2,7 +2,7 @@
 
 ghost use Rattle.std.specs.Prelude.{◌≡◌, ◌≤◌, ◌^◌, ◌↔◌, ℕ, Bool, true, List, IfErr, IfOk, IsTrue, MatchResult, string_bytes};
 ghost use Rattle.star_schema.specs.{Database.TableTexts, Loadable.IsLoadable, Loadable.database_of};
-ghost use Rattle.star_catalogue.specs.{Load.texts_view, Pieces.AreRead, Pieces.AreReadSome};
+ghost use Rattle.star_catalogue.specs.{Load.texts_view, Pieces.AreRead, Pieces.AreReadSome, Pieces.IsReadNextTo, Pieces.with_lineorder_text};
 ghost use Rattle.star_partial.specs.Contents.{contents_of};
 ghost use Rattle.star_engine.specs.{Answered.IsAnswered, Answered.OrMemory, Answered.change, Bench.AllFit, Bench.IsBenchOver, Listing.IsListingOver, Loads.AreLoadedRows, Loads.AreOfLoadableTexts, Loads.IsUnloaded, Loads.loaded_of, Noted.IsNoted, Partials.IsPartialOver, Queries.IsNoQuery};
 ghost use Rattle.star_engine.specs.{Questions.Asks, QuoteTexts.IsQuoteOfKindOver, Tellings.IsJudgedOfKind, Tellings.IsToldOfKind, Tellings.IsUnjudgedOfKind, Tellings.telling_of, Trials.IsBoundedReport, Trials.IsNoTrialOver};
@@ -18,6 +18,7 @@ use crate::question::Question;
 use star_catalogue::{Catalogue, ReadTables, Texts};
 use star_common::Sink;
 use star_partial::Partial;
+use star_reader::TableReader;
 use star_schema::Limits;
 use star_verify::Verified;
 use std::alloc::Global;
@@ -56,6 +57,23 @@ fn load_read(alloc: Global, read: ReadTables) -> Result<Catalogue, EngineFault>
     Ok(Catalogue::finish(alloc, read)?)
 }
 
+// Returns the catalogue of the same dimensions and the lineorder that a reader was given.
+fn load_next(
+    alloc: Global,
+    catalogue: Catalogue,
+    reader: Box<TableReader>,
+) -> Result<Catalogue, EngineFault>
+    requires { (most : ℕ) × (texts : TableTexts) × (text : List (List ℕ))
+        × IsReadNextTo catalogue reader.value most texts text }
+    ensures { (most : ℕ) (texts : TableTexts) (text : List (List ℕ))
+        → IsReadNextTo catalogue reader.value most texts text
+        → let all = with_lineorder_text texts text in MatchResult result
+        (λ loaded. IsLoadable most all × (loaded ≡ database_of all))
+        (OrMemory (IsUnloaded most all)) }
+{
+    Ok(catalogue.with_lineorder(alloc, reader)?)
+}
+
 impl Engine {
     /// Loads the tables of five texts under `limits`, or returns their first error. The texts are
     /// not needed afterwards.
@@ -81,6 +99,33 @@ impl Engine {
             → IfErr result (OrMemory (IsUnloaded limits.rows texts)) }
     {
         let loaded = load_read(alloc, read)?;
+        Ok(Engine {
+            catalogue: loaded,
+            limits,
+        })
+    }
+
+    /// Returns an engine over the same dimensions and the lineorder that a reader was given in
+    /// pieces, or the first error, as `of_read` does. The reader has the same limit on rows.
+    pub fn with_lineorder(
+        self,
+        alloc: Global,
+        reader: Box<TableReader>,
+    ) -> Result<Engine, EngineFault>
+        requires { (texts : TableTexts) × (text : List (List ℕ))
+            × IsReadNextTo self.database reader.value self.rows texts text }
+        ensures loadable { (texts : TableTexts) (text : List (List ℕ))
+            → IsReadNextTo self.database reader.value self.rows texts text
+            → IfOk result (λ engine. IsLoadable self.rows (with_lineorder_text texts text)) }
+        ensures loaded { (texts : TableTexts) (text : List (List ℕ))
+            → IsReadNextTo self.database reader.value self.rows texts text → IfOk result
+            (λ engine. engine ≡ loaded_of self.rows self.visits (with_lineorder_text texts text)) }
+        ensures refused { (texts : TableTexts) (text : List (List ℕ))
+            → IsReadNextTo self.database reader.value self.rows texts text
+            → IfErr result (OrMemory (IsUnloaded self.rows (with_lineorder_text texts text))) }
+    {
+        let Engine { catalogue, limits } = self;
+        let loaded = load_next(alloc, catalogue, reader)?;
         Ok(Engine {
             catalogue: loaded,
             limits,

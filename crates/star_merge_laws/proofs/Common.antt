@@ -1,6 +1,6 @@
 -- The names of other crates and of specs/ that the proofs of this crate cite.
 pub use Rattle.star_catalogue.proofs.Loading.{table_none}
-pub use Rattle.star_catalogue.specs.Load.{load_fault, table_fault}
+pub use Rattle.star_catalogue.specs.{Load.load_fault, Load.table_fault, Pieces.with_lineorder_text}
 unfoldable pub use Rattle.star_catalogue.specs.Load.{tables_fault}
 pub use Rattle.star_catalogue.specs.declared.fault.LoadFault.TheVariants.{TooManyRows}
 pub use Rattle.star_common.proofs.Firsts.{or_none}
@@ -14,7 +14,7 @@ pub use Rattle.star_merge_laws.specs.Facts.{AreFactsOf, Facts, HaveFacts, RowsWi
 pub use Rattle.star_merge_laws.specs.Merging.{AreMerged, IsPart, all_groups, all_rows, as_row, both, merged, merged_totals, parts_of, total_over}
 pub use Rattle.star_merge_laws.specs.Outputs.{IsMergedOutput, IsTask, Output, Task, task_partials, task_rows}
 pub use Rattle.star_merge_laws.specs.Partials.{AreShards, FitsFacts, IsMergedAnswer, IsPartial, IsPlainAnswer, IsTextShard, Partial, Shard, TextShard, groups_of_partials, rows_of_partials, shard_partials, shard_rows, text_partials, text_parts}
-pub use Rattle.star_merge_laws.specs.Parts.{AreDisjoint, AreWithin, IsLoadablePart, LineorderPart, Span, are_disjoint, key_list_cmp, whole_text, with_lineorder, with_lineorder_text}
+pub use Rattle.star_merge_laws.specs.Parts.{AreDisjoint, AreWithin, IsLoadablePart, LineorderPart, Span, are_disjoint, key_list_cmp, whole_text, with_lineorder}
 pub use Rattle.star_merge_laws.specs.{Plain.columns_at, Plain.plain_plan, Regrouping.AreAddedUp, Regrouping.added, Regrouping.all_added, Regrouping.are_same, Spans.AreInSequence, Spans.IsBefore, Spans.spans_of, Tables.all_of, Tables.tables_with}
 pub use Rattle.star_plan.proofs.{Conditions.no_fault, Kept.kept_sound}
 pub use Rattle.star_plan.specs.Meaning.{Joined, Plan, Row, aggregate_of, all_hold, entry_of, joined_rows, matches, only_row, partners, plan_rows, with_row}

@@ -2,6 +2,7 @@
 use Rattle.std.specs.Prelude.{◌≡◌, ◌||◌, ℕ, ℤ, All, AllPairs, Bool, true, List, [], Option, Some, None}
 use Rattle.std.specs.{Cmp.Lexicographic.slice_cmp, List.flat_map, Ordering.int_cmp, Ordering.is_le, Ordering.is_lt, declared.cmp.Ordering.Ordering}
 use Rattle.star_schema.specs.{declared.table.TableId.TheVariants.Lineorder, Database.Database, Database.TableTexts, Loadable.IsLoadable, Loadable.keys_of, Tables.Value, Tables.rows_of}
+use Rattle.star_catalogue.specs.Pieces.{with_lineorder_text}
 
 -- the rows of five tables, with these of lineorder
 abbrev pub with_lineorder : Database → List (List Value) → Database
@@ -13,11 +14,6 @@ with_lineorder database rows =
       part = database.part;
       lineorder = rows;
     }
-
--- the texts of five tables, with this of lineorder
-abbrev pub with_lineorder_text : TableTexts → List (List ℕ) → TableTexts
-with_lineorder_text texts text Lineorder = text
-with_lineorder_text texts text t = texts t
 
 -- keys compare by their first numbers, then by their second
 abbrev pub key_list_cmp : List ℤ → List ℤ → Ordering

@@ -3,10 +3,11 @@
 ghost use Rattle.std.specs.Prelude.{◌≡◌, ◌≤◌, ◌↔◌, ◌++◌, All, ℕ, List, ◌∷◌, length, map};
 ghost use Rattle.std.specs.{List.flat_map, List.sum_by, List.Sorted.IsPermutation};
 ghost use Rattle.star_schema.specs.{declared.group.Aggregate.Aggregate, declared.group.Shape.Shape, Columns.bounds_in, Database.Database, Database.TableTexts, Groups.GroupRow, Loadable.IsLoadable, Loadable.database_of, Order.value_cmp, Tables.Value};
+ghost use Rattle.star_catalogue.specs.Pieces.{with_lineorder_text};
 ghost use Rattle.star_query.specs.{Derives.Means, Tree.Tree};
 ghost use Rattle.star_plan.specs.Meaning.{Joined, Plan, Row, joined_rows, plan_rows};
 ghost use Rattle.star_plan.specs.{Resolved.IsResolved, Sound.IsSoundPlan, WellNamed.IsWellNamed};
-ghost use Rattle.star_merge_laws.specs.Parts.{LineorderPart, AreDisjoint, whole_text, with_lineorder, with_lineorder_text};
+ghost use Rattle.star_merge_laws.specs.Parts.{LineorderPart, AreDisjoint, whole_text, with_lineorder};
 ghost use Rattle.star_merge_laws.specs.Partials.{AreShards, FitsFacts, IsMergedAnswer, IsPartial, IsPlainAnswer, IsTextShard, Partial, Shard, TextShard, shard_partials, shard_rows, text_partials, text_parts, rows_of_partials};
 ghost use Rattle.star_merge_laws.specs.{Facts.AreFactsOf, Facts.Facts, Merging.AreMerged, Merging.total_over, Plain.plain_plan, Regrouping.AreAddedUp, Spans.AreInSequence, Spans.spans_of, Tables.all_of, Tables.tables_with};
 ghost use Rattle.star_program.specs.declared.outcome.Cell.{Cell};

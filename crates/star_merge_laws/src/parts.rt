@@ -6,8 +6,8 @@ ghost use Rattle.star_schema.specs.{declared.group.Aggregate.Aggregate, declared
 ghost use Rattle.star_schema.specs.{declared.table.TableId.TheVariants.Lineorder};
 ghost use Rattle.star_merge_laws.specs.Facts.{AreFactsOf, HaveFacts, Facts, RowsWithFacts, all_facts, joined_facts};
 ghost use Rattle.star_merge_laws.specs.Merging.{AreMerged, IsPart, Part, all_groups, all_rows};
-ghost use Rattle.star_merge_laws.specs.Parts.{LineorderPart, IsLoadablePart, AreDisjoint, whole_text, with_lineorder, with_lineorder_text};
-ghost use Rattle.star_catalogue.specs.{Load.load_fault, declared.fault.LoadFault.TheVariants.TooManyRows};
+ghost use Rattle.star_merge_laws.specs.Parts.{LineorderPart, IsLoadablePart, AreDisjoint, whole_text, with_lineorder};
+ghost use Rattle.star_catalogue.specs.{Load.load_fault, Pieces.with_lineorder_text, declared.fault.LoadFault.TheVariants.TooManyRows};
 
 /// The groups over the rows of all parts, plain or of a cube or a rollup, are those that are merged
 /// from the plain groups of each part.

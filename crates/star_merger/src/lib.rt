@@ -18,4 +18,4 @@ mod writing;
 pub use fault::{PartialFault, PartialsFault};
 pub use merger::Merger;
 pub use star_partial::Partial;
-pub use telling::write_partial;
+pub use telling::{partial_text, write_partial};

@@ -1,6 +1,6 @@
 // The partial of a query over loaded tables, written.
 
-ghost use Rattle.std.specs.Prelude.{OnOk};
+ghost use Rattle.std.specs.Prelude.{IfOk, OnOk};
 ghost use Rattle.star_engine.specs.Answered.{HasWritten, change};
 ghost use Rattle.star_merger.specs.Texts.{IsPartialText};
 
@@ -8,6 +8,15 @@ use crate::writing::write_text;
 use star_common::Sink;
 use star_engine::{Engine, EngineFault};
 use std::alloc::Global;
+
+/// Returns the text of the partial of a query over loaded tables.
+pub fn partial_text(alloc: Global, engine: &Engine, query: &[u8]) -> Result<Vec<u8>, EngineFault>
+    ensures { IfOk result (λ text.
+        IsPartialText engine.now.visits engine.now.database query.now text.items) }
+{
+    let partial = engine.partial(alloc, query)?;
+    Ok(partial.to_text(alloc, query)?)
+}
 
 /// Writes the text of the partial of a query over loaded tables to `out`.
 #[tactic(auto, using(crate::proofs::TextBytes::partial_some))]
@@ -20,7 +29,6 @@ pub fn write_partial<S: Sink>(
     ensures { OnOk result (HasWritten (change S.contents S.is_failed out.old out.new)
         (IsPartialText engine.now.visits engine.now.database query.now)) }
 {
-    let partial = engine.partial(alloc, query)?;
-    let text = partial.to_text(alloc, query)?;
+    let text = partial_text(alloc, engine, query)?;
     write_text(out, &text)
 }

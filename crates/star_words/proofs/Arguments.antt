@@ -1,9 +1,9 @@
 -- Limits of trials, and arguments that are separated one by one.
-use Rattle.std.proofs.Common.{◌+◌, Global, String, add-one, drop-cons, get_or, map, string_bytes, ◌≡◌, ◌∙◌, ◌<◌, ◌≤◌, ◌++◌, ◌&&◌, ap, sym, subst, ℕ, List, [], ◌∷◌, length, Bool, true, false, Option, Some, None, if◌then◌else◌, drop, append-nil, refl, nat_lt, tests, rules}
+use Rattle.std.proofs.Common.{◌+◌, Global, String, add-one, drop-cons, get_or, map, string_bytes, ◌≡◌, ◌∙◌, ◌<◌, ◌≤◌, ◌++◌, ◌&&◌, ap, sym, subst, ℕ, List, [], ◌∷◌, length, Bool, true, false, Option, Some, None, if◌then◌else◌, drop, append-nil, append_assoc, refl, nat_lt, tests, rules}
 use Rattle.std.proofs.{lemmas.List.drop_all}
-use Rattle.std.specs.{Char.digit_value, List.list_all, Str.Parse.AllDigits, Str.Parse.IsNumeral, Str.Parse.digits_value, Str.Parse.without_leading_plus}
+use Rattle.std.specs.{Borrow.Bor, Option.option_map, Char.digit_value, List.list_all, Str.Parse.AllDigits, Str.Parse.IsNumeral, Str.Parse.digits_value, Str.Parse.without_leading_plus}
 use Rattle.star_words.specs.Private.Parting.{AreArguments, IsAdded, all_operands, all_options, texts}
-use Rattle.star_words.specs.{Requests.Word, Requests.limit_of, Requests.operands, Requests.options, declared.request.Arguments.Arguments}
+use Rattle.star_words.specs.{Requests.Word, Requests.limit_of, Requests.part_of, Requests.parts_of, Requests.operands_from, Requests.options_from, declared.request.Arguments.Arguments}
 
 -- ---- limits
 
@@ -62,8 +62,8 @@ unlimited word never =
 
 -- what is separated so far, with the remaining arguments, is the whole
 pub record IsPartway (words rest : List Word) (arguments : Arguments) : Type 0 where
-  pub operands : all_operands arguments rest ≡ operands words
-  pub options : all_options arguments rest ≡ options words
+  pub operands : all_operands arguments rest ≡ operands_from false words
+  pub options : all_options arguments rest ≡ options_from false words
 
 ends_as : (given : List Word) (is_ended : Bool) (some none : List Word) → none ≡ []
     → given ++ (if is_ended then [] else none) ≡ some → given ≡ some
@@ -74,17 +74,18 @@ ends_as given false some none is_none all =
 pub separated : {words : List Word} {arguments : Arguments} → IsPartway words [] arguments
     → AreArguments words arguments
 separated {words} {arguments} partway = record {
-  operands = ends_as (texts arguments.operands.items) arguments.is_ended (operands words)
-      (operands []) refl partway.operands;
-  options = ends_as (texts arguments.options.items) arguments.is_ended (options words)
-      (options []) refl partway.options;
+  operands = ends_as (texts arguments.operands.items) arguments.is_ended
+      (operands_from false words) (operands_from arguments.is_value []) refl partway.operands;
+  options = ends_as (texts arguments.options.items) arguments.is_ended (options_from false words)
+      (options_from arguments.is_value []) refl partway.options;
 }
 
 pub none_yet : (words : List Word) (arguments : Arguments) → arguments.operands.items ≡ []
-    → arguments.options.items ≡ [] → arguments.is_ended ≡ false → IsPartway words words arguments
-none_yet words arguments no_operands no_options going = record {
-  operands = rw (no_operands, going) refl;
-  options = rw (no_options, going) refl;
+    → arguments.options.items ≡ [] → arguments.is_value ≡ false → arguments.is_ended ≡ false
+    → IsPartway words words arguments
+none_yet words arguments no_operands no_options no_value going = record {
+  operands = rw (no_operands, no_value, going) refl;
+  options = rw (no_options, no_value, going) refl;
 }
 
 pub one_more : {words rest : List Word} {word : Word} {old new : Arguments}
@@ -119,3 +120,49 @@ all_added words i arguments past partway =
     let none : drop i words ≡ [] = drop_all i words past in
     separated (subst (λ rest. IsPartway (map string_bytes words) (map string_bytes rest) arguments)
     none partway)
+
+-- ---- the numbers of parts
+
+-- some numbers, with those of the remaining arguments, are those of all
+abbrev pub ArePartsSoFar : List (Bor Word) → ℕ → List ℕ → Type 0
+ArePartsSoFar words i some =
+    option_map (λ more. some ++ more) (parts_of (texts (drop i words))) ≡ parts_of (texts words)
+
+next_text : (words : List (Bor Word)) (i : ℕ) (word : Bor Word) → i < length words
+    → word ≡ get_or words i word
+    → texts (drop i words) ≡ word.now ∷ texts (drop (i + 1) words)
+next_text words i word less is = rw (add-one, drop-cons words i word, ← is) refl
+
+none_before : (rest : Option (List ℕ)) → option_map (λ more. [] ++ more) rest ≡ rest
+none_before None = refl
+none_before (Some more) = refl
+
+one_before : (some : List ℕ) (part : ℕ) (rest : Option (List ℕ))
+    → option_map (λ more. (some ++ part ∷ []) ++ more) rest
+    ≡ option_map (λ more. some ++ more) (option_map (λ more. part ∷ more) rest)
+one_before some part None = refl
+one_before some part (Some more) = ap Some (append_assoc some (part ∷ []) more)
+
+pub parts_start : (words : List (Bor Word)) (some : List ℕ) → some ≡ []
+    → ArePartsSoFar words 0 some
+parts_start words some none = rw none (none_before (parts_of (texts words)))
+
+pub parts_more : (words : List (Bor Word)) (i : ℕ) (word : Bor Word) (some : List ℕ) (part : ℕ)
+    → i < length words → word ≡ get_or words i word → part_of word.now ≡ Some part
+    → ArePartsSoFar words i some → ArePartsSoFar words (i + 1) (some ++ part ∷ [])
+parts_more words i word some part less is of_word so_far =
+    let before : option_map (λ more. some ++ more)
+    (option_map (λ more. part ∷ more) (parts_of (texts (drop (i + 1) words))))
+    ≡ parts_of (texts words) = rw (next_text words i word less is, of_word) at so_far in
+    one_before some part (parts_of (texts (drop (i + 1) words))) ∙ before
+
+pub parts_none : (words : List (Bor Word)) (i : ℕ) (word : Bor Word) (some : List ℕ)
+    → i < length words → word ≡ get_or words i word → part_of word.now ≡ None
+    → ArePartsSoFar words i some → None ≡ parts_of (texts words)
+parts_none words i word some less is of_word so_far =
+    rw (next_text words i word less is, of_word) at so_far
+
+pub parts_end : (words : List (Bor Word)) (i : ℕ) (some : List ℕ) → length words ≤ i
+    → ArePartsSoFar words i some → Some some ≡ parts_of (texts words)
+parts_end words i some past so_far =
+    ap Some (sym (append-nil some)) ∙ (rw (drop_all i words past) at so_far)

@@ -6,8 +6,8 @@ use Rattle.clap.specs.{Values.kind_of, declared.error.Error.Error, declared.erro
 use Rattle.clap.specs.{declared.error.kind.ErrorKind.TheVariants.OutOfMemory as NoMemory}
 use Rattle.star_common.proofs.Tables.{Gives}
 use Rattle.star_schema.specs.{Most.most_rows, declared.limits.Limits.Limits}
-use Rattle.star_words.specs.Requests.{Asked, HasMostRows, IsWordsFault, Word, asked, bench, check, exec, explain, limit_of, may_ask_help, names_folders, query, quote, reports, sample, session, trial}
-use Rattle.star_words.specs.{Faults.fault_of_kind, Faults.words_fault_status, Faults.words_fault_text, Faults.words_status, declared.fault.WordsFault.TheVariants.EmptyFolder, declared.fault.WordsFault.TheVariants.NoCommand, declared.fault.WordsFault.TheVariants.NotText}
+use Rattle.star_words.specs.Requests.{Asked, HasMostRows, IsWordsFault, Word, asked, bench, check, exec, explain, limit_of, may_ask_help, names_folders, partial, query, quote, reports, sample, session, trial}
+use Rattle.star_words.specs.{Faults.fault_of_kind, Faults.words_fault_status, Faults.words_fault_text, Faults.words_status, declared.fault.WordsFault.TheVariants.EmptyFolder, declared.fault.WordsFault.TheVariants.NoCommand, declared.fault.WordsFault.TheVariants.NoTarget, declared.fault.WordsFault.TheVariants.NotText}
 use Rattle.star_words.specs.{declared.fault.WordsFault.TheVariants.OutOfMemory, declared.request.Request.TheVariants.Answer, declared.request.Task.TheVariants.Trial}
 
 -- ---- the arguments of each command, in order
@@ -40,6 +40,24 @@ hyphens : Gives asked (
     ∷ (codes "check" ∷ codes "-x" ∷ [], None) ∷ [])
 hyphens = refl
 
+-- a part is from 0 to 1,000; the value of `--to` may come anywhere; several parts need it
+partials : Gives asked (
+    (codes "partial" ∷ a ∷ b ∷ codes "7" ∷ [], Some (partial a b (7 ∷ []) None))
+    ∷ (
+      codes "partial" ∷ a ∷ b ∷ codes "3" ∷ codes "0" ∷ codes "--to" ∷ a ∷ [],
+      Some (partial a b (3 ∷ 0 ∷ []) (Some a)),
+    )
+    ∷ (
+      codes "partial" ∷ codes "--to" ∷ a ∷ b ∷ a ∷ codes "1000" ∷ [],
+      Some (partial b a (1000 ∷ []) (Some a)),
+    )
+    ∷ (codes "partial" ∷ a ∷ b ∷ codes "1" ∷ codes "2" ∷ [], None)
+    ∷ (codes "partial" ∷ a ∷ b ∷ codes "1001" ∷ codes "--to" ∷ a ∷ [], None)
+    ∷ (codes "partial" ∷ a ∷ b ∷ codes "--to" ∷ a ∷ [], None)
+    ∷ (codes "query" ∷ a ∷ b ∷ codes "--to" ∷ a ∷ [], None) ∷ [])
+unfolding limit_of
+partials = refl
+
 -- no command has this name, or an argument is missing, or one too many
 no_commands : Gives asked (
     (codes "no" ∷ a ∷ [], None) ∷ (codes "check" ∷ [], None) ∷ (codes "check" ∷ a ∷ b ∷ [], None)
@@ -57,7 +75,8 @@ limits = refl
 folders : Gives names_folders (
     (sample, true) ∷ (explain [], true) ∷ (check a, true) ∷ (check [], false) ∷ (session [], false)
     ∷ (query a [], true) ∷ (query [] a, false) ∷ (trial [] a 1, false)
-    ∷ (reports a b [] false, true) ∷ (reports [] b [] false, false) ∷ (reports a [] [] true, false)
+    ∷ (partial a b [] None, true) ∷ (partial [] b [] None, false)
+    ∷ (partial a b [] (Some []), false) ∷ (reports a b [] false, true) ∷ (reports [] b [] false, false) ∷ (reports a [] [] true, false)
     ∷ [])
 folders = refl
 
@@ -85,10 +104,11 @@ module _ (folder file : Bor Word) (limits : Limits) where
 lines : Gives words_fault_text (
     (NotText, Some (codes "error: a word is not UTF-8\n"))
     ∷ (EmptyFolder, Some (codes "error: the folder's name is empty\n"))
+    ∷ (NoTarget, Some (codes "error: several partials need --to TARGET\n"))
     ∷ (NoCommand, Some (codes "error: the words are no command\n"))
     ∷ (OutOfMemory, Some (codes "memory\n")) ∷ [])
     × Gives words_fault_status
-    ((NotText, 2) ∷ (EmptyFolder, 2) ∷ (NoCommand, 2) ∷ (OutOfMemory, 7) ∷ [])
+    ((NotText, 2) ∷ (EmptyFolder, 2) ∷ (NoTarget, 2) ∷ (NoCommand, 2) ∷ (OutOfMemory, 7) ∷ [])
     × Gives words_status ((DisplayHelp, 0) ∷ (DisplayVersion, 0) ∷ (UnknownArgument, 2) ∷ [])
 unfolding words_fault_text
 lines = (refl, refl, refl)

@@ -1,6 +1,6 @@
 -- What the arguments of a command line ask for, one by one.
-use Rattle.std.specs.Prelude.{◌≡◌, ⊤, ◌&&◌, ◌||◌, ◌==◌, ℕ, Bool, true, false, List, [], ◌∷◌, Option, Some, None, if◌then◌else◌, codes, length, map, nat_le, nat_lt, slice_index}
-use Rattle.std.specs.{Char.digit_value, List.list_all, Option.option_map, Str.bytes_eq, Str.Parse.digits_value, Str.Parse.without_leading_plus}
+use Rattle.std.specs.Prelude.{◌≡◌, ⊤, ◌&&◌, ◌||◌, ◌==◌, ℕ, Bool, true, false, List, [], ◌∷◌, Option, Some, None, if◌then◌else◌, codes, is_some, length, map, nat_le, nat_lt, slice_index}
+use Rattle.std.specs.{Char.digit_value, List.list_all, Option.option_and_then, Option.option_map, Option.option_to_list, Str.bytes_eq, Str.Parse.digits_value, Str.Parse.without_leading_plus}
 use Rattle.star_schema.specs.Most.{most_rows}
 use Rattle.star_words.specs.{Faults.words_fault_status, declared.fault.WordsFault.WordsFault, declared.fault.WordsFault.TheVariants.EmptyFolder, declared.fault.WordsFault.TheVariants.NotText, declared.fault.WordsFault.TheVariants.OutOfMemory, declared.request.Request.Request}
 use Rattle.star_words.specs.{declared.request.Task.Task}
@@ -22,7 +22,7 @@ pub data Asked : Type 0 where
   trial : (folder file : Word) (visits : ℕ) → Asked
   session : (folder : Word) → Asked
   reports : (folder target : Word) (files : List Word) (is_quote : Bool) → Asked
-  partial : (folder file : Word) (part : ℕ) → Asked
+  partial : (folder file : Word) (parts : List ℕ) (target : Option Word) → Asked
   merge : (file : Word) (partials : List Word) (is_distinct : Bool) → Asked
 
 -- ---- operands and options
@@ -35,15 +35,22 @@ is_option word = nat_lt 1 (length word) && (slice_index word 0 == 45)
 abbrev pub ends_options : Word → Bool
 ends_options word = bytes_eq word (codes "--")
 
-abbrev pub operands : List Word → List Word
-operands [] = []
-operands (word ∷ words) = if ends_options word then words
-    else (if is_option word then operands words else word ∷ operands words)
+-- the argument after `--to` is its value, and is among the options
+abbrev pub has_value : Word → Bool
+has_value word = bytes_eq word (codes "--to")
 
-abbrev pub options : List Word → List Word
-options [] = []
-options (word ∷ words) = if ends_options word then []
-    else (if is_option word then word ∷ options words else options words)
+-- the first of some arguments may be a value
+abbrev pub operands_from : (is_value : Bool) → List Word → List Word
+operands_from is_value [] = []
+operands_from is_value (word ∷ words) = if ends_options word then words
+    else (if is_value || is_option word then operands_from (has_value word) words
+    else word ∷ operands_from false words)
+
+abbrev pub options_from : (is_value : Bool) → List Word → List Word
+options_from is_value [] = []
+options_from is_value (word ∷ words) = if ends_options word then []
+    else (if is_value || is_option word then word ∷ options_from (has_value word) words
+    else options_from false words)
 
 -- ---- the commands
 
@@ -79,13 +86,9 @@ part_within (Some part) = if nat_le part 1000 then Some part else None
 abbrev pub part_of : Word → Option ℕ
 part_of word = part_within (limit_of word)
 
-abbrev pub partial_of : (folder file part : Word) → Option Asked
-partial_of folder file part = option_map (partial folder file) (part_of part)
-
 abbrev pub with_three : (command folder file last : Word) → Option Asked
 with_three command folder file last =
-    if bytes_eq command (codes "trial") then trial_of folder file last
-    else (if bytes_eq command (codes "partial") then partial_of folder file last else None)
+    if bytes_eq command (codes "trial") then trial_of folder file last else None
 
 -- a command without options
 abbrev pub plain : (command : Word) → (operands : List Word) → Option Asked
@@ -100,6 +103,20 @@ reports_of is_quote (folder ∷ target ∷ file ∷ files) =
     if nat_lt (length files) 1000 then Some (reports folder target (file ∷ files) is_quote) else None
 reports_of is_quote operands = None
 
+-- the numbers of some parts, if each is one
+abbrev pub parts_of : List Word → Option (List ℕ)
+parts_of [] = Some []
+parts_of (word ∷ words) = option_and_then (λ part. option_map (λ parts. part ∷ parts) (parts_of words))
+    (part_of word)
+
+-- `partial`, of 1 part, or with a folder for them of 1 to 1,000
+abbrev pub partial_of : (target : Option Word) → (operands : List Word) → Option Asked
+partial_of target (folder ∷ file ∷ part ∷ parts) =
+    if nat_lt (length parts) (if is_some target then 1000 else 1)
+    then option_map (λ numbers. partial folder file numbers target) (parts_of (part ∷ parts))
+    else None
+partial_of target operands = None
+
 -- `merge`, of 1 to 1,000 partials
 abbrev pub merge_of : (is_distinct : Bool) → (operands : List Word) → Option Asked
 merge_of is_distinct (file ∷ first ∷ more) =
@@ -110,7 +127,8 @@ abbrev pub without_option : (command : Word) → (operands : List Word) → Opti
 without_option command operands =
     if bytes_eq command (codes "reports") then reports_of false operands
     else (if bytes_eq command (codes "merge") then merge_of false operands
-    else plain command operands)
+    else (if bytes_eq command (codes "partial") then partial_of None operands
+    else plain command operands))
 
 -- the options are `--quote` of `reports` and `--distinct` of `merge`
 abbrev pub with_option : (command option : Word) → (operands : List Word) → Option Asked
@@ -120,15 +138,23 @@ with_option command option operands =
     else (if bytes_eq command (codes "merge") && bytes_eq option (codes "--distinct")
     then merge_of true operands else None)
 
+-- the option with a value is `--to` of `partial`
+abbrev pub with_value : (command option value : Word) → (operands : List Word) → Option Asked
+with_value command option value operands =
+    if bytes_eq command (codes "partial") && bytes_eq option (codes "--to")
+    then partial_of (Some value) operands else None
+
 abbrev pub asked_by : (command : Word) → (options operands : List Word) → Option Asked
 asked_by command [] operands = without_option command operands
 asked_by command (option ∷ []) operands = with_option command option operands
+asked_by command (option ∷ value ∷ []) operands = with_value command option value operands
 asked_by command options operands = None
 
 -- what a command line asks for, if it is a command
 abbrev pub asked : List Word → Option Asked
 asked [] = Some sample
-asked (command ∷ words) = asked_by command (options words) (operands words)
+asked (command ∷ words) =
+    asked_by command (options_from false words) (operands_from false words)
 
 -- ---- the request that is made of it
 
@@ -147,7 +173,8 @@ request_asked (request.Answer task) = task_asked task
 request_asked (request.Session folder) = session folder.now
 request_asked (request.Reports given) = reports given.folder.now given.target.now
     (map (λ file. file.now) given.files.items) given.is_quote
-request_asked (request.Partial folder file part) = partial folder.now file.now part
+request_asked (request.Partial given) = partial given.folder.now given.file.now
+    given.parts.items (option_map (λ target. target.now) given.target)
 request_asked (request.Merge given) = merge given.file.now
     (map (λ path. path.now) given.partials.items) given.is_distinct
 
@@ -173,7 +200,8 @@ names_folders (exec folder file) = is_named folder
 names_folders (quote folder file) = is_named folder
 names_folders (trial folder file visits) = is_named folder
 names_folders (reports folder target files is_quote) = is_named folder && is_named target
-names_folders (partial folder file part) = is_named folder
+names_folders (partial folder file parts target) =
+    is_named folder && list_all is_named (option_to_list target)
 names_folders (merge file partials is_distinct) = true
 
 -- ---- requests and refusals
@@ -195,7 +223,7 @@ may_ask_by command options = is_topic command || (is_option command || nat_lt 0 
 
 abbrev pub may_ask_help : List Word → Bool
 may_ask_help [] = false
-may_ask_help (command ∷ words) = may_ask_by command (options words)
+may_ask_help (command ∷ words) = may_ask_by command (options_from false words)
 
 -- a folder's name is empty; or the parser refused the arguments, or they make no request, and the
 -- status is 0 only if they may ask for help

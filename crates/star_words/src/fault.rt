@@ -18,6 +18,8 @@ pub enum WordsFault {
     NotText,
     /// The folder's name is empty: its files would be those at the root of the file system.
     EmptyFolder,
+    /// Several partials are asked for, and no folder is named for them.
+    NoTarget,
     /// The words begin with no command, and the parser of words finds nothing wrong with them.
     NoCommand,
     /// Memory was refused.
@@ -53,6 +55,7 @@ impl fmt::Display for WordsFault {
             WordsFault::Told(error) => write!(f, "{error}"),
             WordsFault::NotText => f.write_str("error: a word is not UTF-8\n"),
             WordsFault::EmptyFolder => f.write_str("error: the folder's name is empty\n"),
+            WordsFault::NoTarget => f.write_str("error: several partials need --to TARGET\n"),
             WordsFault::NoCommand => f.write_str("error: the words are no command\n"),
             WordsFault::OutOfMemory => f.write_str("memory\n"),
         }
@@ -76,7 +79,10 @@ impl WordsFault {
     {
         match self {
             WordsFault::Told(error) => status_of_words(error.kind()),
-            WordsFault::NotText | WordsFault::EmptyFolder | WordsFault::NoCommand => 2,
+            WordsFault::NotText
+            | WordsFault::EmptyFolder
+            | WordsFault::NoTarget
+            | WordsFault::NoCommand => 2,
             WordsFault::OutOfMemory => 7,
         }
     }

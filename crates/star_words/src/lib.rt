@@ -9,4 +9,4 @@ mod refusal;
 mod request;
 
 pub use crate::fault::WordsFault;
-pub use crate::request::{Merge, Reports, Request, Task, request_of};
+pub use crate::request::{Merge, Partials, Reports, Request, Task, request_of};

@@ -63,14 +63,22 @@ fn quote_flag<'a>(alloc: Global) -> Arg<'a> {
         .action(ArgAction::SetTrue)
 }
 
-fn part_word<'a>(alloc: Global) -> Arg<'a> {
-    word(
-        alloc,
-        "PART",
-        "The number of a part of lineorder, from 1 to 1000, or 0 for lineorder.tbl",
-    )
-    .allow_negative_numbers(true)
-    .value_parser(value_parser!(i64).range(0..=1000))
+fn part_words<'a>(alloc: Global) -> Arg<'a> {
+    Arg::new(alloc, "PART")
+        .help("The number of a part of lineorder, from 1 to 1000, or 0 for lineorder.tbl")
+        .required(true)
+        .num_args(1..=1000)
+        .action(ArgAction::Append)
+        .allow_negative_numbers(true)
+        .value_parser(value_parser!(i64).range(0..=1000))
+}
+
+fn target_option<'a>(alloc: Global) -> Arg<'a> {
+    Arg::new(alloc, "to")
+        .long("to")
+        .value_name("TARGET")
+        .help("An existing folder: each partial is written to TARGET/PART.partial")
+        .action(ArgAction::Set)
 }
 
 fn partial_words<'a>(alloc: Global) -> Arg<'a> {
@@ -99,7 +107,7 @@ pub(crate) enum Asked {
     FolderFileAndLimit(&'static str),
     /// A folder, a folder for reports, and files.
     FoldersAndFiles,
-    FolderFileAndPart(&'static str),
+    FolderFileAndParts(&'static str),
     /// A file, and partials.
     FileAndPartials(&'static str),
 }
@@ -125,10 +133,11 @@ pub(crate) fn asking<'a>(
             .arg(word(alloc, "TARGET", "An existing folder for the reports"))?
             .arg(file_words(alloc))?
             .arg(quote_flag(alloc)),
-        Asked::FolderFileAndPart(file) => start
+        Asked::FolderFileAndParts(file) => start
             .arg(folder_word(alloc))?
             .arg(file_word(alloc, file))?
-            .arg(part_word(alloc)),
+            .arg(part_words(alloc))?
+            .arg(target_option(alloc)),
         Asked::FileAndPartials(file) => start
             .arg(file_word(alloc, file))?
             .arg(partial_words(alloc))?

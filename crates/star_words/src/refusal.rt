@@ -25,7 +25,7 @@ const COMMANDS: [(Help, Asked); 13] = [
     (TRIAL, Asked::FolderFileAndLimit(PROGRAM_FILE)),
     (SESSION, Asked::Folder),
     (REPORTS, Asked::FoldersAndFiles),
-    (PARTIAL, Asked::FolderFileAndPart(QUERY_FILE)),
+    (PARTIAL, Asked::FolderFileAndParts(QUERY_FILE)),
     (MERGE, Asked::FileAndPartials(QUERY_FILE)),
     (TABLES, Asked::Nothing),
     (FAULTS, Asked::Nothing),

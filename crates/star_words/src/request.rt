@@ -1,6 +1,6 @@
 // What the arguments of a command line ask for.
 
-ghost use Rattle.std.specs.Prelude.{◌≡◌, ◌∷◌, IfOk, MatchResult, OnOk, map, string_bytes};
+ghost use Rattle.std.specs.Prelude.{◌≡◌, ◌∷◌, IfOk, MatchResult, OnOk, map, option_map, string_bytes};
 ghost use Rattle.star_words.specs.Private.Parting.{AreArguments, IsAdded, IsLimited, IsMade, texts};
 ghost use Rattle.star_words.specs.Requests as spec;
 ghost use Rattle.star_words.specs.Requests.{IsRequest, IsWordsFault, request_asked};
@@ -58,20 +58,23 @@ pub enum Request<'a> {
     /// An answer, over what is read before it.
     Answer(Task<'a>),
     /// A session over the tables of a folder.
-    Session {
-        folder: &'a str,
-    },
+    Session { folder: &'a str },
     /// Reports of some files over the tables of a folder, or what is known before their runs.
     Reports(Reports<'a>),
-    /// The partial of the query of a file over one part of lineorder, by its number; over a whole
-    /// lineorder if it is 0.
-    Partial {
-        folder: &'a str,
-        file: &'a str,
-        part: u16,
-    },
+    /// The partials of the query of a file over parts of lineorder.
+    Partial(Partials<'a>),
     /// The report of the query of a file, merged from partials.
     Merge(Merge<'a>),
+}
+
+/// The partials of the query of a file over parts of lineorder, by their numbers; 0 is a whole
+/// lineorder. They are written into the folder `target`; without one there is a single part.
+#[derive(Drop)]
+pub struct Partials<'a> {
+    pub folder: &'a str,
+    pub file: &'a str,
+    pub parts: Vec<u16>,
+    pub target: Option<&'a str>,
 }
 
 /// The partials of the query of a file, which are merged. `is_distinct` says that no order line is in
@@ -96,14 +99,16 @@ pub struct Reports<'a> {
 /// The most parts that lineorder may have.
 const MOST_PARTS: u64 = 1_000;
 
-/// The most files that reports are asked of, and the most partials that are merged.
+/// The most files that reports are asked of, and the most partials that are made or merged.
 const MOST_FILES: usize = 1_000;
 
-// The arguments of a command: after `--`, which ends the options, every one is an operand.
+// The arguments of a command: after `--`, which ends the options, every one is an operand. The value
+// of an option is among the options.
 #[derive(Drop)]
 struct Arguments<'a> {
     operands: Vec<&'a str>,
     options: Vec<&'a str>,
+    is_value: bool,
     is_ended: bool,
 }
 
@@ -123,8 +128,9 @@ impl<'a> Arguments<'a> {
             self.operands.push(word)?;
         } else if word == "--" {
             self.is_ended = true;
-        } else if is_option(word) {
+        } else if self.is_value || is_option(word) {
             self.options.push(word)?;
+            self.is_value = word == "--to";
         } else {
             self.operands.push(word)?;
         }
@@ -139,6 +145,7 @@ fn arguments_of<'a>(alloc: Global, words: &'a [String]) -> Result<Arguments<'a>,
     let mut arguments = Arguments {
         operands: Vec::new(alloc),
         options: Vec::new(alloc),
+        is_value: false,
         is_ended: false,
     };
     for word in words {
@@ -206,19 +213,11 @@ fn trial_of<'a>(folder: &'a str, file: &'a str, limit: &str) -> Option<Request<'
     }))
 }
 
-fn partial_of<'a>(folder: &'a str, file: &'a str, part: &str) -> Option<Request<'a>>
-    ensures { IsMade (spec.partial_of folder.now file.now part.now) result }
-{
-    let part = part_of(part)?;
-    Some(Request::Partial { folder, file, part })
-}
-
 fn with_three<'a>(command: &str, folder: &'a str, file: &'a str, last: &str) -> Option<Request<'a>>
     ensures { IsMade (spec.with_three command.now folder.now file.now last.now) result }
 {
     match command {
         "trial" => trial_of(folder, file, last),
-        "partial" => partial_of(folder, file, last),
         _ => None,
     }
 }
@@ -257,6 +256,48 @@ fn reports_of<'a>(
     })))
 }
 
+// The numbers of some parts.
+fn parts_of(alloc: Global, words: &[&str]) -> Result<Option<Vec<u16>>, AllocError>
+    ensures { IfOk result (λ parts.
+        option_map (λ given. given.items) parts ≡ spec.parts_of (texts words.now)) }
+{
+    let mut parts = Vec::new(alloc);
+    for word in words {
+        match part_of(word) {
+            Some(part) => parts.push(part)?,
+            None => return Ok(None),
+        }
+    }
+    Ok(Some(parts))
+}
+
+// What `partial` asks for.
+fn partial_of<'a>(
+    alloc: Global,
+    target: Option<&'a str>,
+    operands: &[&'a str],
+) -> Result<Option<Request<'a>>, AllocError>
+    ensures { IfOk result (IsMade (spec.partial_of (option_map (λ name. name.now) target.entry)
+        (texts operands.now))) }
+{
+    let [folder, file, words @ ..] = operands else {
+        return Ok(None);
+    };
+    let most = if target.is_some() { MOST_FILES } else { 1 };
+    if words.is_empty() || words.len() > most {
+        return Ok(None);
+    }
+    match parts_of(alloc, words)? {
+        Some(parts) => Ok(Some(Request::Partial(Partials {
+            folder,
+            file,
+            parts,
+            target,
+        }))),
+        None => Ok(None),
+    }
+}
+
 // What `merge` asks for.
 fn merge_of<'a>(
     alloc: Global,
@@ -289,6 +330,7 @@ fn without_option<'a>(
     match command {
         "reports" => reports_of(alloc, false, operands),
         "merge" => merge_of(alloc, false, operands),
+        "partial" => partial_of(alloc, None, operands),
         _ => Ok(plain(command, operands)),
     }
 }
@@ -311,6 +353,24 @@ fn with_option<'a>(
     }
 }
 
+// What a command asks for with an option that has a value.
+fn with_value<'a>(
+    alloc: Global,
+    command: &str,
+    option: &str,
+    value: &'a str,
+    operands: &[&'a str],
+) -> Result<Option<Request<'a>>, AllocError>
+    ensures { IfOk result (IsMade (spec.with_value command.now option.now value.now
+        (texts operands.now))) }
+{
+    if command == "partial" && option == "--to" {
+        partial_of(alloc, Some(value), operands)
+    } else {
+        Ok(None)
+    }
+}
+
 // What a command asks for, if its arguments are right.
 fn asked_by<'a>(
     alloc: Global,
@@ -324,6 +384,7 @@ fn asked_by<'a>(
     match arguments.options.as_slice() {
         [] => without_option(alloc, command, operands),
         [option] => with_option(alloc, command, option, operands),
+        [option, value] => with_value(alloc, command, option, value, operands),
         _ => Ok(None),
     }
 }
@@ -342,9 +403,11 @@ fn names_folders(request: &Request<'_>) -> bool
             | Task::Quote { folder, .. }
             | Task::Trial { folder, .. },
         )
-        | Request::Session { folder }
-        | Request::Partial { folder, .. } => !folder.is_empty(),
+        | Request::Session { folder } => !folder.is_empty(),
         Request::Reports(asked) => !asked.folder.is_empty() && !asked.target.is_empty(),
+        Request::Partial(asked) => {
+            !asked.folder.is_empty() && asked.target.is_none_or(|target| !target.is_empty())
+        }
     }
 }
 
@@ -382,6 +445,7 @@ pub fn request_of<'a>(alloc: Global, words: &'a [String]) -> Result<Request<'a>,
     match asked_by(alloc, command.as_str(), &arguments)? {
         Some(request) if names_folders(&request) => Ok(request),
         Some(_) => Err(WordsFault::EmptyFolder),
+        None if command.as_str() == "partial" => Err(WordsFault::NoTarget),
         None => Err(WordsFault::NoCommand),
     }
 }

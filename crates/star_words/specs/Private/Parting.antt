@@ -1,8 +1,8 @@
 -- How the arguments of a command are separated, and what is made of them.
-use Rattle.std.specs.Prelude.{◌≡◌, ⊤, ◌++◌, Bool, true, ℕ, List, [], ◌∷◌, Option, IfSome, if◌then◌else◌, map}
+use Rattle.std.specs.Prelude.{◌≡◌, ⊤, ◌++◌, Bool, true, false, ℕ, List, [], ◌∷◌, Option, IfSome, if◌then◌else◌, map}
 use Rattle.std.specs.{Borrow.Bor, Option.option_map}
 use Rattle.star_schema.specs.{Most.most_rows, declared.limits.Limits.Limits}
-use Rattle.star_words.specs.Requests.{Asked, HasMostRows, Word, operands, options, request_asked}
+use Rattle.star_words.specs.Requests.{Asked, HasMostRows, Word, operands_from, options_from, request_asked}
 use Rattle.star_words.specs.{Faults.words_fault_status, declared.fault.WordsFault.WordsFault, declared.fault.WordsFault.TheVariants.EmptyFolder, declared.fault.WordsFault.TheVariants.NotText, declared.fault.WordsFault.TheVariants.OutOfMemory, declared.fault.WordsFault.TheVariants.Told}
 use Rattle.star_words.specs.{declared.request.Arguments.Arguments, declared.request.Request.Request}
 
@@ -12,11 +12,13 @@ texts = map (λ word. word.now)
 -- the operands, and the options, once the remaining arguments are added
 abbrev pub all_operands : Arguments → List Word → List Word
 all_operands arguments rest =
-    texts arguments.operands.items ++ (if arguments.is_ended then rest else operands rest)
+    texts arguments.operands.items
+    ++ (if arguments.is_ended then rest else operands_from arguments.is_value rest)
 
 abbrev pub all_options : Arguments → List Word → List Word
 all_options arguments rest =
-    texts arguments.options.items ++ (if arguments.is_ended then [] else options rest)
+    texts arguments.options.items
+    ++ (if arguments.is_ended then [] else options_from arguments.is_value rest)
 
 -- one of the remaining arguments is added
 pub record IsAdded (old : Arguments) (word : Word) (new : Arguments) : Type 0 where
@@ -25,8 +27,8 @@ pub record IsAdded (old : Arguments) (word : Word) (new : Arguments) : Type 0 wh
 
 -- these are the operands and the options of a command
 pub record AreArguments (words : List Word) (arguments : Arguments) : Type 0 where
-  pub operands : texts arguments.operands.items ≡ operands words
-  pub options : texts arguments.options.items ≡ options words
+  pub operands : texts arguments.operands.items ≡ operands_from false words
+  pub options : texts arguments.options.items ≡ options_from false words
 
 -- the limits of a trial of so many visits
 abbrev pub IsLimited : Option ℕ → Option Limits → Type 0

@@ -1,4 +1,4 @@
-use Rattle.star_cli.specs.Commands.{a_merge, a_partial, a_session, an_answer, no_command, some_reports}
+use Rattle.star_cli.specs.Commands.{a_merge, a_session, an_answer, no_command, some_partials, some_reports}
 use Rattle.star_cli.proofs.commands.command.Goals as goal
 
 pub returns-in-Err : goal.returns-in-Err
@@ -18,9 +18,7 @@ returns-in-Reports g c =
     some_reports c.in-Reports.asked (rw c.in-Reports.is at c.in-Ok.ensures) c.make_reports.ensures
 
 pub returns-in-Partial : goal.returns-in-Partial
-returns-in-Partial g c =
-    a_partial c.in-Partial.folder c.in-Partial.file c.in-Partial.part
-    (rw c.in-Partial.is at c.in-Ok.ensures)
+returns-in-Partial g c = some_partials c.in-Partial.asked (rw c.in-Partial.is at c.in-Ok.ensures)
 
 pub returns-in-Merge : goal.returns-in-Merge
 returns-in-Merge g c = a_merge c.in-Merge.asked (rw c.in-Merge.is at c.in-Ok.ensures)

@@ -3,7 +3,7 @@ use Rattle.star_words.proofs.Arguments.{all_added, next_added, none_yet}
 use Rattle.star_words.proofs.request.arguments_of.Goals as goal
 
 pub loop-word-init : goal.loop-word-init
-loop-word-init c = none_yet _ _ (search rules) (search rules) refl
+loop-word-init c = none_yet _ _ (search rules) (search rules) refl refl
 
 pub loop-word-preserved : goal.loop-word-preserved
 loop-word-preserved c =
