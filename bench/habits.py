@@ -32,11 +32,7 @@ HABITS = (
 )
 NOT_PROSE = re.compile(r"```.*?```|^    [^\n]*$|`[^`\n]*`", re.M | re.S)
 COMMENT = re.compile(r"^\s*(?://[/!]?|--) (.*)$", re.M)
-# The crates whose docstrings and comments have been counted so far.
-CRATES_IN_BOUNDS = (
-    "star_common star_interval star_statements star_schema star_kinds star_world star_safety star_verify star_report star_compile "
-    "star_column star_catalogue star_program star_engine"
-).split()
+HELP_LINE = re.compile(r'^ +(?:about: )?"(.*?)(?:\\n)?",?$', re.M)
 
 
 def prose_of(files: list[Path]) -> str:
@@ -46,9 +42,14 @@ def prose_of(files: list[Path]) -> str:
 
 def comments_of(crates: Path) -> str:
     """Returns the docstrings and comments of the crates' sources and definitions, without quoted code and machine words."""
-    sources = (file for name in CRATES_IN_BOUNDS for part in ("src", "specs") for file in sorted((crates / name / part).rglob("*.*t")))
+    sources = (file for part in ("src", "specs") for file in sorted(crates.glob(f"*/{part}/**/*.*t")))
     text = "\n".join(line for file in sources for line in COMMENT.findall(file.read_text(encoding="utf-8")))
     return re.sub(r"\bwords\b", "numbers", NOT_PROSE.sub(" ", text))
+
+
+def help_of(crates: Path) -> str:
+    """Returns the texts of `star help`."""
+    return "\n".join(HELP_LINE.findall((crates / "star_words/src/help.rt").read_text(encoding="utf-8")))
 
 
 def habits_above(text: str, place: str) -> Iterator[str]:

@@ -7,9 +7,9 @@ import subprocess
 import time
 from pathlib import Path
 
-from repository import CRATES, OTHERS, THIRTEEN, TOP
+from repository import CRATES, OTHERS, STAR, THIRTEEN, TOP
 
-FIGURES = TOP / "out/figures.json"
+FIGURES, PROVED = TOP / "out/figures.json", CRATES / "star/out/star"
 VERSIONS = {"ClickHouse": "clickhouse-client --version", "SQLite": "sqlite3 --version", "PostgreSQL": "psql --version"}
 CACHES = re.compile(r"^(L1d|L2|L3) cache: +([\d.]+ .iB)", re.M)
 BLOCK = re.compile(r"<!-- (machine|sums|reports|loads) -->\n.*?<!-- end -->", re.S)
@@ -19,12 +19,18 @@ def shell(command: str) -> str:
     return subprocess.run(command, shell=True, cwd=TOP, capture_output=True, text=True).stdout.strip()
 
 
-def machine(is_own: bool) -> dict[str, str]:
+def program() -> str:
+    """Returns the program that `./star` runs, and lets it be built."""
+    is_proved = "not proved" not in shell(f"{STAR} --version")
+    return str(PROVED if is_proved else PROVED.with_name("star-unproved"))
+
+
+def machine(star: str) -> dict[str, str]:
     """Returns the machine, the state of the repository, and the versions of the peers."""
     listed = shell("lscpu")
     model, count = (re.search(rf"^{it}: +(.*)", listed, re.M)[1] for it in ("Model name", r"CPU\(s\)"))
     memory = int(re.search(r"MemTotal: +(\d+)", Path("/proc/meminfo").read_text())[1]) / 2**20
-    build = "proved" if is_own and (CRATES / "star/out/star").exists() else "built without a proof"
+    build = "proved" if star == str(PROVED) else "built without a proof"
     return {
         "processor": f"{model}, {count} processors", "caches": ", ".join(f"{name} {size}" for name, size in CACHES.findall(listed)),
         "memory": f"{memory:.0f} GiB", "load": f"{os.getloadavg()[0]:.1f}", "state": f"commit {shell('git rev-parse --short HEAD')}, {build}",

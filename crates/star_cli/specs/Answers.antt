@@ -31,7 +31,7 @@ pub record IsBenched {S : Type 0} (out : Change S) (texts : TableTexts)
       result
   pub fits : IfOk result (λ fits. IsTrue fits ↔ AllFit most_visits (database_of texts))
 
--- the one and then the other, where the one isn't stopped
+-- the one and then the other, if the one isn't stopped
 abbrev pub IsListedAndBenched : {S : Type 0} → Change S → TableTexts
     → Result Bool EngineFault → Type 0
 IsListedAndBenched {S} out texts result =
@@ -59,7 +59,7 @@ IsExecuted out notes texts file answer =
     IsNoted out notes (IsQuoteOf most_rows texts file) (IsToldOf most_rows most_visits texts file)
     (IsUntold most_rows most_visits texts file) answer
 
--- it is told how many visits of the query, or of the program, of a file are quoted over them
+-- the quote of the query, or of the program, of a file over them is printed
 abbrev pub IsQuoted : {S : Type 0} → Change S → TableTexts → List ℕ
     → Result (Unit {0}) EngineFault → Type 0
 IsQuoted out texts file answer =
@@ -72,7 +72,7 @@ IsTried limits out texts file answer =
     IsAnswered out (IsTrialReport limits.rows texts file limits.visits)
     (IsNoTrial limits.rows texts file limits.visits) answer
 
--- what the engine answers over five texts and a file: `query` and `exec` alone write notes
+-- the engine's answer over five texts and a file: only `query` and `exec` write notes
 abbrev pub IsGivenOf : {S N : Type 0} → Task → TableTexts → List ℕ → Change S → Change N
     → Result Bool EngineFault → Type 0
 IsGivenOf Sample texts file out notes result =
@@ -100,14 +100,14 @@ IsOfTables _ = Unit {0}
 
 -- ---- the exit status
 
--- how the program ends behind what the engine answers: a query of the benchmark that is refused is
+-- how the program ends after the engine's answer: a query of the benchmark that is refused is
 -- no fault, and has no line of its own
 abbrev pub IsEnded : {E : Type 0} → Change E → Result Bool EngineFault → ℕ → Type 0
 IsEnded err (Ok true) status = IsUntouched err × (status ≡ 0)
 IsEnded err (Ok false) status = IsUntouched err × (status ≡ 1)
 IsEnded err (Err fault) status = IsFaultTold err fault status
 
--- what the engine answers over five texts and a file, with its notes on standard error, and behind
+-- the engine's answer over five texts and a file, with its notes on standard error, and after
 -- them how the program ends
 pub record IsExitOf {S E : Type 0} (task : Task) (texts : TableTexts) (file : List ℕ)
     (out : Change S) (err : Change E) (status : ℕ) : Type 0 where

@@ -1,4 +1,4 @@
--- What the program does with the arguments of its command line.
+-- The program's handling of the arguments of its command line.
 use Rattle.std.specs.Prelude.{◌≡◌, ◌⊎◌, ℕ, Bool, true, false, List, [], Option, Result, codes, if◌then◌else◌}
 use Rattle.std.specs.Borrow.{Bor}
 use Rattle.star_schema.specs.Database.{TableTexts}

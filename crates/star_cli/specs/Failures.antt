@@ -9,7 +9,7 @@ use Rattle.star_cli.specs.{declared.failure.Failure.Failure}
 use Rattle.star_engine.specs.declared.fault.EngineFault.TheVariants as engine
 use Rattle.star_service.specs.declared.reports.Halt.TheVariants as halts
 
--- a file that can't be read as a query or a program: that too may be for want of memory
+-- a file that can't be read as a query or a program: that too may be out of memory
 abbrev pub failure_of_file : Bor (List ℕ) → EngineFault → Failure
 failure_of_file path engine.OutOfMemory = OutOfMemory
 failure_of_file path fault = OfFile path fault
@@ -20,7 +20,7 @@ failure_of_halt halts.OutOfMemory = OutOfMemory
 failure_of_halt (halts.Unkept name sent) = Unkept name sent
 failure_of_halt (halts.Unwritten sent) = Unwritten sent
 
--- its line, where that is known: of words it may be the parser's
+-- its line, if that is known: for arguments it may be the parser's
 unfoldable pub failure_text : Failure → Option (List ℕ)
 failure_text (Words fault) = words_fault_text fault
 failure_text (File name) = Some (codes "file " ++ (printed_name name.now ++ codes "\n"))
@@ -49,19 +49,19 @@ status_of (Unkept name sent) = 6
 status_of (Unwritten sent) = 6
 status_of OutOfMemory = 7
 
--- ---- telling it
+-- ---- printing it
 
--- its text: the line, where that is known
+-- its text: the line, if that is known
 abbrev pub IsTextOf : Failure → List ℕ → Type 0
 IsTextOf failure text = IfSome (failure_text failure) (λ line. text ≡ line)
 
--- a text is told on standard output, or else on standard error; the other is as it was
+-- a text is printed on standard output, or else on standard error; the other is as it was
 abbrev pub IsToldOn : {S E : Type 0} → Bool → Change S → Change E → List ℕ → Type 0
 IsToldOn true out err text = IsTextTold out text × IsUntouched err
 IsToldOn false out err text = IsUntouched out × IsTextTold err text
 
--- a failure is told, on standard output where it is none, and gives its status; or want of memory
--- where there is none for its text
+-- a failure is printed, on standard output if it is none, and has its status; or out of memory
+-- if there is no memory for its text
 abbrev pub IsFailureTold : {S E : Type 0} → Failure → Change S → Change E → ℕ → Type 0
 IsFailureTold failure out err status = (told : Failure)
     × ((told ≡ failure) ⊎ (told ≡ OutOfMemory))
@@ -70,8 +70,8 @@ IsFailureTold failure out err status = (told : Failure)
 
 -- ---- the end of reports
 
--- how reports end: 0 where all files were answered, or would be, 1 where one was refused; and what
--- ended them before the last is told with its own
+-- how reports end: 0 if all files were answered, or would be, 1 if one was refused; a failure that
+-- ended them before the last is printed with its own
 abbrev pub AreReportsEnded : {S E : Type 0} → Change S → Change E → Result Bool Halt → ℕ → Type 0
 AreReportsEnded out err (Ok true) status = IsUntouched out × IsUntouched err × (status ≡ 0)
 AreReportsEnded out err (Ok false) status = IsUntouched out × IsUntouched err × (status ≡ 1)

@@ -1,4 +1,4 @@
--- What the load of a folder gives: tables, or what is told of why there are none.
+-- The result of a folder's load: tables, or the printed failure.
 use Rattle.std.specs.Prelude.{◌≡◌, ◌⊎◌, ℕ}
 use Rattle.star_schema.specs.{Most.most_rows, Most.most_visits, Database.Database, Database.TableTexts, Loadable.IsLoadable, Loadable.database_of}
 use Rattle.star_engine.specs.{declared.fault.EngineFault.EngineFault, Answered.Change, Answered.IsUntouched, Loads.Loaded}
@@ -15,7 +15,7 @@ abbrev pub IsWidest : Loaded → Type 0
 IsWidest loaded = AreLoadableRows loaded.database × (loaded.rows ≡ most_rows)
     × (loaded.visits ≡ most_visits)
 
--- a failure to read them, or a fault of theirs, is told with its status
+-- a failure to read them, or a fault of theirs, is printed with its status
 abbrev pub IsFolderRefused : {S E : Type 0} → Change S → Change E → ℕ → Type 0
 IsFolderRefused out err status =
     ((failure : Failure) × IsFailureTold failure out err status)

@@ -1,4 +1,4 @@
--- What the contracts of functions that are not public cite.
+-- Definitions that only contracts of private functions cite.
 pub mod Asking
 pub mod Steps
 pub mod FailedWrites

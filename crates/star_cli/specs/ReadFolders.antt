@@ -12,7 +12,7 @@ HasReadSome reader table = (text : List (List ℕ)) × HasReadText reader table 
 abbrev pub AreWidelyRead : ReadTables → Type 0
 AreWidelyRead read = (texts : TableTexts) × AreRead read most_rows texts
 
--- a reader that stood between two parts stands between two parts again
+-- a reader that was between two parts is between two parts again
 abbrev pub StaysBetween : Reading → Reading → Type 0
 StaysBetween old new = (table : TableId) (most : ℕ) (parts : List (List ℕ))
     → HasRead old table most parts [] → (later : List (List ℕ)) × HasRead new table most later []

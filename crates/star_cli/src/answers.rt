@@ -96,7 +96,7 @@ fn ask<S: Sink, N: Sink>(
     }
 }
 
-// What is answered to a task: its file is read as what it asks, and then the tables are loaded.
+// The answer to a task: its file is read as a query or a program, and then the tables are loaded.
 fn give<S: Sink, N: Sink>(
     alloc: Global,
     task: Task<'_>,
@@ -115,7 +115,7 @@ fn give<S: Sink, N: Sink>(
     ask(alloc, &engine, asked, out, notes)
 }
 
-// The exit status after what the engine answered, and the line of its fault.
+// The exit status after the engine's answer, and the line of its fault.
 fn end<E: Sink>(alloc: Global, given: Result<bool, EngineFault>, err: &mut E) -> u8
     ensures { IsEnded (change E.contents E.is_failed err.old err.new) given result }
 {
@@ -126,10 +126,10 @@ fn end<E: Sink>(alloc: Global, given: Result<bool, EngineFault>, err: &mut E) ->
     }
 }
 
-/// Writes what a task asks for on `out` and its notes on `err`, or tells on `err` why it can't, and
-/// gives the exit status. The tables were given to readers in pieces, and `file` has the bytes of the
-/// task's file where it has one. A line of a fault that can't be written changes no status; one for
-/// which there is no memory is told as want of memory.
+/// Writes the answer to a task on `out` and its notes on `err`, or the reason of a failure on
+/// `err`, and gives the exit status. The tables were given to readers in pieces, and `file` has the
+/// bytes of the task's file if it has one. A line of a fault that can't be written changes no
+/// status; one for which there is no memory is reported as out of memory.
 pub fn answer<S: Sink, E: Sink>(
     alloc: Global,
     task: Task<'_>,

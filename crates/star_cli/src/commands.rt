@@ -30,7 +30,7 @@ use std::io::{BufReader, Write};
 use std::rt::{Env, Files};
 use std::{env, io};
 
-// What is read for a task: the tables of a folder, and a file.
+// The input of a task: the tables of a folder, and a file.
 #[derive(Drop)]
 struct Read {
     tables: Option<ReadTables>,
@@ -93,7 +93,7 @@ fn read_for<'a, R: Files + AllocGlobal, P: Watch>(
     }
 }
 
-// Answers a task over what was read for it; without tables it is an explanation.
+// Answers a task over its input; without tables it is an explanation.
 fn answer_over<S: Sink, E: Sink>(
     alloc: Global,
     task: Task<'_>,
@@ -191,8 +191,8 @@ fn hold_session<R: Files + AllocGlobal, I: io::Read + Drop, P: Watch, S: Sink, E
     }
 }
 
-// Makes the reports of files over loaded tables; or, where quotes are asked for, runs none and tells
-// what is known before their runs. The answer is whether none was refused.
+// Makes the reports of files over loaded tables; or, if quotes are asked for, runs none and prints
+// their forecasts. Returns whether none was refused.
 fn report_over<'f, R: Files + AllocGlobal, S: Sink>(
     rt: &R,
     engine: &Engine,
@@ -269,7 +269,7 @@ fn ready<'a, R: Files + AllocGlobal>(
     Ok(files)
 }
 
-// Does what is asked of files: before any table is read, all of them are.
+// Makes the reports or forecasts of files: before any table is read, all of them are.
 fn make_reports<R: Files + AllocGlobal, P: Watch, S: Sink, E: Sink>(
     rt: &R,
     asked: &Reports<'_>,
@@ -360,8 +360,8 @@ fn failure_of_words(error: &io::Error) -> Failure<'static> {
     }
 }
 
-/// Does what the words of the program's own command line ask for, and gives the exit status of
-/// `command`; 2 too where a word is not UTF-8.
+/// Carries out the request of the program's own command line, and returns the exit status of
+/// `command`; 2 also if an argument is not UTF-8.
 pub fn run<R: Env + Files + AllocGlobal, I: io::Read + Drop, P: Watch, W: Write, E: Write>(
     rt: &R,
     input: StandardInput<I>,

@@ -20,11 +20,11 @@ pub(crate) struct Directory<'a, R> {
     pub(crate) rt: &'a R,
     pub(crate) folder: &'a str,
     pub(crate) ending: &'static str,
-    // How many bytes of the last report were sent, where a write of it failed.
+    // How many bytes of the last report were sent, if a write of it failed.
     pub(crate) failed_at: Option<u64>,
 }
 
-// What a failure is told as after the first `sent` bytes of a report.
+// The error of a failure after the first `sent` bytes of a report.
 fn fault_of(error: &io::Error, sent: usize) -> ShelfFault
     ensures { IsFailedBehind sent result }
 {

@@ -71,8 +71,8 @@ fn read_checked<'a, R: Files + AllocGlobal>(
     }
 }
 
-/// Reads the files at some paths, and checks that each is a query or a program; or tells the first
-/// that is none. Before any is read it is seen to that no two of their reports have one name.
+/// Reads the files at some paths, and checks that each is a query or a program; or returns the
+/// first that is none. Before any is read it checks that no two of their reports have one name.
 pub(crate) fn read_files<'a, R: Files + AllocGlobal>(
     rt: &R,
     paths: &[&'a str],
@@ -86,7 +86,7 @@ pub(crate) fn read_files<'a, R: Files + AllocGlobal>(
     Ok(files)
 }
 
-/// What is to be done for each of these files.
+/// The job of each of these files.
 pub(crate) fn errands_of<'f>(
     alloc: Global,
     files: &'f [ReadFile<'_>],

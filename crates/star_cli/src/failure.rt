@@ -31,7 +31,7 @@ pub(crate) enum Failure<'a> {
     OfFile(&'a str, EngineFault),
     /// The report of this name was not kept: a write failed, this many bytes into the report.
     Unkept(&'a str, u64),
-    /// A line was not told: a write failed, this many bytes into the line.
+    /// A line was not printed: a write failed, this many bytes into the line.
     Unwritten(u64),
     /// Memory was refused.
     OutOfMemory,
@@ -93,7 +93,7 @@ impl<'a> fmt::Display for Failure<'a> {
 }
 
 impl<'a> Failure<'a> {
-    /// Why the file at a path is no query and no program; or want of memory.
+    /// Why the file at a path is no query and no program; or out of memory.
     pub(crate) fn of_file(path: &'a str, fault: EngineFault) -> Failure<'a>
         ensures { result ≡ failure_of_file path.entry fault }
     {
@@ -124,7 +124,7 @@ impl<'a> Failure<'a> {
         format!(in alloc; "{self}")
     }
 
-    // Its text is told on `out` where the status is 0, and on `err` else.
+    // Its text is printed on `out` if the status is 0, otherwise on `err`.
     fn tell_text<S: Sink, E: Sink>(&self, text: &[u8], out: &mut S, err: &mut E) -> u8
         ensures told { IsToldOn (result == 0) (change S.contents S.is_failed out.old out.new)
             (change E.contents E.is_failed err.old err.new) text.now }
@@ -142,9 +142,9 @@ impl<'a> Failure<'a> {
         }
     }
 
-    /// Tells what happened, help and the version on `out` and all else on `err`, and gives the exit
-    /// status. What can't be written changes no status; a text for which there is no memory is told
-    /// as want of memory.
+    /// Prints the failure, help and the version on `out` and all else on `err`, and returns the
+    /// exit status. A failed write changes no status; a text for which there is no memory is
+    /// reported as out of memory.
     pub(crate) fn tell<S: Sink, E: Sink>(&self, alloc: Global, out: &mut S, err: &mut E) -> u8
         ensures { IsFailureTold self.now (change S.contents S.is_failed out.old out.new)
             (change E.contents E.is_failed err.old err.new) result }
@@ -159,8 +159,8 @@ impl<'a> Failure<'a> {
     }
 }
 
-/// Tells what ended reports before the last, if anything did, and gives the exit status: 0 where no
-/// file was refused, 1 where one was.
+/// Prints the failure that ended reports before the last, if any, and returns the exit status: 0 if
+/// no file was refused, 1 if one was.
 pub(crate) fn end<S: Sink, E: Sink>(
     alloc: Global,
     made: Result<bool, Halt<'_>>,

@@ -25,7 +25,7 @@ const LINEORDER: &str = "lineorder.tbl";
 /// The most bytes that the file of a program may have.
 const MOST_FILE_BYTES: u64 = 16_777_216;
 
-// Opens a file, if it is there. Only what is not found is not there.
+// Opens a file, if it is there. It is missing only if the system does not find it.
 fn open_there<R: Files>(rt: &R, path: &str) -> Result<Option<R::File>, FileFault> {
     match File::open(rt, path) {
         Ok(file) => Ok(Some(file)),
@@ -37,7 +37,7 @@ fn open_there<R: Files>(rt: &R, path: &str) -> Result<Option<R::File>, FileFault
     }
 }
 
-// How many bytes an open file is told to have. Of what is no regular file nothing is known.
+// The size that the system reports of an open file, if it is a regular file.
 fn told_size(file: &impl OpenFile) -> u64 {
     match file.metadata() {
         Ok(metadata) if metadata.is_file() => metadata.len(),
@@ -45,8 +45,8 @@ fn told_size(file: &impl OpenFile) -> u64 {
     }
 }
 
-// The bytes of a file of at most `most` bytes, if it is there. It is opened once. A file that is told
-// to have more is not read: it may be sparse, and larger than any memory.
+// The bytes of a file of at most `most` bytes, if it is there. It is opened once. A file with a
+// size above that is not read: it may be sparse, and larger than any memory.
 fn read_there<R: Files + AllocGlobal>(
     rt: &R,
     path: &str,
@@ -63,7 +63,7 @@ fn read_there<R: Files + AllocGlobal>(
     Ok(Some(bytes))
 }
 
-// What a fault is told as: want of memory, or else the failure that names the file.
+// The failure of a fault: out of memory, or else the failure that names the file.
 fn failure_of(fault: FileFault, named: Failure<'_>) -> Failure<'_> {
     match fault {
         FileFault::Memory => Failure::from(AllocError),
@@ -71,7 +71,7 @@ fn failure_of(fault: FileFault, named: Failure<'_>) -> Failure<'_> {
     }
 }
 
-// The bytes of a file of at most `most` bytes. A failure calls the file `name`, also where it is not
+// The bytes of a file of at most `most` bytes. A failure calls the file `name`, also if it is not
 // there.
 fn read_at_most<'a, R: Files + AllocGlobal>(
     rt: &R,
@@ -114,8 +114,8 @@ fn path_of(alloc: Global, folder: &str, file: TableFile) -> Result<String, Alloc
     format!(in alloc; "{folder}/{file}")
 }
 
-// Gives a reader of a table the bytes of a file as one more part, if it is there, and tells whether it
-// is. The file is opened once, and read in pieces. One that is told to have more bytes than may be is
+// Gives a reader of a table the bytes of a file as one more part, if it is there, and returns
+// whether it is. The file is opened once, and read in pieces. One with a size above the bound is
 // not read.
 fn feed_there<R: Files + AllocGlobal, P: Watch>(
     rt: &R,
@@ -143,7 +143,7 @@ fn feed_there<R: Files + AllocGlobal, P: Watch>(
     Ok(true)
 }
 
-// Gives a reader of a table a file of it in the folder, and tells whether it is there.
+// Gives a reader of a table a file of it in the folder, and returns whether it is there.
 fn feed_file<R: Files + AllocGlobal, P: Watch>(
     rt: &R,
     folder: &str,
@@ -197,8 +197,8 @@ fn refuse_part<R: Files + AllocGlobal>(
     }
 }
 
-// Gives a reader the parts of lineorder, from the first up to one that is not there, and tells whether
-// there is one.
+// Gives a reader the parts of lineorder, from the first up to one that is not there, and returns
+// whether there is one.
 fn feed_parts<R: Files + AllocGlobal, P: Watch>(
     rt: &R,
     folder: &str,
@@ -216,7 +216,7 @@ fn feed_parts<R: Files + AllocGlobal, P: Watch>(
     Ok(true)
 }
 
-// Gives a reader the file of lineorder, or else its parts, and tells whether there is one.
+// Gives a reader the file of lineorder, or else its parts, and returns whether there is one.
 fn feed_lineorder<R: Files + AllocGlobal, P: Watch>(
     rt: &R,
     folder: &str,
@@ -305,9 +305,9 @@ fn read_all<R: Files + AllocGlobal, P: Watch>(
     })
 }
 
-/// Reads the tables of a folder, in their order. Where there is no file of lineorder its parts are
-/// read, `lineorder.tbl.1` and on, up to the first that is not there. What the tables' bytes say is
-/// looked at later: a fault of them comes after every failure to read a file. `progress` is told
+/// Reads the tables of a folder, in their order. If there is no file of lineorder its parts are
+/// read, `lineorder.tbl.1` and on, up to the first that is not there. The contents of the tables
+/// are checked later: a fault of them comes after every failure to read a file. `progress` is shown
 /// how far it is, from its begin to its end.
 pub(crate) fn read_tables<R: Files + AllocGlobal, P: Watch>(
     rt: &R,

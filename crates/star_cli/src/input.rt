@@ -1,6 +1,6 @@
-// Where a session's statements come from.
+// The source of a session's statements.
 
-/// Standard input: a reader, and whether a person types at a terminal, to whom prompts are told on
+/// Standard input: a reader, and whether a person types at a terminal, who gets prompts on
 /// standard error.
 #[derive(Drop)]
 pub struct StandardInput<I> {

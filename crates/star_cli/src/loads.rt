@@ -43,10 +43,10 @@ fn read_named<R: Files + AllocGlobal, P: Watch>(
     read_tables(rt, folder, progress)
 }
 
-/// Loads an engine over the tables of a folder under the widest limits. Where it can't, it tells why as
-/// the commands of `star` do, and gives the exit status: 2 where the folder's name is empty, 3 for table
-/// files that can't be loaded, 6 for a file that can't be read, 7 for want of memory. `progress` is
-/// told how far the reading of the files is.
+/// Loads an engine over the tables of a folder under the widest limits. If it can't, it prints why
+/// as the commands of `star` do, and returns the exit status: 2 if the folder's name is empty, 3
+/// for table files that can't be loaded, 6 for a file that can't be read, 7 if memory runs out.
+/// `progress` is shown how far the reading of the files is.
 pub fn load_engine<R: Files + AllocGlobal, P: Watch, S: Sink, E: Sink>(
     rt: &R,
     folder: &str,

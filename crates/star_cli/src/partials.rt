@@ -66,7 +66,7 @@ impl<'a> fmt::Display for PartialLine<'a> {
     }
 }
 
-// Tells the line of a fault of a partial, and gives its exit status.
+// Prints the line of a fault of a partial, and returns its exit status.
 fn tell_partial<S: Sink, E: Sink>(
     alloc: Global,
     line: PartialLine<'_>,
@@ -91,7 +91,7 @@ impl<'a> Undone<'a> {
         }
     }
 
-    // Tells what happened, and gives the exit status.
+    // Prints the failure, and returns the exit status.
     fn tell<S: Sink, E: Sink>(self, alloc: Global, out: &mut S, err: &mut E) -> u8 {
         match self {
             Undone::Failure(failure) => failure.tell(alloc, out, err),
@@ -150,7 +150,7 @@ fn fault_of_merge<'a>(paths: &[&'a str], fault: PartialsFault) -> Undone<'a> {
     }
 }
 
-// Reads and merges what is asked for.
+// Reads and merges the partials.
 fn merge_read<'a, R: Files + AllocGlobal, S: Sink, E: Sink>(
     rt: &R,
     asked: &Merge<'a>,

@@ -9,7 +9,7 @@ use std::{fmt, io};
 /// How many milliseconds a load takes before anything of it is shown.
 const SILENCE: u64 = 1_000;
 
-/// How many milliseconds a line stands at least, so that at most ten are written in a second.
+/// How many milliseconds a line is shown at least, so that at most ten are written in a second.
 const PAUSE: u64 = 100;
 
 /// What goes over the line of a terminal. No line that is shown has more than its 40 columns.
@@ -35,14 +35,14 @@ impl fmt::Display for TableFile {
     }
 }
 
-/// Who is told how far the load of a folder is. Nothing that is loaded, answered or told elsewhere
-/// hangs on it.
+/// Gets the progress of a folder's load. Nothing that is loaded, answered or printed elsewhere
+/// depends on it.
 pub trait Watch {
     /// The load begins.
     fn begin(&mut self);
 
-    /// One more read of a file was done, and `came` of its bytes have come so far, of `size`; of a
-    /// `size` that isn't known it is told 0.
+    /// One more read of a file was done, and `came` of its bytes have come so far, of `size`, or 0
+    /// if its size isn't known.
     fn came(&mut self, file: TableFile, came: u64, size: u64);
 
     /// The files were read, or one of them could not be: nothing more comes.
@@ -58,7 +58,7 @@ impl Watch for () {
     fn end(&mut self) {}
 }
 
-// The moment `pause` milliseconds from now, if the clock tells it.
+// The moment `pause` milliseconds from now, if the clock can be read.
 fn later(clock: &impl Clock, pause: u64) -> Option<Instant> {
     match Instant::now(clock) {
         Ok(now) => now.checked_add(Duration::from_millis(pause)),
@@ -66,7 +66,7 @@ fn later(clock: &impl Clock, pause: u64) -> Option<Instant> {
     }
 }
 
-// What is shown of a file: its name and how many megabytes of it came, of how many, where that is known.
+// The line of a file: its name and how many megabytes of it came, of how many, if that is known.
 fn line_of(alloc: Global, file: TableFile, came: u64, size: u64) -> Result<String, AllocError> {
     let came = came / MEGABYTE;
     if size == 0 {
@@ -76,8 +76,8 @@ fn line_of(alloc: Global, file: TableFile, came: u64, size: u64) -> Result<Strin
     format!(in alloc; "{BLANK}{file} {came} of {size} MB")
 }
 
-// The terminal is an end of standard error of its own, which `main` hands over only where standard
-// error is a terminal: so nothing reaches a file, and what contracts say of the streams that calls
+// The terminal is an end of standard error of its own, which `main` hands over only if standard
+// error is a terminal: nothing reaches a file, and the contracts about the streams that calls
 // are handed holds as it is.
 /// Shows on one line of a terminal which file a load reads and how many megabytes of it have come, once
 /// the load has taken a second; at most ten times in a second. The line is wiped in the end. A terminal
@@ -87,7 +87,7 @@ pub struct Progress<'c, C, W> {
     alloc: Global,
     clock: &'c C,
     terminal: Option<W>,
-    // From when on a line is due: never where there is no terminal, no load, or a write failed.
+    // From when on a line is due: never if there is no terminal, no load, or a write failed.
     due: Option<Instant>,
     is_shown: bool,
 }
@@ -104,7 +104,7 @@ impl<'c, C: Clock, W: Write> Progress<'c, C, W> {
         }
     }
 
-    // Whether a line is due. Where none ever is, the clock is not asked.
+    // Whether a line is due. If none ever is, the clock is not asked.
     fn is_due(&self) -> bool {
         let Some(due) = self.due else {
             return false;
@@ -115,7 +115,7 @@ impl<'c, C: Clock, W: Write> Progress<'c, C, W> {
         }
     }
 
-    // Writes a text on the terminal, and tells whether it was written.
+    // Writes a text on the terminal, and returns whether it was written.
     fn write(&mut self, text: &str) -> bool {
         match &mut self.terminal {
             Some(terminal) => terminal.write_all(text.as_bytes()).is_ok(),
@@ -155,7 +155,7 @@ impl<'c, C: Clock, W: Write> Watch for Progress<'c, C, W> {
     }
 }
 
-/// A reader of a file of a table, with whom is told of its bytes as they come.
+/// A reader of a file of a table, with the `Watch` that gets its progress.
 #[derive(Drop)]
 pub(crate) struct Watched<'p, F, P> {
     reader: F,

@@ -1,4 +1,4 @@
--- What a run of a compiled program has put, and what it answers.
+-- The puts of a run of a compiled program, and its answer.
 use Rattle.std.specs.Prelude.{◌≡◌, ℕ, Bool, List, map, reverse}
 use Rattle.star_schema.specs.{declared.column.ColumnId.ColumnId, Tables.Value, Tables.Number, Tables.Text, Database.Database}
 use Rattle.star_query.specs.Tree.{Tree}
@@ -23,7 +23,7 @@ update_of_row w p row = record {
 }
 
 -- a run that comes to its end has put the selected rows and no other, in their order; the updates
--- stand the newest first. `may` tells whether one more turn may begin, so this holds of a run with a
+-- are in order, the newest first. `may` says whether one more turn may begin; this holds of a run with a
 -- bound on its visits and of one without
 abbrev pub PutsTheRows : Tables → World → Plan → Type 0
 PutsTheRows ts w p = (may : ℕ → Bool) (s : State) → run_while w may (compiled p) ≡ Ended s
@@ -41,7 +41,7 @@ AnswersTheQuery ts w query p = (may : ℕ → Bool) (s : State) (outcome : Outco
     → run_while w may (compiled p) ≡ Ended s → IsOutcome w (compiled p) s outcome
     → IsAnswer ts query outcome.names outcome.rows
 
--- over the rows of five tables, what is printed of an outcome is the report of a query's text
+-- over the rows of five tables, the printed outcome is the report of a query's text
 abbrev pub ReportsTheQuery : Database → List ℕ → Plan → Type 0
 ReportsTheQuery database text p = (may : ℕ → Bool) (s : State) (outcome : Outcome)
     → run_while (world_of database) may (compiled p) ≡ Ended s

@@ -13,7 +13,7 @@ use Rattle.star_query.specs.declared.token.Relation.TheVariants as sign
 use Rattle.star_program.specs.declared.group.GroupKey.TheVariants as key
 use Rattle.star_program.specs.declared.op.Operator.TheVariants as operator
 
--- ---- what is known where an instruction stands
+-- ---- what is known at an instruction
 
 -- the next register, and the registers of the columns that are loaded and of the tables whose row
 -- is found
@@ -41,7 +41,7 @@ with_loaded env c = record (one_more env) { loaded = env.loaded ++ (c, env.next)
 abbrev pub with_found : Env → TableId → Env
 with_found env t = record (one_more env) { found = env.found ++ (t, env.next) ∷ [] }
 
--- what comes after a piece: the code that follows, by what is then known and by the register of the
+-- the continuation of a piece: the code that follows, by what is then known and by the register of the
 -- piece's result, or by those of its results; each piece below is given it
 abbrev pub Rest : Type 0 → Type 0
 Rest R = Env → R → Code
@@ -50,7 +50,7 @@ Rest R = Env → R → Code
 abbrev pub write : Operation → Env → Rest ℕ → Code
 write o env k = Then (Assign env.next o) (k (one_more env) env.next)
 
--- an operator stands after its left part and then its right one
+-- an operator comes after its left part and then its right one
 abbrev pub binary_code : (left right : Env → Rest ℕ → Code) → Operator → Env → Rest ℕ → Code
 binary_code left right o env k = left env (λ e x. right e (λ e y. write (Binary o x y) e k))
 
@@ -58,7 +58,7 @@ binary_code left right o env k = left env (λ e x. right e (λ e y. write (Binar
 abbrev pub one_before : (Env → Rest ℕ → Code) → (Env → Rest (List ℕ) → Code) → Env → Rest (List ℕ) → Code
 one_before first others env k = first env (λ e x. others e (λ e xs. k e (x ∷ xs)))
 
--- ---- columns: each is loaded once, where it is used first
+-- ---- columns: each is loaded once, at its first use
 
 abbrev pub load_code : ColumnId → ℕ → Env → Rest ℕ → Code
 load_code c row env k = Then (Assign env.next (Load c row)) (k (with_loaded env c) env.next)
@@ -73,7 +73,7 @@ abbrev pub foreign_of : List Join → TableId → ColumnId
 foreign_of [] t = LoOrderdate
 foreign_of (j ∷ js) t = if is_table t (table_of j.key) then j.foreign else foreign_of js t
 
--- the row of a dimension is found once, where one of its columns is used first: by the foreign key
+-- the row of a dimension is found once, at the first use of one of its columns: by the foreign key
 abbrev pub row_code : List Join → TableId → Env → Rest ℕ → Option ℕ → Code
 row_code js t env k (Some r) = k env r
 row_code js t env k None =
@@ -96,7 +96,7 @@ column_code js c env k = column_from js c env k (register_in is_column env.loade
 
 -- ---- conditions
 
--- where the values of a column begin that equal a value, and where those begin that are greater: of
+-- the first value of a column that equals a value, and the first that is greater: of
 -- numbers the value and the next, of texts the edges of the text
 abbrev pub start_of : ColumnId → Value → Operation
 start_of c (Number a) = Const a
@@ -110,17 +110,17 @@ end_behind c (Text t) = Edge High c t
 abbrev pub beside : Operation → (ℕ → Operation) → Env → Rest ℕ → Code
 beside operand used env k = write operand env (λ e n. write (used n) e k)
 
--- from where the values begin that equal the one, to where those end that equal the other
+-- from the first value that equals the one, to the last that equals the other
 abbrev pub between_code : ColumnId → ℕ → Value → Value → Env → Rest ℕ → Code
 between_code c x from upto env k =
     write (start_of c from) env (λ e m. beside (end_behind c upto) (λ n. Within x m n) e k)
 
--- a number is compared by an operator; a text equals another where it lies between it and itself
+-- a number is compared by an operator; a text equals another if it lies between it and itself
 abbrev pub equal_code : ColumnId → ℕ → Value → Env → Rest ℕ → Code
 equal_code c x (Number a) env k = beside (Const a) (λ n. Binary operator.Equal x n) env k
 equal_code c x (Text t) env k = between_code c x (Text t) (Text t) env k
 
--- a column, which stands in register x, beside a value; where a text is compared by an edge, the
+-- a column, which is in register x, compared with a value; if a text is compared by an edge, the
 -- operator takes the edge in or leaves it out
 abbrev pub test_code : Relation → ColumnId → ℕ → Value → Env → Rest ℕ → Code
 test_code sign.Equal c x v env k = equal_code c x v env k
@@ -155,7 +155,7 @@ abbrev pub conjuncts_code : List Join → List RowCondition → Env → (Env →
 conjuncts_code js [] env k = k env
 conjuncts_code js (c ∷ cs) env k = conjunct_code js c env (λ e. conjuncts_code js cs e k)
 
--- ---- what is put
+-- ---- the put
 
 abbrev pub expression_code : List Join → Expression ColumnId → Env → Rest ℕ → Code
 expression_code js (column c) env k = column_code js c env k

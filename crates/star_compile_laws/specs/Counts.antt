@@ -8,7 +8,7 @@ use Rattle.star_program.specs.{declared.op.Op.TheVariants.Assign, declared.op.Op
 use Rattle.star_query_meaning.specs.Rows.{selected}
 use Rattle.star_compile_laws.specs.Compiled.{compiled, turn_code}
 
--- the finds of a turn before the keep that ends it, where its keeps keep by these flags, in their
+-- the finds of a turn before the keep that ends it, if its keeps keep by these flags, in their
 -- order
 abbrev pub lookups_in : Code → List Bool → ℕ
 lookups_in (Then (Assign t (Find table key)) rest) flags = lookups_in rest flags + 1

@@ -1,4 +1,4 @@
--- What is told of a compiled program that leaves 64 bits.
+-- The refusal of a compiled program that leaves 64 bits.
 use Rattle.std.specs.Prelude.{◌≡◌, ℕ, ℤ, List, Option, Some}
 use Rattle.star_safety.specs.{declared.reason.Reached.Reached, declared.reason.Reason.TheVariants.Overflow, Admissible.Refusal, Admissible.Refused}
 

@@ -1,5 +1,5 @@
 -- Which number of a query's program is the first that may leave 64 bits, by the bounds of the columns
--- alone (interval analysis: Moore, Interval Analysis, 1966).
+-- only (interval analysis: Moore, Interval Analysis, 1966).
 use Rattle.std.specs.Prelude.{ℕ, ℤ, pos, ◌+◌, ◌+ℤ◌, ◌-ℤ◌, ◌*ℤ◌, Bool, false, ◌||◌, nat_eq, filter, map, Option, Some, None, if◌then◌else◌}
 use Rattle.star_schema.specs.declared.column.{ColumnId.ColumnId, TheConstants.COLUMNS}
 use Rattle.star_interval.specs.Range.{Range, corner_range, fits_i64, only}
@@ -14,7 +14,7 @@ pub record Computed : Type 0 where
   pub range : Range
   pub columns : ColumnId → Bool
 
--- of no column; so is what is no number, which counts as 0
+-- of no column; likewise a value that is no number, which counts as 0
 abbrev pub given : ℤ → Computed
 given z = record { range = only z; columns = λ c. false }
 
@@ -23,7 +23,7 @@ abbrev pub together : (ℤ → ℤ → ℤ) → Computed → Computed → Comput
 together f a b =
     record { range = corner_range f a.range b.range; columns = λ c. a.columns c || b.columns c }
 
--- by an operation, of what is known of the registers
+-- by an operation, from the facts about the registers
 abbrev pub computed : (ColumnId → Range) → (ℕ → Computed) → Operation → Computed
 computed bounds known (Const z) = given z
 computed bounds known (Load c row) =
@@ -33,7 +33,7 @@ computed bounds known (Binary Sub l r) = together ◌-ℤ◌ (known l) (known r)
 computed bounds known (Binary Mul l r) = together ◌*ℤ◌ (known l) (known r)
 computed bounds known _ = given (pos 0)
 
--- its range is too wide; the columns stand in their order, each with its bounds
+-- its range is too wide; the columns are in their order, each with its bounds
 abbrev pub too_wide : (ColumnId → Range) → Computed → Reason
 too_wide bounds n =
     Overflow n.range.low n.range.high

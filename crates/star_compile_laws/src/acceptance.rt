@@ -1,4 +1,4 @@
-//! When nothing refuses a compiled program: exactly where its query fits.
+//! When nothing refuses a compiled program: exactly if its query fits.
 
 ghost use Rattle.std.specs.Prelude.{◌≡◌, ◌↔◌, ◌≤◌, ◌<◌, ℕ, None, Some, length};
 ghost use Rattle.std.specs.{Option.option_map};
@@ -14,10 +14,11 @@ ghost use Rattle.star_compile_laws.specs.{Compiled.compiled, Judged.IsOverflow, 
 /// instructions is refused since a range leaves 64 bits: the first of them, in the order in which a
 /// turn computes. There is no other refusal.
 ///
-/// What isn't refused fits, and what else is refused is refused so, for any constants. What fits
-/// isn't refused where the bounds of the columns of numbers are of 64 bits, and where the numbers of
-/// the query have at most 18 digits: a query is asked for the ranges of what it aggregates alone,
-/// and its program for those of all columns that it loads, and of the constants of its conditions.
+/// A program that isn't refused fits, and others are refused as defined, for any constants. One
+/// that fits isn't refused if the bounds of the columns of numbers are of 64 bits, and if the
+/// numbers of the query have at most 18 digits: a query is asked only for the ranges of its
+/// aggregates, and its program for those of all columns that it loads, and of the constants of its
+/// conditions.
 pub fn compiled_programs_are_accepted_where_they_fit_the_tables()
     ensures fits { (database : Database) (most : ℕ) (p : Plan)
         → AreBoundsI64 (bounds_in (rows_in database)) → IsSoundPlan p → IsSpelledPlan p

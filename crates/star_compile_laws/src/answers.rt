@@ -10,7 +10,7 @@ ghost use Rattle.star_compile_laws.specs.{Answers.AnswersThePlan, Answers.Answer
 
 use star_world::law::sound_rows_have_a_world;
 
-/// Where a run of a compiled program comes to its end, its outcome is the plan's answer: the groups
+/// If a run of a compiled program comes to its end, its outcome is the plan's answer: the groups
 /// of the selected rows with their aggregates, in the plan's order, cut to its items, under their
 /// names.
 pub fn compiled_programs_answer_their_plans()
@@ -27,9 +27,9 @@ pub fn compiled_programs_answer_their_queries()
         → AnswersTheQuery (rows_in database) w query p }
 {}
 
-/// A run of it has visited each row of lineorder once, and made an update of each row that the query
-/// selects. It has looked up as many rows as finds stand in the row's turn before the keep of its
-/// first conjunct that doesn't hold.
+/// A run of it has visited each row of lineorder once, and made an update of each row that the
+/// query selects. It has looked up as many rows as there are finds in the row's turn before the
+/// keep of its first conjunct that doesn't hold.
 pub fn compiled_programs_count_the_rows()
     ensures { (database : Database) (w : World) (query : Tree) (p : Plan)
         → ((table : TableId) → All (IsRowOf table) (rows_in database table))
@@ -37,7 +37,7 @@ pub fn compiled_programs_count_the_rows()
         → CountsTheRows (rows_in database) w query p }
 {}
 
-/// And what is printed of it over sound rows, which have a world, is the report of the query's text.
+/// And its printed text over sound rows, which have a world, is the report of the query's text.
 pub fn compiled_programs_report_their_queries()
     ensures { (database : Database) (text : List ℕ) (query : Tree) (p : Plan)
         → IsSound database

@@ -7,8 +7,8 @@ ghost use Rattle.star_program.specs.{Code.code_size, Limits.IsWithinLimits, Show
 ghost use Rattle.star_safety.specs.Quote.{quote};
 ghost use Rattle.star_compile_laws.specs.Compiled.{compiled};
 
-/// A compiled plan is a program: within the limits, of a report that names what is there, and
-/// spelled by some text. It has far fewer instructions than a program may have.
+/// A compiled plan is a program: within the limits, of a report that names existing groups and
+/// aggregates, and spelled by some text. It has far fewer instructions than a program may have.
 pub fn compiled_plans_are_programs()
     ensures limits { (p : Plan) → IsPlanWithinLimits p → IsWithinLimits (compiled p) }
     ensures size { (p : Plan) → IsPlanWithinLimits p → code_size (compiled p).body ≤ 2578 }

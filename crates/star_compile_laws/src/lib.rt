@@ -1,7 +1,7 @@
 //! Laws of the program of a query.
 //!
-//! What the program is stands in `specs/Compiled.antt`, what its runs put and answer in
-//! `specs/Answers.antt`, and what refuses it in `specs/Judged.antt`. There is no code here: the
+//! The program is defined in `specs/Compiled.antt`, the puts and answers of its runs in
+//! `specs/Answers.antt`, and its refusal in `specs/Judged.antt`. There is no code here: the
 //! functions of `law`, `answers` and `acceptance` are the laws. Nothing here names what checks
 //! programs or runs them.
 #![tactic(auto)]

@@ -1,4 +1,4 @@
--- Texts that are told by their places among other texts.
+-- Texts that are given by their places among other texts.
 use Rattle.std.specs.Prelude.{◌<◌, ◌≤◌, ℕ, ℤ, List, [], All, Contains, length, map, slice_index_or}
 use Rattle.std.specs.Int.RustNames.{unsigned_abs}
 
@@ -6,7 +6,7 @@ use Rattle.std.specs.Int.RustNames.{unsigned_abs}
 abbrev pub places_in : List ℤ → List ℕ
 places_in numbers = map unsigned_abs numbers
 
--- the texts that stand at these places of a list
+-- the texts at these places of a list
 abbrev pub texts_at_places : List (List ℕ) → List ℕ → List (List ℕ)
 texts_at_places texts places = map (λ place. slice_index_or texts place []) places
 

@@ -1,4 +1,4 @@
-// Where texts end that lie one after another.
+// The ends of texts that are one after another.
 
 ghost use Rattle.std.specs.Prelude.{◌≡◌, ◌<◌, ◌≤◌, ◌+◌, ◌-◌, ◌*◌, ◌/◌, ◌^◌, ◌++◌, ◌∷◌, ◌⊎◌, [], ℕ, All, IfOk, OnErr, OnOk, Some, length, slice_get, slice_index, take};
 
@@ -10,10 +10,10 @@ use std::marker::Model;
 /// How many texts are counted from one start.
 const BLOCK: usize = 16;
 
-/// Where texts end, which a contract sees as the list of their ends.
+/// The ends of texts, which a contract sees as a list.
 ///
-/// Of each 16 texts it is kept where the first begins, and for each how far after that it ends. So
-/// where texts are short, an end takes a byte and a half.
+/// Of each 16 texts it keeps the start of the first, and for each how far after that it ends.
+/// Therefore an end takes a byte and a half if texts are short.
 #[derive(Drop)]
 pub(crate) struct Ends {
     starts: Vec<usize>,
@@ -53,7 +53,7 @@ fn begin(starts: &mut Vec<usize>, block: usize, start: usize) -> Result<(), Allo
     Ok(())
 }
 
-/// From where the end after `count` others is counted: from the start of its own text where that
+/// The origin of the end after `count` others: the start of its own text if that
 /// begins a block.
 fn start_for(starts: &mut Vec<usize>, count: usize, start: usize) -> Result<usize, AllocError>
     requires { count ≤ length starts.old.items * 16 }
@@ -118,7 +118,7 @@ impl Ends {
     }
 
     /// Puts the end of a text that begins at `start` after the others, which are not greater, or
-    /// changes nothing where memory is refused.
+    /// changes nothing if memory is refused.
     pub(crate) fn push(&mut self, start: usize, end: usize) -> Result<(), AllocError>
         requires start { start ≤ end }
         requires after { All (λ e. e ≤ end) self.old }

@@ -35,7 +35,7 @@ fn count_remainders(alloc: Global, texts: &FlatTexts, count: u32) -> Result<u32,
 }
 
 /// Whether many of these texts, fewer than 2^32, may be equal. Otherwise at least two fifths of them
-/// are different. (Where half of the texts are different, their marks leave two fifths of the
+/// are different. (If half of the texts are different, their marks leave two fifths of the
 /// remainders.)
 pub(crate) fn may_repeat(alloc: Global, texts: &FlatTexts) -> Result<bool, AllocError>
     ensures { IfOk result (λ repeat. IsTrue repeat → length texts.now < 2 ^ 32) }

@@ -12,7 +12,7 @@ const SHORT: usize = 16;
 /// How many short texts are remembered.
 pub(crate) const REMEMBERED: usize = 64;
 
-/// A short text, and the place of an equal one among those that are kept. Where `len` is more than
+/// A short text, and the place of an equal one among those that are kept. If `len` is more than
 /// 16 there is none.
 #[derive(Clone, Copy)]
 pub(crate) struct Met {

@@ -67,7 +67,7 @@ impl FlatNumbers {
         &self.words
     }
 
-    /// Puts a number at the end, or changes nothing where memory is refused.
+    /// Puts a number at the end, or changes nothing if memory is refused.
     #[inline(always)]
     pub fn push(&mut self, number: i64) -> Result<(), AllocError>
         ensures ok { OnOk result (self.new ≡ self.old ++ number ∷ []) }
@@ -92,14 +92,14 @@ impl FlatNumbers {
         self.words.release();
     }
 
-    /// Keeps the first `count` numbers alone.
+    /// Keeps only the first `count` numbers.
     pub(crate) fn truncate(&mut self, count: usize)
         ensures { self.new ≡ take count self.old }
     {
         self.words.truncate(count);
     }
 
-    /// Puts a number at the end in words as wide as it needs, or changes nothing where memory is
+    /// Puts a number at the end in words as wide as it needs, or changes nothing if memory is
     /// refused. Apart from `push`, which stays short so.
     #[cold]
     fn push_wide(&mut self, number: i64) -> Result<(), AllocError>
@@ -135,7 +135,7 @@ pub(crate) fn two_places(rows: &FlatNumbers, row: usize) -> (usize, usize)
     )
 }
 
-/// Puts a place at the end, or changes nothing where memory is refused.
+/// Puts a place at the end, or changes nothing if memory is refused.
 #[inline(always)]
 pub(crate) fn push_place(rows: &mut FlatNumbers, place: usize) -> Result<(), AllocError>
     ensures ok { OnOk result (places_in rows.new ≡ places_in rows.old ++ place ∷ []) }

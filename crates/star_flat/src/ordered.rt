@@ -11,8 +11,8 @@ use std::cmp::Ordering;
 
 /// The key of a text, by which it is put in order, and its number, which is its place in a list.
 ///
-/// Most keys are told apart by their fronts, the first 11 bytes of their texts, with no look at
-/// where the texts lie. A text of at most 11 bytes is told by its front alone.
+/// Most keys are distinguished by their fronts, the first 11 bytes of their texts, with no look at
+/// the texts. A text of at most 11 bytes is known by its front.
 #[derive(Clone, Copy)]
 pub(crate) struct Numbered {
     /// The first 8 bytes.
@@ -22,10 +22,10 @@ pub(crate) struct Numbered {
     pub(crate) number: u32,
 }
 
-/// A text behind its front, and its number.
+/// A text after its front, and its number.
 ///
 /// Two of them compare as their texts do, and equal ones by their numbers. It is twice as long as a
-/// key, but has where its text lies, so those whose fronts are equal are compared sooner.
+/// key, but has the place of its text, and those whose fronts are equal are compared sooner.
 #[derive(Clone, Copy, PartialEq, Eq, PartialOrd, Ord)]
 pub(crate) struct Whole<'t> {
     pub(crate) first: u64,
@@ -44,7 +44,7 @@ fn byte_at(text: &[u8], place: usize) -> u8
     }
 }
 
-/// The first 8 bytes of a text as the digits of a number, the first byte the highest. Where a text
+/// The first 8 bytes of a text as the digits of a number, the first byte the highest. If a text
 /// has fewer, zeros follow.
 fn first_of(text: &[u8]) -> u64
     ensures digits { result ≡ digits 8 text.now }
@@ -82,7 +82,7 @@ fn second_of(text: &[u8]) -> u32
         + count_of(text)
 }
 
-/// The text of a number, an empty one where there is none.
+/// The text of a number, an empty one if there is none.
 #[inline(always)]
 fn text_of(texts: &FlatTexts, number: u32) -> &[u8]
     ensures { result.now ≡ slice_index_or texts.now number [] }
@@ -110,7 +110,7 @@ impl Numbered {
         }
     }
 
-    /// Whether the front tells the text whole.
+    /// Whether the front is the whole text.
     #[inline(always)]
     fn is_whole(self) -> bool
         ensures { result ≡ nat_lt (self.second % 256) 12 }
@@ -118,7 +118,7 @@ impl Numbered {
         self.second % 256 < 12
     }
 
-    /// What is looked at where fronts are one.
+    /// The part that is compared if fronts are equal.
     fn ending(self, texts: &FlatTexts) -> &[u8]
         ensures { result.now ≡ ending texts.now self }
     {
@@ -152,7 +152,7 @@ impl Numbered {
         ]
     }
 
-    /// Puts the text after others. Where the front tells it whole, there is no look at where it lies.
+    /// Puts the text after others. If the front is the whole text, its place is not read.
     pub(crate) fn put_text(self, texts: &FlatTexts, put: &mut FlatTexts) -> Result<(), AllocError>
         requires keyed { IsKeyed texts.now self }
         ensures ok { OnOk result (put.new ≡ put.old ++ text_at texts.now self ∷ []) }
@@ -175,7 +175,7 @@ fn compare_endings(texts: &FlatTexts, one: Numbered, other: Numbered) -> Orderin
     one.ending(texts).cmp(&other.ending(texts))
 }
 
-/// How two keys compare: as their fronts, and where these are one, as their texts.
+/// How two keys compare: as their fronts, and if these are equal, as their texts.
 #[inline(always)]
 fn compare(texts: &FlatTexts, one: Numbered, other: Numbered) -> Ordering
     ensures { result ≡ by_key texts.now one other }
@@ -295,7 +295,7 @@ fn are_long(texts: &FlatTexts) -> bool {
 
 /// The keys of these texts in the order of their bytes, each with the text's place in the list.
 ///
-/// Where many texts are long, all their fronts may be equal, so it is kept where each lies. That
+/// If many texts are long, all their fronts may be equal; therefore the place of each is kept. That
 /// takes three times the memory, but a long text has more than 11 bytes of its file itself.
 pub(crate) fn in_order(alloc: Global, texts: &FlatTexts) -> Result<Vec<Numbered>, AllocError>
     requires { length texts.now < 2 ^ 32 }

@@ -19,18 +19,18 @@ const MANY: usize = 32_768;
 
 /// A list of texts, which a contract sees as the list of their bytes. A text that equals one that
 /// was put lately is not kept again: for each text there is the place of an equal one among those
-/// that are kept. Where many are kept that may repeat, they are compacted: of equal ones one stays.
+/// that are kept. If many are kept that may repeat, they are compacted: of equal ones one stays.
 #[derive(Drop)]
 pub struct RepeatedTexts {
     alloc: Global,
     kept: FlatTexts,
     rows: FlatNumbers,
-    // Places of texts that were put lately, each in the slot of its text. Any place may stand here:
+    // Places of texts that were put lately, each in the slot of its text. Any place may be here:
     // it is tried.
     recent: [usize; SLOTS],
     // Short texts of them, by value.
     met: [Met; REMEMBERED],
-    // How many texts are kept before they are compacted next. Any number may stand here.
+    // How many texts are kept before they are compacted next. Any number is valid here.
     most: usize,
 }
 
@@ -62,7 +62,7 @@ fn recent_place(recent: &[usize; SLOTS], kept: &FlatTexts, text: &[u8]) -> Optio
     }
 }
 
-/// Keeps a text, and puts its place at the end, or changes nothing where memory is refused.
+/// Keeps a text, and puts its place at the end, or changes nothing if memory is refused.
 fn keep(kept: &mut FlatTexts, rows: &mut FlatNumbers, text: &[u8]) -> Result<(), AllocError>
     ensures kept { OnOk result (kept.new ≡ kept.old ++ text.now ∷ []) }
     ensures rows { OnOk result (places_in rows.new ≡ places_in rows.old ++ length kept.old ∷ []) }
@@ -79,7 +79,7 @@ fn keep(kept: &mut FlatTexts, rows: &mut FlatNumbers, text: &[u8]) -> Result<(),
     }
 }
 
-/// What stands at the place of each row.
+/// The item at the place of each row.
 fn renumbered(alloc: Global, rows: &FlatNumbers, numbers: &[u32]) -> Result<FlatNumbers, AllocError>
     requires { All (λ place. place < length numbers.now) (places_in rows.now) }
     ensures { IfOk result (λ renumbered. places_in renumbered
@@ -92,7 +92,7 @@ fn renumbered(alloc: Global, rows: &FlatNumbers, numbers: &[u32]) -> Result<Flat
     Ok(renumbered)
 }
 
-/// Keeps one of equal texts alone, and puts its place for each row, or changes nothing where memory
+/// Keeps only one of equal texts, and puts its place for each row, or changes nothing if memory
 /// is refused.
 fn keep_different(
     alloc: Global,
@@ -151,7 +151,7 @@ impl RepeatedTexts {
         (&self.kept, &self.rows)
     }
 
-    /// Puts a text at the end, or changes nothing where memory is refused.
+    /// Puts a text at the end, or changes nothing if memory is refused.
     #[inline(always)]
     pub fn push(&mut self, text: &[u8]) -> Result<(), AllocError>
         ensures ok { OnOk result (self.new ≡ self.old ++ text.now ∷ []) }
@@ -180,7 +180,7 @@ impl RepeatedTexts {
         self.rows.release();
     }
 
-    /// Puts a text at the end that is not remembered by value, or changes nothing where memory is
+    /// Puts a text at the end that is not remembered by value, or changes nothing if memory is
     /// refused. Apart from `push`, which stays short so.
     #[cold]
     fn push_other(&mut self, text: &[u8]) -> Result<(), AllocError>
@@ -197,7 +197,7 @@ impl RepeatedTexts {
     }
 
     /// Puts a text at the end that equals none of those that were put lately, or changes nothing
-    /// where memory is refused.
+    /// if memory is refused.
     fn push_new(&mut self, text: &[u8]) -> Result<(), AllocError>
         ensures ok { OnOk result (self.new ≡ self.old ++ text.now ∷ []) }
         ensures err { OnErr result (self.new ≡ self.old) }
@@ -209,13 +209,14 @@ impl RepeatedTexts {
         keep(&mut self.kept, &mut self.rows, text)
     }
 
-    /// Keeps one of equal texts alone, where many may repeat, or changes nothing where memory is
+    /// Keeps only one of equal texts, if many may repeat, or changes nothing if memory is
     /// refused.
     ///
-    /// After that at least twice as many more texts are kept as are left now, and as a quarter of the
-    /// rows, before it is done again. So each text that is kept pays for the sort of one and a half
-    /// texts and for the new places of four rows. Where few repeat, they are only marked, and as many
-    /// more of them are kept, so each pays for two marks. No choice of texts takes more than n log n.
+    /// After that at least twice as many more texts are kept as remain now, and as a quarter of the
+    /// rows, before it is done again. Each text that is kept thus pays for the sort of one and a
+    /// half texts and for the new places of four rows. If few repeat, they are only marked, and as
+    /// many more of them are kept; each pays for two marks. No choice of texts takes more than n
+    /// log n.
     fn compact(&mut self) -> Result<(), AllocError>
         ensures { self.new ≡ self.old }
     {

@@ -1,11 +1,11 @@
-// Slots, in which what was met lately is remembered.
+// Slots, which remember recent texts.
 
 ghost use Rattle.std.specs.Prelude.{◌<◌};
 
 /// How many slots there are for texts that were met lately.
 pub const SLOTS: usize = 256;
 
-// The clause bounds the answer alone: a text in a slot is compared before it is believed, so the
+// The clause bounds only the answer: a text in a slot is compared before it is believed, and the
 // spread of texts decides only how soon an equal one is found.
 /// The slot of a text, by its length, its first and its last byte. Other texts have it too.
 #[inline(always)]

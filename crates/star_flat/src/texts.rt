@@ -67,7 +67,7 @@ impl FlatTexts {
         self.ends.release();
     }
 
-    /// Puts a text at the end, or changes nothing where memory is refused.
+    /// Puts a text at the end, or changes nothing if memory is refused.
     pub fn push(&mut self, text: &[u8]) -> Result<(), AllocError>
         ensures ok { OnOk result (self.new ≡ self.old ++ text.now ∷ []) }
         ensures err { OnErr result (self.new ≡ self.old) }
@@ -84,7 +84,7 @@ impl FlatTexts {
     }
 }
 
-// Where the text at a place begins, and where it ends.
+// The start and the end of the text at a place.
 #[inline(always)]
 fn range_at(ends: &Ends, place: usize) -> (usize, usize)
     requires { place < length ends.now }

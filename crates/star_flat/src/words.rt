@@ -7,9 +7,9 @@ ghost use Rattle.star_flat.specs.{Words.less, Words.numbers_in, Private.Widths.w
 use crate::pages::release;
 use std::alloc::{AllocError, Global};
 
-/// A number with a sign in a word of some width. Below 64 bits it is kept as how far it lies above
-/// the least of that width, so a column's numbers become their differences from the least of them
-/// where they are.
+/// A number with a sign in a word of some width. Below 64 bits it is kept as its distance above
+/// the least of that width, and a column's numbers become their differences from the least of them
+/// in place.
 pub trait SignedWord: Copy + Ord + Drop {
     // The numbers that it can be.
     ghost holds: { ℤ → Type 0 };
@@ -121,7 +121,7 @@ fn make_room<W: SignedWord>(words: &mut Vec<W>) -> Result<(), AllocError>
     words.reserve(1)
 }
 
-/// Puts a number at the end, or changes nothing where it is too wide or memory is refused. Tells
+/// Puts a number at the end, or changes nothing if it is too wide or memory is refused. Returns
 /// whether it did.
 #[inline(always)]
 fn push_to<W: SignedWord>(words: &mut Vec<W>, number: i64) -> Result<bool, AllocError>
@@ -209,8 +209,8 @@ impl SignedWords {
         }
     }
 
-    /// Puts a number at the end, or changes nothing where it is too wide or memory is refused. Tells
-    /// whether it did: always where the words have 64 bits.
+    /// Puts a number at the end, or changes nothing if it is too wide or memory is refused. Returns
+    /// whether it did: always if the words have 64 bits.
     #[inline(always)]
     pub(crate) fn push(&mut self, number: i64) -> Result<bool, AllocError>
         ensures ok { IfOk result (λ pushed. MatchBool pushed
@@ -237,7 +237,7 @@ impl SignedWords {
         }
     }
 
-    /// Keeps the first `count` numbers alone.
+    /// Keeps only the first `count` numbers.
     pub(crate) fn truncate(&mut self, count: usize)
         ensures { numbers_in self.new ≡ take count (numbers_in self.old) }
     {

@@ -1,4 +1,4 @@
--- The content of a deferred store: the rows of all keys alone, and the total.
+-- The content of a deferred store: only the rows of all keys, and the total.
 use Rattle.std.specs.Prelude.{◌≡◌, ℕ, ◌<◌, Bool, true, false, List, Option, Some, None, filter, length, map, slice_index_or}
 use Rattle.std.specs.{List.AllByRecursion, Map.lookup}
 use Rattle.star_schema.specs.{declared.group.Aggregate.Aggregate, declared.group.Shape.Shape, Groups.numbers_for}
@@ -7,7 +7,7 @@ use Rattle.star_group.specs.{declared.keyed.key.KeyPart.KeyPart, declared.keyed.
 use Rattle.star_group.specs.{Held.has_puts}
 use Rattle.star_group.specs.{Keyed.Entry, Keyed.Row, OwnKeys.RowKey}
 
--- what stands in a place of a key, None for ALL
+-- the value at a place of a key, None for ALL
 abbrev pub key_value_view : KeyPart → Option KeyValue
 key_value_view All = None
 key_value_view (Number x) = Some (NumberKey x)
@@ -25,7 +25,7 @@ abbrev pub HasAggregates : Group → List Update → Row → Type 0
 HasAggregates d puts row = (place : ℕ) → place < length d.aggregates
     → slice_index_or row place None ≡ held (aggregate_at d.aggregates place) (numbers_for place puts)
 
--- a row is there exactly where it has a put, and has the aggregates over its puts
+-- a row is there exactly if it has a put, and has the aggregates over its puts
 abbrev pub IsRowOver : Group → List Update → Option Row → Type 0
 IsRowOver d puts None = has_puts puts ≡ false
 IsRowOver d puts (Some row) = (has_puts puts ≡ true) × HasAggregates d puts row

@@ -13,11 +13,11 @@ neutral Count = pos 0
 neutral Min = pos (2 ^ 63 - 1)
 neutral Max = negsuc (2 ^ 63 - 1)
 
--- what it has over some puts
+-- its content over some puts
 abbrev pub cell_over : Group → ℕ → List Update → ℤ
 cell_over d a puts = unwrap_or (held (aggregate_at d.aggregates a) (numbers_for a puts)) (neutral (aggregate_at d.aggregates a))
 
--- what stands at each place is told by the puts there
+-- the cell at each place follows from the puts there
 abbrev pub AreAt : {A : Type 0} → A → (List Update → A) → List Span → List A → List Update → Type 0
 AreAt none value spans items puts = (place : ℕ) → place < length items
     → slice_index_or items place none ≡ value (filter (λ put. is_at spans place put.keys) puts)

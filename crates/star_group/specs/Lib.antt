@@ -1,4 +1,4 @@
--- What the contracts of star_group cite.
+-- Definitions that the contracts of star_group cite.
 pub mod Stores
 pub mod Cells
 pub mod Batches

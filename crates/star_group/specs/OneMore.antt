@@ -4,13 +4,13 @@ use Rattle.std.specs.{List.list_any, List.IsDistinct}
 use Rattle.star_program.specs.{declared.key.KeyValue.KeyValue, Keys.same_keys, Puts.Update, Puts.aggregate_at}
 use Rattle.star_group.specs.{Cells.step, Stores.Group, Stores.key_lists, Stores.put_number}
 
--- what a content has for a key list and an aggregate, where it has the key list
+-- the number of a content for a key list and an aggregate, if it has the key list
 unfoldable pub group_aggregate : List KeyValue → ℕ → List Update → Option ℤ
 group_aggregate keys place [] = None
 group_aggregate keys place (entry ∷ rest) =
     if same_keys keys entry.keys then Some (put_number place entry) else group_aggregate keys place rest
 
--- the put's key list has its numbers with those that it had, and the others have what they had
+-- the put's key list has its numbers with those that it had, and the others are as they were
 pub record IsWithPut (d : Group) (put : Update) (content after : List Update) : Type 0 where
   pub keys : (keys : List KeyValue) → list_any (same_keys keys) (key_lists after)
       ≡ (same_keys keys put.keys || list_any (same_keys keys) (key_lists content))

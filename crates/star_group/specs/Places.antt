@@ -10,7 +10,7 @@ abbrev pub place_up_to : ℕ → ℤ → Option ℕ
 place_up_to last (pos n) = if nat_lt last n then None else Some n
 place_up_to last (negsuc n) = None
 
--- where a key lies in its range, from 0
+-- the offset of a key in its range, from 0
 abbrev pub offset_of : Span → KeyValue → Option ℕ
 offset_of s (Number z) = if s.is_code then None else place_up_to s.last (z -ℤ s.low)
 offset_of s (Code n) = if s.is_code then place_up_to s.last (pos n -ℤ s.low) else None
@@ -21,7 +21,7 @@ above (Some offset) size (Some rest) = Some (offset + size * rest)
 above (Some offset) size None = None
 above None size rest = None
 
--- the place of a key list; none where a key lies outside of its range
+-- the place of a key list; none if a key lies outside of its range
 abbrev pub cell_place : List Span → List KeyValue → Option ℕ
 cell_place [] [] = Some 0
 cell_place [] (k ∷ ks) = None

@@ -79,7 +79,7 @@ impl Total {
         }
     }
 
-    // The row, where there was a put.
+    // The row, if there was a put.
     fn as_row(&self) -> Option<&[Held]>
         ensures row { unwrap_or (option_copied result) [] ≡ self.now }
         ensures wide { MatchOption result (Unit {0}) (λ row. length row.now ≡ 8) }
@@ -121,7 +121,7 @@ impl Total {
     }
 }
 
-// What is shown of an aggregate.
+// The shown cell of an aggregate.
 pub(crate) fn shown(aggregate: Aggregate, cell: Option<i128>) -> Option<i128>
     ensures { result ≡ spec.shown aggregate cell }
 {

@@ -20,7 +20,7 @@ use std::marker::Model;
 pub struct GroupRows {
     key_count: usize,
     rows: ListedRows,
-    // The aggregates over no puts, where the rows are made of none.
+    // The aggregates over no puts, if the rows are made of none.
     nothing: Option<RowAggregates>,
 }
 
@@ -37,7 +37,7 @@ impl Model for GroupRows {
     ghost invariant = { λ rows. rows.key_count ≤ 6 };
 }
 
-// The aggregate at a place, where there is one.
+// The aggregate at a place, if there is one.
 fn aggregate_at(aggregates: &[Option<i128>], place: usize) -> Option<i128>
     ensures { result ≡ slice_index_or aggregates.now place None }
 {
@@ -55,7 +55,7 @@ impl GroupRows {
         self.rows.len()
     }
 
-    /// The key at a place of the row of a number from 0, in which `None` is ALL; `None` where there
+    /// The key at a place of the row of a number from 0, in which `None` is ALL; `None` if there
     /// is no such place or row.
     pub fn key(&self, number: usize, place: usize) -> Option<KeyValue>
         ensures { result ≡ slice_index_or (row_at self.now number).keys place None }
@@ -67,7 +67,7 @@ impl GroupRows {
         }
     }
 
-    /// The aggregate at a place of the row of a number from 0, in which `None` is NULL; `None` where
+    /// The aggregate at a place of the row of a number from 0, in which `None` is NULL; `None` if
     /// there is no such place or row.
     pub fn aggregate(&self, number: usize, place: usize) -> Option<i128>
         ensures { result ≡ slice_index_or (row_at self.now number).aggregates place None }
@@ -85,7 +85,7 @@ impl GroupRows {
     }
 }
 
-// What is shown of aggregates over no puts.
+// The shown cells of aggregates over no puts.
 fn over_nothing(aggregates: &[Aggregate]) -> RowAggregates
     requires { length aggregates.now ≤ 8 }
     ensures { result ≡ map (λ g. spec.shown g None) aggregates.now }
@@ -97,7 +97,7 @@ fn over_nothing(aggregates: &[Aggregate]) -> RowAggregates
     RowAggregates::new(row, aggregates.len())
 }
 
-// The row of all keys hidden over no puts, where that is a grouping.
+// The row of all keys hidden over no puts, if that is a grouping.
 fn nothing_given(
     rows: ListedRows,
     key_count: usize,

@@ -1,4 +1,5 @@
-//! What holds of the content of puts and of the condition of a put by the definitions alone.
+//! Properties of the content of puts and of the condition of a put that follow from the
+//! definitions.
 
 ghost use Rattle.std.specs.Prelude.{◌≡◌, ◌<◌, ◌^◌, ℕ, All, List, ◌∷◌, false, true, length};
 ghost use Rattle.star_schema.specs.{Groups.numbers_for, declared.group.Aggregate.TheVariants.Sum};
@@ -27,14 +28,14 @@ pub fn groups_are_of_content()
         → AreOfContent d puts content }
 {}
 
-/// Where the sums by key list add up within 128 bits and the counts within 64, no aggregate of a row
+/// If the sums by key list add up within 128 bits and the counts within 64, no aggregate of a row
 /// leaves its bits.
 pub fn room_is_enough()
     ensures { (d : Group) (puts : List Update) (put : Update) → HasRoom d (put ∷ puts)
         → overflows d.shape d.aggregates puts put ≡ false }
 {}
 
-/// Where the numbers themselves add up within 128 bits, so do the sums by key list.
+/// If the numbers themselves add up within 128 bits, the sums by key list do too.
 pub fn small_numbers_have_room()
     ensures { (d : Group) (puts : List Update)
         → ((place : ℕ) → place < length d.aggregates → aggregate_at d.aggregates place ≡ Sum

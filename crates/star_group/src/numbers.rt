@@ -6,7 +6,7 @@ ghost use Rattle.star_program.specs.Puts.{aligned};
 
 use star_schema::Aggregate;
 
-// The number of a put for an aggregate, which for a count is 1, and the values that are left for
+// The number of a put for an aggregate, which for a count is 1, and the remaining values for
 // the others.
 #[inline]
 fn next_number<'a, F: Fn(u16) -> i64>(

@@ -84,7 +84,7 @@ fn merge_all(rows: &mut KeyedRows, row_keys: &[OrderedKey], aggregates: &[Aggreg
     }
 }
 
-// The row of one put merged into those of its keys, which are made where they are missing; or
+// The row of one put merged into those of its keys, which are made if they are missing; or
 // nothing changes: all room is there before the first one changes.
 pub(crate) fn put_rows(
     rows: &mut KeyedRows,

@@ -28,7 +28,7 @@ pub trait GroupStore: Drop {
         ensures group { IfOk result (λ store. group store ≡ group_declared declared.now) }
         ensures empty { IfOk result (λ store. has store []) };
 
-    /// A store of no puts, as `new` makes it, where the keys are expected in `_ranges`: a range of
+    /// A store of no puts, as `new` makes it, if the keys are expected in `_ranges`: a range of
     /// numbers, or of codes of texts, for each key in the order of the keys. A store may be faster for
     /// keys that lie in them; all keys serve, whether or not they do, and so do ranges of another
     /// number of keys.
@@ -47,7 +47,7 @@ pub trait GroupStore: Drop {
 
     /// One more put: a value for each key, and a number for each aggregate; that for a `Count` does
     /// not matter. Its condition: with it the positive sums by key list add up within 128 bits, and
-    /// so do the negative ones, and there are fewer puts than 2^63 where they are counted. Where
+    /// so do the negative ones, and there are fewer puts than 2^63 if they are counted. If
     /// memory is refused the content is as it was.
     fn put(&mut self, keys: &[KeyValue], values: &[i64]) -> Result<(), AllocError>
         requires keys { length keys.now ≡ (group self.old).count }
@@ -78,8 +78,8 @@ pub trait GroupStore: Drop {
     // The condition is asked row by row: that there is room for all rows together gives no room for
     // the first, since positive sums may be greater before negative numbers come.
     /// The puts of some rows, one after another in order. Its condition is that of each of these
-    /// puts. Where memory is refused the content is that with the puts of the first rows, of fewer than
-    /// all.
+    /// puts. If memory is refused the content is that with the puts of the first rows, of fewer
+    /// than all.
     fn put_batch(&mut self, batch: &PutBatch<'_>) -> Result<(), AllocError>
         requires declared { group_declared batch.now.declared.now ≡ group self.old }
         requires batch { IsPutBatch batch.now }
@@ -121,7 +121,7 @@ pub trait GroupStore: Drop {
 /// A store that takes puts with no condition on their numbers, and refuses those that overflow.
 pub trait TryPut: GroupStore {
     /// One more put: a value for each key, and a number for each aggregate; that for a `Count` does
-    /// not matter. Answers Overflow exactly where with it a `Sum` over one of its groups, or over
+    /// not matter. Returns Overflow exactly if with it a `Sum` over one of its groups, or over
     /// all puts, leaves 128 bits, or a `Count` leaves 64; after an error the content is as it was.
     fn try_put(&mut self, keys: &[KeyValue], values: &[i64]) -> Result<(), PutFault>
         requires keys { length keys.now ≡ (Self.group self.old).count }

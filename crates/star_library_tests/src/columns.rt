@@ -178,7 +178,7 @@ fn narrowed(column: &PackedColumn, first: u32, low: i64, high: i64, masks: [u64;
 
 const ALL: [u64; 3] = [u64::MAX; 3];
 
-// The first row, the bounds, three masks, and what is left of them.
+// The first row, the bounds, three masks, and the same narrowed.
 const NARROWED: [(u32, i64, i64, [u64; 3], [u64; 3]); 5] = [
     (0, 60, 70, ALL, [17_293_822_569_102_704_640, 127, 0]),
     (0, 60, 70, [0, 5, u64::MAX], [0, 5, 0]),

@@ -8,10 +8,10 @@ use std::fs::{Files, Metadata, OpenFile, OpenOptions};
 use std::io;
 use std::io::{Read, Seek, SeekFrom, Write};
 
-/// The sample in a folder `f`, with lineorder in parts: the first has two lines, the last three, and
-/// those between none. Beside it are a query, `q.sql`, and a program, `p.star`. A read gives at most
-/// `at_once` bytes, and one of the file at the path `failing` fails once `until_failure` bytes of it
-/// have come.
+/// The sample in a folder `f`, with lineorder in parts: the first has two lines, the last three,
+/// and those between none. The folder also has a query, `q.sql`, and a program, `p.star`. A read
+/// gives at most `at_once` bytes, and one of the file at the path `failing` fails once
+/// `until_failure` bytes of it have come.
 #[derive(Clone, Copy)]
 pub(crate) struct Folder {
     pub(crate) alloc: Global,

@@ -42,7 +42,7 @@ fn ends(answer: Result<Interval, Wide>) -> (bool, i128, i128) {
     }
 }
 
-// The operation, what it answers, whether that fits into 64 bits, and its bounds.
+// The operation, its result, whether that fits into 64 bits, and its bounds.
 type Case = (&'static str, Result<Interval, Wide>, bool, i128, i128);
 
 fn check_ends(rt: &impl Abort, cases: &[Case]) {

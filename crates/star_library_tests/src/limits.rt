@@ -101,7 +101,7 @@ fn an_engine_goes_on_after_a_failed_write(rt: HostRuntime) -> Result<(), Fail> {
     Ok(())
 }
 
-// What the benchmark prints if each of its queries is refused.
+// The output of the benchmark if each of its queries is refused.
 fn refusals(alloc: Global) -> Result<String, AllocError> {
     let mut text = String::new(alloc);
     for query in THIRTEEN.iter() {

@@ -276,7 +276,7 @@ fn long_line(
     Ok(line)
 }
 
-// What a line begins with, a byte and how often it comes, and what the line ends with.
+// The beginning of a line, a byte and how often it comes, and the end of the line.
 const LONG: &[(&[u8], u8, usize, &[u8], Rows)] = &[
     (b"1|", b'a', 255, b"|||||\n2|||||||", Ok(2)),
     (b"1|", b'a', 256, b"|||||\n2|||||||", LONG_1_2),

@@ -13,7 +13,7 @@ use std::rt::Clock;
 use std::test::Fail;
 use std::time::Duration;
 
-// A clock that stands at `millis` milliseconds.
+// A clock that always shows `millis` milliseconds.
 #[derive(Drop)]
 struct Stopped {
     millis: Cell<u64>,
@@ -53,7 +53,7 @@ const SHOWN: &str = concat!(
     "\r                                        \r",
 );
 
-// What the steps write on a terminal that has room for `left` bytes.
+// The output of the steps on a terminal that has room for `left` bytes.
 fn shown(
     alloc: Global,
     steps: &[(u64, TableFile, u64, u64)],

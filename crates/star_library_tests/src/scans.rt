@@ -190,13 +190,13 @@ const BODIES: &[&str] = &[
         "keep r9\nr10 = within r3 r1 r2\nr11 = const 7\nr12 = sub r3 r11\nr13 = add r12 r1\n",
         "put 1 r2 r11 : r12 r13 r3\nend\n",
     ),
-    // No line is left after the operations.
+    // The operations leave no line.
     concat!(
         "scan lineorder r0\nr1 = load lo_tax r0\nr2 = mul r1 r1\nr3 = lt r2 r1\nkeep r3\n",
         "r4 = load lo_suppkey r0\nr5 = find supplier r4\nr6 = load s_suppkey r5\n",
         "put 1 r1 r6 : r6 r6 r6\nend\n",
     ),
-    // What was written before the scan is a key, an operand and a number.
+    // Registers from before the scan are a key, an operand and a number.
     concat!(
         "r20 = const 5\nr21 = add r20 r20\nscan lineorder r0\nr1 = load lo_tax r0\n",
         "r2 = mul r1 r21\nput 1 r20 r1 : r2 r21 r20\nend\n",

@@ -64,8 +64,8 @@ impl Read for Zeros {
     }
 }
 
-/// A reader of a text that gives at most `at_once` bytes at once, and fails where `until_failure`
-/// bytes were given. A text that ends before is read to its end.
+/// A reader of a text that gives at most `at_once` bytes at once, and fails after `until_failure`
+/// bytes. A text that ends before is read to its end.
 #[derive(Drop)]
 pub struct Choppy<'a> {
     pub left: &'a [u8],

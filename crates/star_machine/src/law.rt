@@ -13,7 +13,7 @@ use star_world::law::sound_rows_are_loaded;
 
 /// Over sound rows an admissible program, whose quote is within the limit on visits of any run, comes
 /// to its end with no trap, with at most as many visits as it is quoted (`ends`). At every moment of
-/// its run its registers hold what is known of them before it, and its updates are such as a store
+/// its run its registers hold values within their facts, and its updates are such as a store
 /// asks for (`moments`). The totals at the end lie in their ranges (`totals`).
 pub fn admissible_programs_run_over_sound_rows()
     ensures ends { (database : Database) (parts : Parts) → IsAcceptedOver database parts

@@ -19,6 +19,6 @@ pub record AreFew (count : ℕ) (puts : List Update) : Type 0 where
   pub many : length puts ≡ count
   pub small : All (λ put. All (λ z. is_i64 z ≡ true) put.values) puts
 
--- what has the content of some puts has that of `count` such puts
+-- a store with the content of some puts has that of `count` such puts
 abbrev pub HasFew : (List Update → Type 0) → ℕ → Type 0
 HasFew has count = (puts : List Update) × has puts × AreFew count puts

@@ -1,2 +1,2 @@
--- What the tests of stores cite.
+-- Definitions that the tests of stores cite.
 pub mod Few

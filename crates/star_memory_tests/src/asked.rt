@@ -15,7 +15,7 @@ pub(crate) fn expect(holds: bool, what: &str) -> Result<(), Fail> {
     if holds { Ok(()) } else { Err(Fail::from(what)) }
 }
 
-/// Makes a call, and makes it again if it is refused memory. What it returns is as expected.
+/// Makes a call, and makes it again if it is refused memory. Its result is as expected.
 pub(crate) fn check_call<F: Fn() -> Result<String, AllocError>>(
     rt: &impl Print,
     expected: &str,

@@ -14,7 +14,7 @@ use star_schema::{Limits, MOST_VISITS};
 use std::alloc::{AllocError, Global};
 use std::test::Fail;
 
-// What the engine is asked for.
+// The call of the engine.
 #[derive(Clone, Copy)]
 enum Question<'a> {
     Check,
@@ -52,7 +52,7 @@ fn ask_texts(
     }
 }
 
-// The answer of a loaded engine to what was asked of it, if that was read.
+// The answer of a loaded engine to a question, if that was read.
 fn answer(
     engine: &Engine,
     alloc: Global,
@@ -121,7 +121,7 @@ fn ask_engine(
 }
 
 // The notes of a call, its report, and the line of its fault. If it is refused memory, it has written
-// no report and at most the beginning of `expected`; else what it has written is the answer.
+// no report and at most the beginning of `expected`; else its output is the answer.
 fn written(
     alloc: Global,
     report: &[u8],
@@ -163,7 +163,7 @@ fn answered(
     written(alloc, report.as_slice(), notes.as_slice(), fault, expected)
 }
 
-// What the engine is asked for, and what it writes: its notes, its report and the line of its fault.
+// The call of the engine, and its output: its notes, its report and the line of its fault.
 type Case = (Question<'static>, &'static str);
 
 fn check_cases(
@@ -312,7 +312,7 @@ fn forecast(engine: &Engine, alloc: Global, file: &str) -> Result<String, Engine
     engine.forecast(alloc, Asked::of_file(alloc, file.as_bytes())?)
 }
 
-// What is printed of a run.
+// The printed report of a run.
 fn run_text(alloc: Global, answer: Result<Told, EngineFault>) -> Result<String, AllocError> {
     match answer {
         Ok(told) => {
@@ -342,7 +342,7 @@ fn kind_of(alloc: Global, file: &str) -> Result<String, AllocError> {
     }
 }
 
-// A file, what is printed of its run, and what is known before it.
+// A file, the printed report of its run, and its forecast.
 const FILES: &[(&str, &str, &str)] = &[
     (
         DISCOUNTS,

@@ -18,7 +18,7 @@ const ONE: KeyValue = KeyValue::Number(1);
 
 const TWO: KeyValue = KeyValue::Number(2);
 
-// Where the keys are expected: an array of groups has no place for the second put.
+// The expected ranges of the keys: an array of groups has no place for the second put.
 const EXPECTED: [Interval; 2] = [Interval { low: 1, high: 2 }, Interval { low: 2, high: 2 }];
 
 const SHAPES: [Shape; 3] = [Shape::Plain, Shape::Rollup, Shape::Cube];
@@ -201,7 +201,7 @@ fn check_rows(rows: &GroupRows, shape: Shape) -> Result<(), Fail> {
     expect(rows.len() == rows_of(shape), "another number of rows")
 }
 
-// The rows of all puts, if memory is left to make them.
+// The rows of all puts, if there is memory to make them.
 fn rows_of_all<S: GroupStore>(
     rt: &impl Print,
     alloc: Global,

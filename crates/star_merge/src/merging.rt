@@ -74,7 +74,7 @@ fn totals_in(alloc: Global, cells: &[KeptCell]) -> Result<Vec<Option<i128>>, All
     Ok(totals)
 }
 
-// Adds a group, told by its cells, under each grouping of its keys.
+// Adds a group, given by its cells, under each grouping of its keys.
 fn push_row(
     alloc: Global,
     shape: Shape,
@@ -90,7 +90,7 @@ fn push_row(
     push_groupings(alloc, shape, &totals, Vec::new(alloc), keys, groups)
 }
 
-// Adds groups, told by their cells, each under every grouping of its keys.
+// Adds groups, given by their cells, each under every grouping of its keys.
 #[tactic(auto, using(crate::proofs::Steps::rows_more))]
 fn push_rows(
     alloc: Global,

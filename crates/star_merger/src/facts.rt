@@ -38,7 +38,7 @@ fn have_equal_bounds(a: &Partial, b: &Partial) -> bool {
     true
 }
 
-// Tests whether two partials are over the same dimensions, as far as a digest tells.
+// Tests whether two partials are over the same dimensions, as far as a digest shows.
 fn have_equal_dimensions(a: &Partial, b: &Partial) -> bool {
     let sizes = Sizes {
         lineorder: a.sizes.lineorder,

@@ -19,7 +19,7 @@ pub enum PartialFault {
     OtherQuery { line: usize },
     /// The dimensions are not those of the first partial.
     OtherDimensions { line: usize },
-    /// A line is not what it is in a partial of the query, or it is missing.
+    /// A line is missing, or differs from that in a partial of the query.
     BadLine { line: usize },
     /// A row does not come after the row before it.
     BadOrder { line: usize },

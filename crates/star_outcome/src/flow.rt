@@ -1,9 +1,9 @@
-// What follows an instruction.
+// The successor of an instruction.
 
 ghost use Rattle.std.specs.Prelude.{◌≡◌, MatchBool};
 ghost use Rattle.star_outcome.specs.declared.flow.Flow.TheVariants.{EndsTurn, GoesOn};
 
-/// What follows an instruction: the next one, or the next turn of the scan that it stands in.
+/// The successor of an instruction: the next one, or the next turn of the scan that contains it.
 #[derive(Clone, Copy)]
 pub enum Flow {
     GoesOn,
@@ -11,7 +11,7 @@ pub enum Flow {
 }
 
 impl Flow {
-    /// What follows an instruction that keeps its turn where a flag is set.
+    /// The successor of an instruction that keeps its turn if a flag is set.
     #[inline]
     pub fn of(flag: bool) -> Flow
         ensures { MatchBool flag (result ≡ GoesOn) (result ≡ EndsTurn) }

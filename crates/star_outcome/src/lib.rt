@@ -1,4 +1,4 @@
-//! What a run over a loaded catalogue looks up, what it has done so far, and its outcome.
+//! The look-ups of a run over a loaded catalogue, its progress so far, and its outcome.
 #![tactic(auto)]
 
 mod flow;

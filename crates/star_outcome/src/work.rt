@@ -24,7 +24,7 @@ pub struct Work<S> {
     pub updates: u64,
 }
 
-// The ranges in which the keys of the group of a number are expected; none where nothing is known.
+// The ranges in which the keys of the group of a number are expected; none if nothing is known.
 fn ranges_of(ranges: &[Vec<Interval>], group: usize) -> &[Interval] {
     match ranges.get(group) {
         Some(ranges) => ranges.as_slice(),

@@ -1,4 +1,4 @@
--- What is wrong with a query's names, and which fault comes first (this project's profile of SQL).
+-- The faults of a query's names, and their order (this project's profile of SQL).
 use Rattle.std.specs.Prelude.{ℕ, ◌+◌, false, ◌||◌, List, [], ◌∷◌, length, Option, Some, None, if◌then◌else◌}
 use Rattle.std.specs.{Option.is_none, Option.option_map_or, Option.option_or}
 use Rattle.star_schema.specs.{declared.table.TableId.TheVariants.Lineorder, Schema.table_name, Schema.table_of}
@@ -10,7 +10,7 @@ use Rattle.star_plan.specs.{WellNamed.is_in_from, WellNamed.is_reached}
 
 -- ---- the names of FROM
 
--- a name is no table's, or stands there before
+-- a name is no table's, or occurs there before
 abbrev pub from_table_fault : List Name → Name → Option PlanFault
 from_table_fault before n = if is_none (table_at n) then Some (UnknownName n.place) else if has_name before n.text then Some (TableTwice n.place) else None
 
@@ -23,7 +23,7 @@ fact_fault tables = if has_name tables (table_name Lineorder) then None else Som
 abbrev pub scope_fault : List Name → Use → Option PlanFault
 scope_fault tables u = if is_none u.column then Some (UnknownName u.at) else if is_in_from tables u.column then None else Some (TableNotNamed u.at)
 
--- a column isn't of the kind that is asked of it: a number inside an aggregate, beside a literal the literal's
+-- a column isn't of the kind that is asked of it: a number inside an aggregate, the literal's kind in a comparison
 abbrev pub use_kind_fault : Use → Option PlanFault
 use_kind_fault u = if u.fits then None else Some (WrongKind u.at)
 

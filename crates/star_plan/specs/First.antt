@@ -2,7 +2,7 @@
 use Rattle.std.specs.Prelude.{List, [], ◌∷◌, ◌++◌, Option, None}
 use Rattle.std.specs.Option.{option_or}
 
--- the first answer of an element, where each is asked beside those before it
+-- the first answer of an element, each asked together with those before it
 abbrev pub first_after : {X A : Type 0} → (List X → X → Option A) → List X → List X → Option A
 first_after f before [] = None
 first_after f before (x ∷ xs) = option_or (f before x) (first_after f (before ++ x ∷ []) xs)

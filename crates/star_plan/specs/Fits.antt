@@ -1,4 +1,4 @@
--- Which queries fit (this project's profile): by the bounds of the columns and the number of the fact's rows alone.
+-- Which queries fit (this project's profile): by the bounds of the columns and the number of the fact's rows only.
 use Rattle.std.specs.Prelude.{ℕ, ◌≤◌, Bool, true, ◌&&◌, IsTrue}
 use Rattle.std.specs.List.{list_all}
 use Rattle.star_schema.specs.declared.column.ColumnId.{ColumnId}

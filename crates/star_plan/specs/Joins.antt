@@ -26,12 +26,12 @@ abbrev pub join_of : Option ColumnId → Option ColumnId → Option Join
 join_of (Some a) (Some b) = option_or (join_by a b) (join_by b a)
 join_of _ _ = None
 
--- two columns that are compared: the join that they make there, if they make one, and where the first of them stands
+-- two columns that are compared: the join that they make there, if they make one, and the place of the first of them
 pub record Pair : Type 0 where
   pub join : Option Join
   pub at : ℕ
 
--- the comparisons of two columns, from the left; they join where they are reached through AND alone
+-- the comparisons of two columns, from the left; they join if they are reached through AND only
 abbrev pub pairs_of : (is_conjunct : Bool) → Condition Test → List Pair
 pairs_of b (and c d) = pairs_of b c ++ pairs_of b d
 pairs_of b (or c d) = pairs_of false c ++ pairs_of false d

@@ -16,7 +16,7 @@ use Rattle.star_query.specs.declared.token.Relation.TheVariants as sign
 abbrev pub RowCondition : Type 0
 RowCondition = Condition (Comparison ColumnId Value)
 
--- its joins, the other conjuncts of its condition, its groups, its aggregates with their names, what it selects and its order
+-- its joins, the other conjuncts of its condition, its groups, its aggregates with their names, its items and its order
 pub record Plan : Type 0 where
   pub joins : List Join
   pub conjuncts : List RowCondition
@@ -49,7 +49,7 @@ joined_value c row = value_in c (row (table_of c))
 abbrev pub with_row : Joined → TableId → Row → Joined
 with_row row t d s = if is_table s t then d else row s
 
--- the row of a table alone
+-- the row of a single table
 abbrev pub only_row : TableId → Row → Joined
 only_row t l = with_row (λ s. []) t l
 
@@ -57,7 +57,7 @@ only_row t l = with_row (λ s. []) t l
 abbrev pub matches : Joined → Join → Row → Bool
 matches row j d = is_eq (value_cmp (joined_value j.foreign row) (value_in j.key d))
 
--- the row with each choice of a row of every dimension to be joined, where the keys of these are the foreign keys: a comprehension over the product of the dimensions
+-- the row with each choice of a row of every dimension to be joined, if the keys of these are the foreign keys: a comprehension over the product of the dimensions
 abbrev pub partners : Tables → List Join → Joined → List Joined
 partners ts [] row = row ∷ []
 partners ts (j ∷ js) row = flat_map (λ d. partners ts js (with_row row (table_of j.key) d)) (filter (matches row j) (ts (table_of j.key)))
@@ -76,7 +76,7 @@ tests sign.AtMost o = is_le o
 tests sign.Greater o = is_gt o
 tests sign.AtLeast o = is_ge o
 
--- whether a comparison holds where `values` has the value of each column and `stands` that of each
+-- whether a comparison holds if `values` has the value of each column and `stands` that of each
 -- operand: numbers compare by value, texts by their bytes, and BETWEEN has both its ends
 abbrev pub comparison_holds : {C V : Type 0} → (C → Value) → (V → Value) → Comparison C V → Bool
 comparison_holds values stands (compare c s v) = tests s (value_cmp (values c) (stands v))

@@ -1,4 +1,4 @@
--- The names of a query's aggregates, and what names stand for that an answer shows or is sorted by.
+-- The names of a query's aggregates, and the meaning of names that an answer shows or is sorted by.
 use Rattle.std.specs.Prelude.{ℕ, ◌+◌, Bool, List, [], ◌∷◌, ◌++◌, Option, Some, None, codes, decimal, nat_eq, option_map}
 use Rattle.std.specs.{List.list_any, List.position, Option.option_or, Cmp.Lexicographic.pointwise}
 use Rattle.star_schema.specs.declared.group.{GroupColumn.GroupColumn, SortKey.SortKey}
@@ -41,11 +41,11 @@ abbrev place_from : ℕ → Option Name → ℕ
 place_from function None = function
 place_from function (Some n) = n.place
 
--- where an aggregate's name stands, or the function's word where it has none
+-- the place of an aggregate's name, or of the function's word if it has none
 abbrev pub name_place : Aggregate → ℕ
 name_place a = place_from a.place a.name
 
--- ---- what a name of SELECT or ORDER BY stands for
+-- ---- the meaning of a name in SELECT or ORDER BY
 
 -- the group column that reads so
 abbrev pub key_column : List Name → List ℕ → Option GroupColumn

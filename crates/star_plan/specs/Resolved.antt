@@ -6,12 +6,12 @@ use Rattle.star_plan.specs.{Meaning.RowCondition, Meaning.Plan, Names.column_at,
 use Rattle.star_schema.specs.declared.group.GroupColumn.TheVariants as group
 use Rattle.star_query.specs.Tree as tree
 
--- both values by an operation, or none where one is missing
+-- both values by an operation, or none if one is missing
 abbrev pub option_both : {A B C : Type 0} → (A → B → C) → Option A → Option B → Option C
 option_both f (Some a) (Some b) = Some (f a b)
 option_both f _ _ = None
 
--- what each element gives, or none where one gives nothing
+-- the result of each element, or none if one has none
 abbrev pub option_all : {A B : Type 0} → (A → Option B) → List A → Option (List B)
 option_all f [] = Some []
 option_all f (x ∷ xs) = option_both (λ y ys. y ∷ ys) (f x) (option_all f xs)
@@ -29,7 +29,7 @@ abbrev pub resolved_measure : Measure Name → Option (Measure ColumnId)
 resolved_measure count = Some count
 resolved_measure (fold f e) = option_map (fold f) (resolved_expression e)
 
--- none where it compares two columns
+-- none if it compares two columns
 abbrev pub resolved_test : Test → Option (Comparison ColumnId Value)
 resolved_test (pair m n) = None
 resolved_test (comparison (compare n s l)) = option_map (λ c. compare c s l) (column_at n)
@@ -59,7 +59,7 @@ measures_of [] = []
 measures_of (tree.plain n ∷ is') = measures_of is'
 measures_of (tree.aggregate a ∷ is') = a.measure ∷ measures_of is'
 
--- what the items show, where `before` aggregates come before them
+-- the cells of the items, after `before` aggregates
 abbrev pub items_from : List Name → ℕ → List Item → Option (List GroupColumn)
 items_from groups before [] = Some []
 items_from groups before (tree.plain n ∷ is') = option_both (λ c cs. c ∷ cs) (key_column groups n.text) (items_from groups before is')

@@ -20,7 +20,7 @@ in_scope js t = is_table t Lineorder || joins_table js t
 abbrev pub column_is_sound : List Join → Kind → ColumnId → Bool
 column_is_sound js k c = in_scope js (table_of c) && same_kind (kind_of c) k
 
--- a column stands beside values of its kind
+-- a column is compared with values of its kind
 abbrev pub comparison_is_sound : List Join → Comparison ColumnId Value → Bool
 comparison_is_sound js (compare c s v) = column_is_sound js (kind_of_value v) c
 comparison_is_sound js (between c from upto) =
@@ -29,7 +29,7 @@ comparison_is_sound js (between c from upto) =
 abbrev pub condition_is_sound : List Join → RowCondition → Bool
 condition_is_sound js c = of_tests (comparison_is_sound js) (λ b. b) ◌&&◌ c
 
--- inside an aggregate stand numbers
+-- inside an aggregate are numbers
 abbrev pub expression_is_sound : List Join → Expression ColumnId → Bool
 expression_is_sound js e = of_operands (column_is_sound js kind.Number) (λ z. true) ◌&&◌ e
 

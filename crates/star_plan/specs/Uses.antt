@@ -7,18 +7,18 @@ use Rattle.star_query.specs.{Leaves.of_operands, Leaves.of_tests}
 use Rattle.star_plan.specs.Names.{column_at, is_of}
 use Rattle.star_schema.specs.declared.column.Kind.TheVariants as kind
 
--- a column where a query names it: the column, if there is one of this name, and whether it is of the kind that is
+-- a use of a column: the column, if there is one of this name, and whether it is of the kind that is
 -- asked of it there
 pub record Use : Type 0 where
   pub column : Option ColumnId
   pub fits : Bool
   pub at : ℕ
 
--- where the column, if there is one, is asked whether it fits
+-- whether the column, if there is one, fits
 abbrev pub use_when : (Option ColumnId → Bool) → Name → Use
 use_when fits n = record { column = column_at n; fits = fits (column_at n); at = n.place }
 
--- inside an aggregate stand numbers alone
+-- inside an aggregate are only numbers
 abbrev pub expression_uses : Expression Name → List Use
 expression_uses e = of_operands (λ n. use_when (is_of kind.Number) n ∷ []) (λ z. []) ◌++◌ e
 
@@ -30,7 +30,7 @@ abbrev pub item_uses : Item → List Use
 item_uses (plain n) = use_when (λ c. true) n ∷ []
 item_uses (aggregate a) = measure_uses a.measure
 
--- a column stands beside literals of its kind
+-- a column is compared with literals of its kind
 abbrev pub test_uses : Test → List Use
 test_uses (pair a b) = use_when (λ c. true) a ∷ use_when (λ c. true) b ∷ []
 test_uses (comparison (compare n s l)) = use_when (is_of (kind_of_value l)) n ∷ []

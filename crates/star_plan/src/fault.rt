@@ -1,4 +1,4 @@
-// What is wrong with the names of a query.
+// The faults of a query's names.
 
 ghost use Rattle.star_common.specs.Memory.{TellsMemory};
 ghost use Rattle.star_plan.specs.declared.fault.PlanFault.TheVariants.{OutOfMemory};
@@ -26,8 +26,8 @@ pub enum PlanFault {
     /// Two columns are compared that aren't a foreign key and the key that it references, or not by
     /// a conjunct of the whole condition.
     NotAKeyPair { at: usize },
-    /// A column of texts stands inside an aggregate, or a column beside a literal of the other
-    /// kind.
+    /// A column of texts is inside an aggregate, or a column is compared with a literal of the
+    /// other kind.
     WrongKind { at: usize },
     /// A plain column isn't in GROUP BY.
     NotGrouped { at: usize },

@@ -21,11 +21,11 @@ pub(crate) struct Pair {
     /// The join that they make, if they make one and the comparison is a conjunct of the whole
     /// condition.
     join: Option<Join>,
-    /// Where the first of them stands.
+    /// The place of the first of them.
     at: usize,
 }
 
-// Whether the column alone is the key.
+// Whether the column by itself is the key.
 fn is_lone_key(column: ColumnId, key: Key) -> bool
     ensures { result ≡ spec.is_lone_key column key }
 {

@@ -1,9 +1,8 @@
 //! Plans: queries with their names resolved and their joins apart, and what a query means.
 //!
-//! When a query is well named stands in `specs/WellNamed.antt`; what is wrong with its names, and
-//! in which order faults are told, in `specs/Faults.antt`; what a resolved query means over the
-//! rows of the tables, in `specs/Meaning.antt`; which queries fit into 64 bits, in
-//! `specs/Fits.antt`.
+//! Well named queries are defined in `specs/WellNamed.antt`; the faults of names, and the order in
+//! which faults are reported, in `specs/Faults.antt`; the meaning of a resolved query over the rows
+//! of the tables, in `specs/Meaning.antt`; which queries fit into 64 bits, in `specs/Fits.antt`.
 #![tactic(auto)]
 
 mod fault;

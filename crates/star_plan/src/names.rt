@@ -1,4 +1,4 @@
-// What the names of a query stand for.
+// The tables and columns that a query names.
 
 ghost use Rattle.std.specs.{Prelude.◌≡◌, Prelude.map, Prelude.nat_eq, List.list_any, Cmp.Lexicographic.pointwise};
 ghost use Rattle.star_query.specs.Views.{name_view};
@@ -7,7 +7,7 @@ ghost use Rattle.star_plan.specs.Names as spec;
 use star_query::Name;
 use star_schema::{ColumnId, Kind, TableId, column_named, kind_of, table_named};
 
-/// The table that a name stands for, if there is one.
+/// The table of a name, if there is one.
 #[tactic(auto, unfolding(crate::specs::Names::table_called))]
 pub(crate) fn table_at(name: &Name) -> Option<TableId>
     ensures { result ≡ spec.table_at (name_view name.now) }
@@ -15,7 +15,7 @@ pub(crate) fn table_at(name: &Name) -> Option<TableId>
     table_named(&name.text)
 }
 
-/// The column that a name stands for, if there is one.
+/// The column of a name, if there is one.
 #[tactic(auto, unfolding(crate::specs::Names::column_called))]
 pub(crate) fn column_at(name: &Name) -> Option<ColumnId>
     ensures { result ≡ spec.column_at (name_view name.now) }

@@ -1,4 +1,4 @@
-// What names of SELECT and ORDER BY stand for among the groups and the aggregates.
+// The group columns and the aggregates that SELECT and ORDER BY name.
 
 ghost use Rattle.std.specs.Prelude.{◌≡◌, ◌<◌, ◌≤◌, IfSome, length, map, nat_eq};
 ghost use Rattle.std.specs.{Cmp.Lexicographic.pointwise, List.position, Option.option_or, Result.result_err};

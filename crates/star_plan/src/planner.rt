@@ -1,4 +1,4 @@
-// How a plan is made: its names are resolved, and its faults told in their order.
+// How a plan is made: its names are resolved, and its faults reported in their order.
 
 ghost use Rattle.std.specs.Prelude.{◌≡◌, ◌≤◌, Some, IfErr, IfOk, length, map};
 ghost use Rattle.star_common.specs.Memory.{UnlessMemory};
@@ -43,7 +43,7 @@ fn check_names(alloc: Global, tree: &Tree) -> Result<Vec<Join>, PlanFault>
     Ok(joins_of(alloc, &pairs)?)
 }
 
-// What is shown of a group, and in which order.
+// The items that are shown of a group, and their order.
 #[derive(Drop)]
 struct Shown {
     items: Vec<GroupColumn>,
@@ -92,7 +92,7 @@ fn resolve(alloc: Global, tree: &Tree) -> Result<PlanTree, PlanFault>
     })
 }
 
-/// The plan of a query, exactly where the query is well named; else the first fault. Want of memory
+/// The plan of a query, exactly if the query is well named; else the first fault. Out of memory
 /// may come before it.
 pub fn plan(alloc: Global, query: &Query) -> Result<Plan, PlanFault>
     // Only a well named query has one.

@@ -3,7 +3,7 @@
 use crate::tree::PlanTree;
 use std::marker::Model;
 
-/// A well named query whose names are resolved. It is made by `plan` alone, and contracts see it as
+/// A well named query whose names are resolved. Only `plan` makes one, and contracts see it as
 /// its tree.
 #[derive(Drop)]
 pub struct Plan {
@@ -30,7 +30,7 @@ impl Plan {
     ghost use Rattle.star_plan.specs.Planned.{IsPlanned};
     ghost use Rattle.star_plan.specs.Views.{plan_view};
 
-    /// What was resolved. `law::planned_queries_are_sound` tells what holds of every plan.
+    /// The resolved query. `law::planned_queries_are_sound` states a property of every plan.
     pub fn tree(&self) -> &PlanTree
         ensures same { result.now ≡ self.now }
         // It is some well named query, which some text means, with its names resolved.

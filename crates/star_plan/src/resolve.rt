@@ -1,4 +1,4 @@
-// A query's names resolved, where each of them stands for something.
+// A query's names resolved, if each of them names something.
 
 ghost use Rattle.std.specs.Prelude.{◌≡◌, ◌+◌, ◌≤◌, [], ◌∷◌, IfOk, length, map, option_map};
 ghost use Rattle.star_query.specs.Views.{aggregate_view, condition_view, expression_view, item_view, literal_view, measure_view, name_view, test_view};
@@ -16,7 +16,7 @@ use star_query::{Comparison, Condition, Expression, Item, Literal, Measure, Name
 use star_schema::ColumnId;
 use std::alloc::{AllocError, Global};
 
-// The column that a name stands for.
+// The column of a name.
 fn resolve_column(name: &Name) -> ColumnId
     requires { IsThere (column_at (name_view name.now)) }
     ensures { Some result ≡ column_at (name_view name.now) }

@@ -127,7 +127,7 @@ fn check_alias(
     }
 }
 
-// What an item shows, where `before` aggregates come before it.
+// The cell of an item, after `before` aggregates.
 fn show_item(
     groups: &[Name],
     aggregates: &[Aggregate],
@@ -163,7 +163,7 @@ fn aggregates_in(item: &Item) -> u16
     }
 }
 
-// What the items show, if each plain column is grouped and each aggregate has a new name.
+// The cells of the items, if each plain column is grouped and each aggregate has a new name.
 fn show_items(
     alloc: Global,
     groups: &[Name],

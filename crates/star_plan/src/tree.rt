@@ -20,8 +20,8 @@ pub struct Aggregate {
     pub name: Vec<u8>,
 }
 
-/// What a plan says: which rows of lineorder are joined and selected, how they are grouped, what is
-/// computed over each group, what is shown of it and in which order.
+/// The content of a plan: which rows of lineorder are joined and selected, how they are grouped,
+/// what is computed over each group, and which items are shown in which order.
 #[derive(Drop)]
 pub struct PlanTree {
     pub joins: Vec<Join>,
@@ -31,7 +31,7 @@ pub struct PlanTree {
     pub keys: Vec<ColumnId>,
     /// In the order of SELECT.
     pub aggregates: Vec<Aggregate>,
-    /// What is shown of a group, in the order of SELECT.
+    /// The items that are shown of a group, in the order of SELECT.
     pub items: Vec<GroupColumn>,
     pub sorts: Vec<SortKey>,
 }

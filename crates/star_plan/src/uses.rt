@@ -15,7 +15,7 @@ use star_query::{Comparison, Condition, Expression, Item, Literal, Measure, Name
 use star_schema::{ColumnId, Kind, name_of, table_of};
 use std::alloc::{AllocError, Global};
 
-/// A column where a query names it.
+/// A use of a column in a query.
 #[derive(Clone, Copy)]
 pub(crate) struct Use {
     /// The column, if there is one of this name.

@@ -21,7 +21,7 @@ fold_condition of_test of_not some every (and a b) = every (fold_condition of_te
 fold_condition of_test of_not some every (not a) = of_not (fold_condition of_test of_not some every a)
 fold_condition of_test of_not some every (test t) = of_test t
 
--- where `or` and `and` do the same
+-- if `or` and `and` do the same
 abbrev pub of_tests : {T A : Type 0} → (T → A) → (A → A) → (A → A → A) → Condition T → A
 of_tests of_test of_not together c = fold_condition of_test of_not together together c
 

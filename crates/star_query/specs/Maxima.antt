@@ -1,4 +1,4 @@
--- The most that a query may have (this project's profile of SQL): each limit stands here alone.
+-- The most that a query may have (this project's profile of SQL): each limit is defined only here.
 use Rattle.std.specs.Prelude.{ℕ}
 use Rattle.star_query.specs.declared.counts.Part.{Part}
 use Rattle.star_query.specs.declared.counts.Part.TheVariants.{Item, Aggregate, GroupColumn, SortKey, Comparison, Operand}

@@ -16,7 +16,7 @@ pub data Symbol : Type 0 where
   number : ℕ → Symbol
   text : List ℕ → Symbol
 
--- a symbol, and where its token begins
+-- a symbol, and the place of its token
 pub record Placed : Type 0 where
   pub symbol : Symbol
   pub place : ℕ

@@ -41,7 +41,7 @@ pub data IsToken (place : ℕ) (bytes : List ℕ) (x : Symbol) : Type 0 where
   a_text : (said : List ℕ) → list_all is_printable said ≡ true → bytes ≡ quoted said → x ≡ text said → IsToken place bytes x
   a_sign : Contains signs (bytes, x) → IsToken place bytes x
 
--- whether a byte behind a token would be one of it: so each token is the longest that begins at its place
+-- whether a byte after a token would be one of it: each token is the longest that begins at its place
 abbrev pub continues : Symbol → ℕ → Bool
 continues (text said) b = b == 39
 continues (relation r.Less) b = (b == 61) || (b == 62)
@@ -55,7 +55,7 @@ abbrev pub is_whole : Symbol → List ℕ → Bool
 is_whole x [] = true
 is_whole x (b ∷ bs) = not (continues x b)
 
--- the bytes from a place on are white space and these tokens, up to what is left from the end of these on
+-- the bytes from a place on are white space and these tokens, up to the remaining bytes after these
 pub data AreTokens (end : ℕ) (left : List ℕ) : (place : ℕ) → (bytes : List ℕ) → List Placed → Type 0 where
   no_more : AreTokens end left end left []
   white_space : (place b : ℕ) (bytes : List ℕ) (tokens : List Placed) → is_blank b ≡ true
@@ -66,7 +66,7 @@ pub data AreTokens (end : ℕ) (left : List ℕ) : (place : ℕ) → (bytes : Li
 
 -- ---- faults
 
--- what stops the cut: digits that are too many, or that a letter follows; a text that nothing closes; a byte that may not stand in
+-- what stops the cut: digits that are too many, or that a letter follows; a text that nothing closes; a byte that is not allowed in
 -- a text; or one that no token begins with, and that is no white space. Each quote of a text is written twice
 pub data Stops (place : ℕ) : (bytes : List ℕ) → QueryFault → Type 0 where
   bad_number : (digits rest : List ℕ) → 1 ≤ length digits → list_all is_ascii_digit digits ≡ true

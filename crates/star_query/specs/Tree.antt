@@ -1,4 +1,4 @@
--- The tree of a query, without where it lies in memory.
+-- The tree of a query, without its addresses in memory.
 use Rattle.std.specs.Prelude.{ℕ, ℤ, List, Option}
 use Rattle.star_schema.specs.{Tables.Value, declared.group.Shape.Shape, declared.group.Direction.Direction}
 use Rattle.star_query.specs.{declared.token.Fold.Fold, declared.token.Relation.Relation}
@@ -7,7 +7,7 @@ pub record Name : Type 0 where
   pub text : List ℕ
   pub place : ℕ
 
--- over columns, by their names or by what they are
+-- over columns, by their names or resolved
 pub data Expression (C : Type 0) : Type 0 where
   column : C → Expression C
   constant : ℤ → Expression C

@@ -1,4 +1,4 @@
--- The trees of the code, without where they lie in memory.
+-- The trees of the code, without their addresses in memory.
 use Rattle.std.specs.Prelude.{map, option_map}
 use Rattle.star_query.specs.declared.tree.{Name.Name, Literal.Literal, Expression.Expression, Comparison.Comparison, Comparison.TheVariants.Compare, Comparison.TheVariants.Between, Condition.Condition, Condition.TheVariants.Or', Condition.TheVariants.And', Condition.TheVariants.Not', Condition.TheVariants.Test, Measure.Measure, Measure.TheVariants.Fold, Measure.TheVariants.Count, Aggregate.Aggregate, Item.Item, Grouping.Grouping, SortKey.SortKey, Tree.Tree}
 use Rattle.star_query.specs.declared.tree.Literal.TheVariants as literals

@@ -68,7 +68,7 @@ impl<'a> Parser<'a> {
         self.compared(column, Relation::Equal)
     }
 
-    // What follows a column and a sign.
+    // The operand after a column and a sign.
     fn related(&mut self, column: Name, relation: Relation) -> Result<Condition<Test>, ParseError>
         ensures reads { ReadsNamed (λ h. behind_relation h (name_view column) relation)
             (spot_of self.old) (spot_of self.new) result }
@@ -80,7 +80,7 @@ impl<'a> Parser<'a> {
         }
     }
 
-    // What follows a column.
+    // The rest of a comparison after its column.
     fn compare(&mut self, column: Name) -> Result<Condition<Test>, ParseError>
         ensures reads { ReadsNamed (λ h. unit_named h (name_view column)) (spot_of self.old)
             (spot_of self.new) result }

@@ -15,7 +15,7 @@ pub enum QueryFault {
     OutOfMemory,
     /// The text has more than 65,536 bytes.
     TooLong,
-    /// No token begins with this byte, or it may not stand in a text.
+    /// No token begins with this byte, or a text may not contain it.
     BadCharacter { at: usize },
     /// A number of more than 18 digits, or one that a letter or `_` follows.
     BadNumber { at: usize },

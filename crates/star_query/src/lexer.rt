@@ -22,7 +22,7 @@ enum Piece<'a> {
     Bad(QueryFault),
 }
 
-// How a text ends: by its closing quote, after this many bytes; at a byte that may not stand in it;
+// How a text ends: by its closing quote, after this many bytes; at a byte that it may not contain;
 // or not at all.
 #[derive(Clone, Copy)]
 enum Ending {

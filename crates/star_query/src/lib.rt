@@ -1,6 +1,6 @@
 //! Query texts: their tokens, their grammar, and the tree that a text means.
 //!
-//! What the tokens of a text are, which tokens are a query and what else is the first fault stands
+//! The tokens of a text, the tokens that are a query, and the first fault of others are defined
 //! in `specs/`.
 #![tactic(auto)]
 

@@ -1,4 +1,4 @@
-// Lists with commas: what is selected, the tables, the columns of a group and the keys of an order.
+// Lists with commas: items, tables, group columns and sort keys.
 
 ghost use Rattle.std.specs.{Prelude.◌≤◌, Prelude.Result, Prelude.length, Prelude.OnOk, declared.alloc.Global.Global, declared.vec.Vec.Vec};
 ghost use Rattle.star_query.specs.Private.Clauses.{NoComma, ReadsColumn, ReadsColumns, ReadsItem, ReadsItems, ReadsKey, ReadsKeyList, ReadsTable, ReadsTables};

@@ -1,4 +1,4 @@
-// A query from its tokens, by recursive descent: what is next, what is counted, names, numbers and
+// A query from its tokens, by recursive descent: the next token, the counts, names, numbers and
 // texts.
 
 ghost use Rattle.std.specs.Prelude.{◌≡◌, ◌≤◌, Some, [], ◌∷◌, ◌-◌, length, map, drop, option_to_list, IfErr, IfOk, IfSome, IfNone};
@@ -24,7 +24,7 @@ pub(crate) struct Parser<'a> {
 }
 
 impl<'a> Parser<'a> {
-    // What is next.
+    // The next token.
     fn peek(&self) -> Option<Kind<'a>>
         ensures { result ≡ next_kind self.now.left.now }
     {
@@ -250,7 +250,7 @@ pub(crate) fn parse_tokens(
     }
 }
 
-// A fault, with its place where it has one.
+// A fault, with its place if it has one.
 fn fault_of(error: ParseError, at: usize) -> QueryFault
     ensures { result ≡ query_fault error at }
 {
@@ -268,7 +268,7 @@ fn count_passed(tokens: &[Token<'_>], left: &[Token<'_>]) -> usize
     tokens.len().saturating_sub(left.len())
 }
 
-// Where the tokens after the first `passed` begin.
+// The place at which the tokens after the first `passed` begin.
 fn place_at(tokens: &[Token<'_>], passed: usize, end: usize) -> usize
     ensures { result ≡ first_place (drop passed (map placed tokens.now)) end }
 {

@@ -8,7 +8,7 @@ use crate::tree::Tree;
 use std::alloc::Global;
 use std::marker::Model;
 
-/// A query: its tree is what some text means. It is made by parsing a text alone, and contracts see
+/// A query: its tree is the meaning of some text. Only parsing a text makes one, and contracts see
 /// it as its tree.
 #[derive(Drop)]
 pub struct Query {
@@ -39,10 +39,10 @@ impl Query {
     ghost use Rattle.star_query.specs.Views.{tree_view};
 
     /// The query that a text is, or the first fault: of its length, then of its tokens from the
-    /// left, then of the grammar and its limits at the first token that breaks one. Want of memory
+    /// left, then of the grammar and its limits at the first token that breaks one. Out of memory
     /// may come before any other fault.
     pub fn parse(alloc: Global, text: &[u8]) -> Result<Query, QueryFault>
-        // What is read is what the text means.
+        // The tree that is read is the text's meaning.
         ensures found { IfOk result (λ query. Means text.now (tree_view query)) }
         // A text that means a tree is read as it, unless memory runs out.
         ensures only { (tree : spec.Tree) → Means text.now tree
@@ -58,8 +58,8 @@ impl Query {
         Ok(Query { tree })
     }
 
-    /// What was read. `law::meant_trees_are_within_limits` tells what holds of every tree that a
-    /// text means.
+    /// The tree that was read. `law::meant_trees_are_within_limits` states the limits of every tree
+    /// that a text means.
     pub fn tree(&self) -> &Tree
         ensures lent { result.now ≡ self.now }
         // Some text means it.

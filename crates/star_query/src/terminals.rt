@@ -1,4 +1,4 @@
-// Tokens that stand for themselves: signs and reserved words.
+// Tokens without a value: signs and reserved words.
 
 ghost use Rattle.std.specs.Prelude.{◌≡◌, IfSome, IfNone};
 ghost use Rattle.std.proofs.Common.{rules};
@@ -7,7 +7,7 @@ ghost use Rattle.star_query.specs.{Private.Lexed.placed, Private.Terminals.IsTer
 
 use crate::token::{Additive, Keyword, Kind, Relation, Sign, Token};
 
-// A kind of tokens that stand for themselves.
+// A kind of tokens without a value.
 pub(crate) trait Terminal: Copy + PartialEq {
     // Its symbol in the grammar.
     ghost symbol: { Self → Symbol };

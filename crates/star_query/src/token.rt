@@ -55,7 +55,7 @@ pub(crate) enum Sign {
     Semicolon,
 }
 
-/// The signs that join terms. A minus stands before a number too.
+/// The signs that join terms. A minus may precede a number too.
 #[derive(Clone, Copy, PartialEq, Eq)]
 pub(crate) enum Additive {
     Plus,

@@ -1,10 +1,10 @@
-// What a query text means. Parentheses leave no trace. Expressions, conditions and measures are those
-// of plans too, which have columns where a query has names.
+// The meaning of a query's text. Parentheses leave no trace. Expressions, conditions and measures
+// are those of plans too, which have columns in place of names.
 
 use crate::token::{Fold, Relation};
 use star_schema::{Direction, Shape};
 
-/// A name in lower case, and the place where it stands.
+/// A name in lower case, and its place.
 #[derive(Drop)]
 pub struct Name {
     pub text: Vec<u8>,
@@ -55,7 +55,7 @@ pub enum Condition<T> {
     Test(T),
 }
 
-/// What is computed of each group, of columns or of their names.
+/// A measure of each group, over columns or over their names.
 #[derive(Drop)]
 pub enum Measure<C> {
     Fold(Fold, Expression<C>),
@@ -78,7 +78,7 @@ pub enum Item {
     Aggregate(Aggregate),
 }
 
-/// How rows are grouped; by no column where nothing is said.
+/// How rows are grouped; by no column if there is no GROUP BY.
 #[derive(Drop)]
 pub struct Grouping {
     pub shape: Shape,

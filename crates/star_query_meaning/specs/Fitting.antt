@@ -1,5 +1,5 @@
 -- Which queries fit over five tables: by the bounds of their columns and the number of lineorder's
--- rows alone.
+-- rows only.
 use Rattle.std.specs.Prelude.{◌≡◌, ◌≤◌, ℕ, true, length, pos}
 use Rattle.std.specs.{List.list_all, Option.option_map_or}
 use Rattle.star_schema.specs.{declared.table.TableId.TheVariants.Lineorder, Columns.bounds_in}
@@ -7,7 +7,7 @@ use Rattle.star_interval.specs.Range.{Range, only}
 use Rattle.star_query.specs.Tree.{Name, Tree}
 use Rattle.star_plan.specs.{Fits.Fits, Fits.measure_fits, Meaning.Plan, Meaning.Tables, Names.column_at, Resolved.measures_of}
 
--- the bounds of the column with this name; no other name stands in a well named query
+-- the bounds of the column with this name; a well named query has no other names
 abbrev pub range_named : Tables → Name → Range
 range_named ts n = option_map_or (bounds_in ts) (column_at n) (only (pos 0))
 

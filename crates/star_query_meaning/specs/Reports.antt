@@ -1,4 +1,4 @@
--- What is printed for the bytes of a query over the rows of five tables.
+-- The report for the bytes of a query over the rows of five tables.
 use Rattle.std.specs.Prelude.{◌≡◌, ℕ, List}
 use Rattle.star_schema.specs.Database.{Database, rows_in}
 use Rattle.star_query.specs.{Derives.Means, Tree.Tree}

@@ -11,7 +11,7 @@ pub use Rattle.star_plan.specs.Resolved.{measures_of}
 
 -- ---- the product
 
--- a row with a row of each table beside it, in every choice
+-- a row together with a row of each table, in every choice
 abbrev pub with_choices : Tables → List TableId → Joined → List Joined
 with_choices ts [] row = row ∷ []
 with_choices ts (t ∷ more) row =
@@ -27,7 +27,7 @@ tables_of names = flat_map (λ n. option_to_list (table_at n)) names
 
 -- ---- what WHERE says of a row
 
--- the value of the column with this name; no other name stands in a well named query
+-- the value of the column with this name; a well named query has no other names
 abbrev pub value_named : Name → Joined → Value
 value_named n row = option_map_or (λ c. joined_value c row) (column_at n) (Number (pos 0))
 

@@ -20,7 +20,7 @@ item_names items = item_names_from 1 items
 
 -- ---- columns of groups
 
--- what the items show, where `before` aggregates come before them
+-- the cells of the items, after `before` aggregates
 abbrev pub columns_from : List Name → ℕ → List Item → List GroupColumn
 columns_from columns before [] = []
 columns_from columns before (plain n ∷ items) =
@@ -28,7 +28,7 @@ columns_from columns before (plain n ∷ items) =
 columns_from columns before (aggregate a ∷ items) =
     Aggregate before ∷ columns_from columns (before + 1) items
 
--- what the items of SELECT show, in their order
+-- the cells of SELECT's items, in their order
 abbrev pub item_columns : Tree → List GroupColumn
 item_columns q = columns_from q.grouping.columns 0 q.items
 

@@ -10,7 +10,7 @@ ghost use Rattle.star_query_meaning.specs.{Answers.IsAnswer, Answers.IsPlanAnswe
 
 /// The rows of a well named query, which are those of the product of FROM's tables for which WHERE
 /// is true, are the joined rows of its plan for which all its conjuncts hold, up to their order;
-/// and in that order too where FROM names lineorder first, and then the dimensions as they are
+/// and in that order too if FROM names lineorder first, and then the dimensions as they are
 /// joined.
 pub fn plans_select_the_rows_of_their_queries()
     ensures rows { (tables : Tables) (query : Tree) (p : Plan)
@@ -30,7 +30,7 @@ pub fn plans_answer_their_queries()
         → IsAnswer tables query names rows ↔ IsPlanAnswer tables p names rows }
 {}
 
-/// A query fits tables exactly where its plan does.
+/// A query fits tables exactly if its plan does.
 pub fn plans_fit_where_their_queries_do()
     ensures { (most : ℕ) (tables : Tables) (query : Tree) (p : Plan)
         → IsResolved query p → FitsTables most tables query ↔ PlanFitsTables most tables p }

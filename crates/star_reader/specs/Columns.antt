@@ -1,4 +1,4 @@
--- What the columns of a table hold, and the rows that they make.
+-- The values of a table's columns, and the rows that they make.
 use Rattle.std.specs.Prelude.{◌≡◌, ◌++◌, ℕ, zero, suc, List, [], ◌∷◌, All, length, map, pos, slice_index_or}
 use Rattle.star_schema.specs.{declared.table.TableId.TableId, declared.column.Kind.Kind, Schema.kinds_of, Tables.Value, Tables.Number, Tables.Text}
 use Rattle.star_reader.specs.{declared.column.RawColumn.RawColumn, declared.column.RawColumn.TheVariants.Numbers, declared.column.RawColumn.TheVariants.Texts}

@@ -6,14 +6,14 @@ use Rattle.star_schema.specs.{declared.table.TableId.TableId, Records.records_in
 use Rattle.star_reader.specs.{declared.column.RawColumn.RawColumn, declared.fault.ReadFault.ReadFault, declared.fault.ReadFault.TheVariants.OutOfMemory, declared.progress.Progress.Progress, Columns.AreColumnsOf, Columns.first_rows, Columns.values, Faults.part_fault, Faults.parts_fault}
 use Rattle.star_reader.specs.{Faults.records_fault, Faults.text_fault, Carried.is_inner, Carried.StandsFor}
 
--- the first fault of what is left of a part: of all of it, or of the records behind a line end
+-- the first fault of the rest of a part: of all of it, or of the records after a line end
 abbrev pub left_fault : (is_start : Bool) → TableId → ℕ → ℕ → List ℕ → Option ReadFault
 left_fault is_start table most from left =
     if is_start then part_fault table most from left
     else records_fault table most from (records_of left)
 
 -- some parts of a table's text, and the front `text` of the next one, have been read, and no fault
--- was found: the rows of the records that ended stand in the columns, and the record that is open
+-- was found: the rows of the records that ended are in the columns, and the record that is open
 -- is carried
 pub record IsPartway (table : TableId) (most : ℕ) (parts : List (List ℕ)) (text : List ℕ)
     (progress : Progress) (columns : List RawColumn) : Type 0 where
@@ -37,7 +37,7 @@ abbrev pub IsFaultOf : TableId → ℕ → List (List ℕ) → List ℕ → Read
 IsFaultOf table most parts text fault = (more : List ℕ) (later : List (List ℕ))
     → text_fault table most (parts ++ (text ++ more) ∷ later) ≡ Some fault
 
--- how far a reader is: which table it reads, of at most how many rows, and what it found so far
+-- how far a reader is: which table it reads, of at most how many rows, and its first fault so far
 pub record Reading : Type 0 where
   pub table : TableId
   pub most : ℕ
@@ -56,7 +56,7 @@ pub record HasRead (reader : Reading) (table : TableId) (most : ℕ) (parts : Li
       (λ fault. UnlessMemory OutOfMemory fault
       (IsFaultOf reader.table reader.most parts text fault))
 
--- the parts of a text; the last one counts where it has a byte
+-- the parts of a text; the last one counts if it has a byte
 abbrev pub parts_with : List (List ℕ) → List ℕ → List (List ℕ)
 parts_with parts [] = parts
 parts_with parts (b ∷ text) = parts ++ (b ∷ text) ∷ []

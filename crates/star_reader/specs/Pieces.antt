@@ -4,7 +4,7 @@ use Rattle.std.specs.{List.flat_map, List.list_any, Option.option_or}
 use Rattle.star_schema.specs.{declared.table.TableId.TableId, Records.ends_line, Records.records_of}
 use Rattle.star_reader.specs.{declared.fault.ReadFault.ReadFault, Faults.records_fault}
 
--- the text that pieces make, one behind the other
+-- the text that pieces make, one after the other
 abbrev pub joined_pieces : List (List ℕ) → List ℕ
 joined_pieces pieces = flat_map (λ piece. piece) pieces
 
@@ -13,13 +13,13 @@ unfoldable pub ended_of : List ℕ → List ℕ
 ended_of [] = []
 ended_of (b ∷ text) = if list_any ends_line (b ∷ text) then b ∷ ended_of text else []
 
--- what stands behind the last line end of a text
+-- the bytes after the last line end of a text
 unfoldable pub open_of : List ℕ → List ℕ
 open_of [] = []
 open_of (b ∷ text) = if list_any ends_line (b ∷ text) then open_of text else b ∷ text
 
--- the records of a text that comes in pieces, behind an open record: those that end in the first
--- piece, and then those of the others behind what it leaves open
+-- the records of a text that comes in pieces, after an open record: those that end in the first
+-- piece, and then those of the others after the record that it leaves open
 unfoldable pub records_from : List ℕ → List (List ℕ) → List (List ℕ)
 records_from carried [] = records_of carried
 records_from carried (piece ∷ later) =

@@ -86,7 +86,7 @@ impl RawColumn {
     }
 
     /// Adds the value of the first field of a text, and gives how many bytes that field has; none
-    /// where it is no cell of the column.
+    /// if it is no cell of the column.
     #[inline(always)]
     pub(crate) fn push_front(&mut self, text: &[u8]) -> Result<Option<usize>, AllocError>
         ensures pushed { IfOk result (λ found. MatchOption found

@@ -1,4 +1,4 @@
-// Where a piece of a text has its lines.
+// The place of the lines in a piece of a text.
 
 ghost use Rattle.std.specs.Prelude.{◌≡◌, ◌<◌, ◌≤◌, ◌-◌, MatchOption, true, drop, get_or, length, take};
 ghost use Rattle.std.specs.{List.list_all};
@@ -13,7 +13,7 @@ pub(crate) struct Cut {
 }
 
 impl Cut {
-    /// What stands before the lines: the end of the line that is open.
+    /// The part before the lines: the end of the line that is open.
     pub(crate) fn head(self, piece: &[u8]) -> &[u8]
         requires { AreLinesOf piece.now self.first self.behind }
         ensures { result.now ≡ take self.first piece.now }
@@ -29,7 +29,7 @@ impl Cut {
         &piece[self.first..self.behind]
     }
 
-    /// What stands after the lines, and is open.
+    /// The part after the lines, which is open.
     pub(crate) fn tail(self, piece: &[u8]) -> &[u8]
         requires { AreLinesOf piece.now self.first self.behind }
         ensures { result.now ≡ drop self.behind piece.now }
@@ -59,7 +59,7 @@ fn first_end(piece: &[u8]) -> Option<usize>
     None
 }
 
-// The place after the last line end, and 0 where there is none.
+// The place after the last line end, and 0 if there is none.
 fn behind_last_end(piece: &[u8]) -> usize
     ensures within { result ≤ length piece.now }
     ensures tail { list_all is_inner (drop result piece.now) ≡ true }

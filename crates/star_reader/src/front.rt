@@ -1,4 +1,4 @@
-// The first field of what is left of a line.
+// The first field of the rest of a line.
 
 ghost use Rattle.std.specs.Prelude.{◌≡◌, ◌+◌, ◌<◌, ◌≤◌, ◌^◌, ◌&&◌, if◌then◌else◌, ℕ, None, Some, MatchOption, false, true, length, map, not, take};
 ghost use Rattle.std.specs.{List.list_all, List.prefix_len, Simd.Lanes.mask_l, Str.Parse.digits_value};
@@ -26,7 +26,7 @@ pub(crate) struct Number {
     pub(crate) count: usize,
 }
 
-// The digit that a byte writes, and a number past 9 where it writes none: one comparison tells
+// The digit that a byte writes, and a number past 9 if it writes none: one comparison shows
 // which.
 #[inline(always)]
 fn digit_of(byte: u8) -> u64
@@ -121,7 +121,7 @@ fn slow_front(text: &[u8]) -> Option<usize>
     Some(most)
 }
 
-// Which of these bytes end a cell, or may not stand in one.
+// Which of these bytes end a cell, or may not be in one.
 #[inline(always)]
 fn stops(lanes: u8x16) -> u64
     ensures { result ≡ mask_l (map is_stop lanes) }
@@ -131,7 +131,7 @@ fn stops(lanes: u8x16) -> u64
     (bars | others).to_bitmask()
 }
 
-// How many of the first 16 bytes of a text come before one that ends a cell, or may not stand in one.
+// How many of the first 16 bytes of a text come before one that ends a cell, or may not be in one.
 #[inline(always)]
 fn near_front(text: &[u8]) -> usize
     requires { 16 ≤ length text.now }

@@ -15,7 +15,7 @@ pub fn any_cut_gives_the_records_of_the_text()
         ≡ records_fault table most from (records_of (carried ++ joined_pieces pieces)) }
 {}
 
-/// A text in parts has no fault exactly where it is a table of at most `most` rows.
+/// A text in parts has no fault exactly if it is a table of at most `most` rows.
 pub fn texts_without_a_fault_are_tables()
     ensures { (table : TableId) (most : ℕ) (parts : List (List ℕ))
         → (text_fault table most parts ≡ None) ↔ IsTable table most parts }

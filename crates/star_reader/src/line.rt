@@ -22,8 +22,8 @@ fn from(line: &[u8], place: usize) -> &[u8]
     &line[place..]
 }
 
-// Adds the values of a line to the columns of its table, if it is a record of them, and tells
-// whether it is. Where it is none the columns may differ in length.
+// Adds the values of a line to the columns of its table, if it is a record of them, and returns
+// whether it is. If it is none the columns may differ in length.
 // Fields are found here and not by `csv`: that takes two steps of its machine a field, and a number
 // would be looked through for its end twice.
 fn push_line(columns: &mut [RawColumn], line: &[u8]) -> Result<bool, AllocError>
@@ -63,7 +63,7 @@ fn cut_fields(alloc: Global, line: &[u8]) -> Result<ByteRecord, AllocError>
     Ok(fields)
 }
 
-// The first fault of a line that is no record. Apart from `push_line`, which tells only whether
+// The first fault of a line that is no record. Apart from `push_line`, which returns only whether
 // there is one, and stays short so. The columns are those of its table, and may differ in length.
 #[cold]
 fn line_fault(alloc: Global, columns: &mut [RawColumn], at_row: u32, line: &[u8]) -> ReadFault

@@ -10,13 +10,13 @@ use std::alloc::{AllocError, Global};
 /// long.
 const LONG: usize = 256;
 
-/// The line that is open. No more of it is kept than tells its record or its first fault: of a
+/// The line that is open. No more of it is kept than its record or its first fault needs: of a
 /// field that is too long its first bytes, and of a line with too many fields no more than shows
 /// that. So a line of any length takes a few kilobytes.
 #[derive(Drop)]
 pub(crate) struct OpenLine {
     kept: Vec<u8>,
-    // The most bars that may be in it, and the most bytes that may stand after the last.
+    // The most bars that may be in it, and the most bytes that may follow the last.
     bars: usize,
     run: usize,
 }

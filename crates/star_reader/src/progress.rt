@@ -47,7 +47,7 @@ impl Progress {
         self.rows
     }
 
-    // Whether the part begins with a byte order mark, as far as the line that is open tells.
+    // Whether the part begins with a byte order mark, as far as the line that is open shows.
     fn is_marked(&self) -> bool
         ensures { result
             ≡ (self.now.is_start && starts_with nat_eq self.now.line.kept.items byte_order_mark) }

@@ -41,7 +41,7 @@ fn add_lines(
     Ok(rows)
 }
 
-// Adds the rows of all records that are left, and returns how many rows there are then. After a
+// Adds the rows of all remaining records, and returns how many rows there are then. After a
 // fault the columns may differ in length.
 fn read_records(
     alloc: Global,

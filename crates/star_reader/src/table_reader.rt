@@ -37,7 +37,7 @@ fn part_at<'a>(parts: &[&'a [u8]], place: usize) -> &'a [u8]
 /// mid-number, between the two bytes of a line end, within a byte order mark. It takes the memory of
 /// the columns, and a few kilobytes for the record that is open, however long that gets.
 ///
-/// What it answers in the end is what `read_parts` answers over the parts that came, in one piece
+/// Its result is that of `read_parts` over the parts that came, in one piece
 /// each. Once it has found a fault it lets the pieces that still come pass.
 #[derive(Drop)]
 pub struct TableReader {
@@ -94,9 +94,9 @@ impl TableReader {
         Ok(reader)
     }
 
-    // A fault is kept and told by `finish`, so that a load reads all files before it tells what is
-    // wrong with the contents of one.
-    /// Reads one more piece of the part that is open. Where memory is refused `finish` will say so.
+    // A fault is kept and reported by `finish`, so that a load reads all files before it reports an
+    // error of the contents of one.
+    /// Reads one more piece of the part that is open. If memory is refused `finish` will say so.
     pub fn feed(&mut self, alloc: Global, piece: &[u8])
         ensures { (table : TableId) (most : ℕ) (parts : List (List ℕ)) (text : List ℕ)
             → HasRead self.old table most parts text
@@ -129,7 +129,7 @@ impl TableReader {
     }
 
     /// The table that the parts are which came, or their first fault, as `read_parts` answers them.
-    /// The part that is open counts where it has a byte.
+    /// The part that is open counts if it has a byte.
     pub fn finish(self, alloc: Global) -> Result<RawTable, ReadFault>
         ensures read { (table : TableId) (most : ℕ) (parts : List (List ℕ)) (text : List ℕ)
             → HasRead self table most parts text → IfOk result

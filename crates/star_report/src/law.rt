@@ -6,7 +6,7 @@ ghost use Rattle.star_program.specs.{declared.outcome.Cell.Cell, declared.outcom
 ghost use Rattle.star_report.specs.{Report.report_text, Columns.ColumnKind, Columns.AreRowsOf, Columns.IsFieldValue};
 
 // The numbers of these rows have at most 64 digits (`AreRowsOf`): for longer ones the toolchain
-// does not say what is printed.
+// does not define their output.
 /// States that one text has one meaning: rows of the same columns that print the same text are
 /// equal.
 pub fn one_text_has_one_meaning()

@@ -61,7 +61,7 @@ fn codes(entries: u32) -> Option<Interval> {
     Some(Interval { low: 0, high })
 }
 
-// The range of a key, where one is known.
+// The range of a key, if one is known.
 fn range_of(
     verified: &Verified<'_>,
     group: usize,
@@ -115,8 +115,9 @@ fn known_ranges(
     Ok(ranges)
 }
 
-// Whether the key lists in these ranges are few enough for array aggregation: few beside the turns of
-// the run or the rows that are scanned, or with aggregates that are few beside the rows that are put.
+// Whether the key lists in these ranges are few enough for array aggregation: few compared with the
+// turns of the run or the rows that are scanned, or with aggregates that are few compared with the
+// rows that are put.
 fn are_dense(verified: &Verified<'_>, declared: &GroupDecl, ranges: &[Interval]) -> bool {
     let Some(ids) = ids(ranges) else {
         return false;
@@ -154,8 +155,8 @@ fn ranges_of(
     Ok(Vec::new(alloc))
 }
 
-// The ranges of the keys of each group. No clause tells them: they may make a run faster and change no
-// answer.
+// The ranges of the keys of each group. No clause has them: they may make a run faster and change
+// no answer.
 pub(crate) fn expected_ranges(
     alloc: Global,
     verified: &Verified<'_>,

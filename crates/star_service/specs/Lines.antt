@@ -1,4 +1,4 @@
--- The lines of faults, the exit status of each, and what a sink gains of a text that is told.
+-- The lines of faults, the exit status of each, and the bytes that a sink gains of a printed text.
 use Rattle.std.specs.Prelude.{◌≡◌, ◌++◌, ◌⊎◌, ℕ, List, [], codes}
 use Rattle.star_engine.specs.{declared.fault.EngineFault.EngineFault, Answered.Change, Answered.HasGained, Answered.HasGainedPart, Answered.IsUntouched, FaultTexts.engine_fault_text}
 use Rattle.star_engine.specs.declared.fault.EngineFault.TheVariants as engine
@@ -22,7 +22,7 @@ abbrev pub IsTextTold : {S : Type 0} → Change S → List ℕ → Type 0
 IsTextTold sink text = ((text ≡ []) × IsUntouched sink)
     ⊎ (HasGained sink text ⊎ ((sent : ℕ) × HasGainedPart sink text sent))
 
--- a fault is told with its status, or want of memory where there is none for its line
+-- a fault is printed with its status, or out of memory if there is none for its line
 abbrev pub IsFaultTold : {S : Type 0} → Change S → EngineFault → ℕ → Type 0
 IsFaultTold err fault status = (told : EngineFault)
     × ((told ≡ fault) ⊎ (told ≡ engine.OutOfMemory))

@@ -1,3 +1,3 @@
--- What the contracts of functions that are not public cite.
+-- Definitions that only contracts of private functions cite.
 pub mod ReportSteps
 pub mod Turns

@@ -1,4 +1,4 @@
--- What reports of many files tell, over tables that are loaded once.
+-- The output of reports of many files, over tables that are loaded once.
 use Rattle.std.specs.Prelude.{◌≡◌, ◌⊎◌, ◌++◌, ◌-◌, ◌&&◌, ℕ, List, [], ◌∷◌, Bool, true, false, Result, Ok, Err, codes, length, take}
 use Rattle.star_engine.specs.{declared.fault.EngineFault.EngineFault, Answered.Change, Answered.HasGained, Answered.HasGainedPart, Answered.IsUntouched, Loads.Loaded, Noted.Telling, Tellings.IsFileToldOver, Tellings.IsJudgedOver, Tellings.IsUnjudgedOver}
 use Rattle.star_service.specs.{Lines.fault_line, Names.printed_name, Shelves.HasFailedAt, Shelves.HasKept, Shelves.HasKeptNone, Shelves.Shelving, declared.reports.Errand.Errand, declared.reports.Halt.Halt, declared.reports.Halt.TheVariants.OutOfMemory}
@@ -53,8 +53,8 @@ IsDue loaded name file shelf true line = IsReportKept loaded name file shelf lin
 IsDue loaded name file shelf false line =
     IsRefusedLine loaded name file line × HasKeptNone shelf
 
--- what a file comes to: a line is told of it, and its report is kept where it is answered. Where a
--- report can't be kept nothing is told; where the line can't be written, its first bytes are; and
+-- the result of a file: a line of it is printed, and its report is kept if it is answered. If a
+-- report can't be kept nothing is printed; if the line can't be written, its first bytes are; and
 -- memory may be refused before the line
 abbrev pub IsDelivered : {K S : Type 0} → Loaded → (name file : List ℕ) → Shelving K → Change S
     → Result Bool Halt → Type 0
@@ -69,13 +69,13 @@ IsDelivered loaded name file shelf out (Err (Unwritten sent)) =
     (answered : Bool) × ((line : List ℕ)
     × (IsDue loaded name file shelf answered line × HasGainedPart out line sent))
 
--- the line of a file that is checked and not run: what is known before the run, or its refusal
+-- the line of a file that is checked and not run: its forecast, or its refusal
 abbrev pub IsJudgedLine : Loaded → (name file : List ℕ) → (accepted : Bool) → (line : List ℕ) → Type 0
 IsJudgedLine loaded name file true line = (forecast : List ℕ)
     × IsJudgedOver loaded.visits loaded.database file forecast × (line ≡ named_line name forecast)
 IsJudgedLine loaded name file false line = IsRefusedLine loaded name file line
 
--- what such a file comes to: the line is told
+-- the result of such a file: the line is printed
 abbrev pub IsJudged : {S : Type 0} → Loaded → (name file : List ℕ) → Change S → Result Bool Halt
     → Type 0
 IsJudged loaded name file out (Ok accepted) =
@@ -88,7 +88,7 @@ IsJudged loaded name file out (Err (Unwritten sent)) =
 
 -- ---- many files
 
--- what the files come to, one after another: the first, and then the others; and whether all were
+-- the results of the files, one after another: the first, and then the others; and whether all were
 -- answered
 abbrev pub AreDelivered : {K S : Type 0} → Loaded → List Errand → Shelving K → Change S
     → (all : Bool) → Type 0
@@ -101,7 +101,7 @@ AreDelivered {K} {S} loaded (errand ∷ others) shelf out all =
     × (AreDelivered loaded others (record shelf { old = kept }) (record out { old = told }) rest
     × (all ≡ (answered && rest)))))))
 
--- all files are answered or refused; or some are, and behind them one ends it
+-- all files are answered or refused; or some are, and after them one ends it
 pub record IsHalted {K S : Type 0} (loaded : Loaded) (errands : List Errand) (shelf : Shelving K)
     (out : Change S) (halt : Halt) : Type 0 where
   pub before : List Errand

@@ -1,4 +1,4 @@
--- What a session tells: of each of its statements, and of all that a source has.
+-- The output of a session: for each of its statements, and for all that a source has.
 use Rattle.std.specs.Prelude.{◌≡◌, ◌⊎◌, ◌++◌, ℕ, List, [], ◌∷◌, Bool, true, false, Option, Result, Ok, Err, codes, if◌then◌else◌}
 use Rattle.std.specs.{Io.KnownBytes.Consumes, Io.KnownBytes.IsAtEnd}
 use Rattle.star_engine.specs.Queries.{IsExplained, IsNoQuery, IsQueryQuoteOver, IsQueryToldOver, IsUnansweredOver}
@@ -20,11 +20,11 @@ IsReported loaded query out notes answer =
     (IsQueryToldOver loaded.visits loaded.database query)
     (IsUnansweredOver loaded.visits loaded.database query) answer
 
--- an empty line behind it
+-- an empty line after it
 abbrev pub IsLineEnded : {S : Type 0} → Change S → Result (Unit {0}) EngineFault → Type 0
 IsLineEnded out answer = IsAnswered out (λ text. text ≡ codes "\n") (λ fault. ⊥) answer
 
--- the one and then the other, where the one isn't stopped
+-- the one and then the other, if the one isn't stopped
 abbrev pub IsReportEnded : {S N : Type 0} → Loaded → List ℕ → Change S → Change N
     → Result (Unit {0}) EngineFault → Type 0
 IsReportEnded {S} loaded query out notes answer =
@@ -32,7 +32,7 @@ IsReportEnded {S} loaded query out notes answer =
     ⊎ ((reported : S) × IsReported loaded query (record out { new = reported }) notes (Ok tt)
     × IsLineEnded (record out { old = reported }) answer)
 
--- what is answered to what a statement asks for: for the program of a query, or its quote, as `explain`
+-- the answer to a statement: for the program of a query, or its quote, as `explain`
 -- and `quote` answer
 abbrev pub IsAnswerTo : {S N : Type 0} → Loaded → Question (List ℕ) → Change S → Change N
     → Result (Unit {0}) EngineFault → Type 0
@@ -48,12 +48,12 @@ IsAnswerTo loaded (asked.Quote query) out notes answer =
     IsAnswered out (IsQuoteTextOver loaded.database query) (IsUnquotedOver query) answer
     × IsUntouched notes
 
--- no session goes on behind a write that failed
+-- no session goes on after a write that failed
 abbrev pub may_go_on : EngineFault → Bool
 may_go_on (Write sent) = false
 may_go_on fault = true
 
--- how a statement ends behind its answer: a fault is told, with some status
+-- how a statement ends after its answer: a fault is printed, with some status
 abbrev pub IsStepEnded : {E : Type 0} → Change E → Result (Unit {0}) EngineFault → Bool → Type 0
 IsStepEnded err (Ok answer) goes_on = IsUntouched err × (goes_on ≡ true)
 IsStepEnded err (Err fault) goes_on =
@@ -69,18 +69,18 @@ pub record IsStep {S E : Type 0} (loaded : Loaded) (question : Question (List �
 
 -- ---- statements, one after another
 
--- what is told before each statement, where a person types them
+-- the prompt before each statement, if a person types them
 abbrev pub prompt_of : Bool → List ℕ
 prompt_of is_terminal = if is_terminal then codes "star> " else []
 
--- what both streams gain of a statement: the prompt, and what it asks for
+-- the gain of both streams by a statement: the prompt, and the answer
 pub record IsRound {S E : Type 0} (loaded : Loaded) (is_terminal : Bool) (statement : List ℕ)
     (out : Change S) (err : Change E) (goes_on : Bool) : Type 0 where
   pub prompted : E
   pub prompt : IsTextTold (record err { new = prompted }) (prompt_of is_terminal)
   pub step : IsStep loaded (asked_by statement) out (record err { old = prompted }) goes_on
 
--- what they gain of some statements: of the first, and then of the others
+-- their gain by some statements: by the first, and then by the others
 abbrev pub AreRounds : {S E : Type 0} → Loaded → (is_terminal : Bool) → List (List ℕ) → Change S
     → Change E → Type 0
 AreRounds loaded is_terminal [] out err = IsUntouched out × IsUntouched err
@@ -91,8 +91,8 @@ AreRounds {S} {E} loaded is_terminal (statement ∷ others) out err =
 
 -- ---- all that a source has
 
--- statements were read, and answered, which are the first whatever stands behind them; a source has these
--- bytes left before and behind them
+-- statements were read, and answered, which are the first whatever follows them; a source has these
+-- bytes left before and after them
 pub record AreAnswered {S E : Type 0} (loaded : Loaded) (is_terminal : Bool) (old new : Option (List ℕ))
     (statements : List (List ℕ)) (out : Change S) (err : Change E) : Type 0 where
   pub text : List ℕ
@@ -108,7 +108,7 @@ pub record AreAllAnswered {S E : Type 0} (loaded : Loaded) (is_terminal : Bool) 
   pub at_end : IsAtEnd new
   pub rounds : AreRounds loaded is_terminal (statements_of text) out err
 
--- a write failed while a statement was answered, behind others
+-- a write failed while a statement was answered, after others
 pub record IsUnwritten {S E : Type 0} (loaded : Loaded) (is_terminal : Bool) (old new : Option (List ℕ))
     (out : Change S) (err : Change E) : Type 0 where
   pub left : Option (List ℕ)
@@ -124,7 +124,7 @@ pub record IsUnwritten {S E : Type 0} (loaded : Loaded) (is_terminal : Bool) (ol
   pub round : IsRound loaded is_terminal statement (record out { old = told })
       (record err { old = noted }) false
 
--- no statement was read behind some that were answered, and nothing was told but a prompt
+-- no statement was read after some that were answered, and nothing was printed but a prompt
 pub record IsStatementUnread {S E : Type 0} (loaded : Loaded) (is_terminal : Bool) (old : Option (List ℕ))
     (out : Change S) (err : Change E) : Type 0 where
   pub left : Option (List ℕ)
@@ -134,7 +134,7 @@ pub record IsStatementUnread {S E : Type 0} (loaded : Loaded) (is_terminal : Boo
   pub is_prompted : Bool
   pub prompt : IsTextTold (record err { old = noted }) (prompt_of is_prompted)
 
--- what a session tells of all that a source has, where a source has these bytes left before and behind it,
+-- the output of a session for all that a source has, if a source has these bytes left before and after it,
 -- and whether a read of it has failed
 abbrev pub IsConversed : {S E : Type 0} → Loaded → (is_terminal : Bool) → (old new : Option (List ℕ))
     → (failed : Bool) → Change S → Change E → Result (Unit {0}) Stop → Type 0
@@ -150,7 +150,7 @@ IsConversed loaded is_terminal old new failed out err (Err (Unread ReadMemory)) 
 
 -- ---- the exit status
 
--- what is told behind the last statement, where a person types them
+-- the text after the last statement, if a person types them
 abbrev pub parting_of : Bool → List ℕ
 parting_of is_terminal = if is_terminal then codes "\n" else []
 
@@ -165,7 +165,7 @@ IsSessionEnded is_terminal err (Err (Unread ReadFailed)) status =
 IsSessionEnded is_terminal err (Err (Unread ReadMemory)) status =
     IsTextTold err (codes "memory\n") × (status ≡ 7)
 
--- a session over all that a source has, and behind it how it ends
+-- a session over all that a source has, and after it how it ends
 pub record IsSession {S E : Type 0} (loaded : Loaded) (is_terminal : Bool) (old new : Option (List ℕ))
     (failed : Bool) (out : Change S) (err : Change E) (status : ℕ) : Type 0 where
   pub result : Result (Unit {0}) Stop

@@ -1,4 +1,4 @@
--- Where reports are kept, before and after a call.
+-- The place that keeps reports, before and after a call.
 use Rattle.std.specs.Prelude.{◌≡◌, ◌≤◌, ◌++◌, ℕ, List, [], ◌∷◌, Option, Some, None, length, ⊤}
 use Rattle.star_service.specs.{declared.shelf.ShelfFault.ShelfFault, declared.shelf.ShelfFault.TheVariants.OutOfMemory, declared.shelf.ShelfFault.TheVariants.Write}
 
@@ -7,8 +7,8 @@ pub record Kept : Type 0 where
   pub name : List ℕ
   pub report : List ℕ
 
--- a shelf before and after a call, with the reports that such a shelf has, where they are known, and
--- how many bytes of the last report were sent, where a write of it failed
+-- a shelf before and after a call, with the reports that such a shelf has, if they are known, and
+-- how many bytes of the last report were sent, if a write of it failed
 pub record Shelving (K : Type 0) : Type 0 where
   pub reports : K → Option (List Kept)
   pub failed_at : K → Option ℕ

@@ -1,4 +1,4 @@
-//! What is served over loaded tables: the statements of a session and the reports of many files, with
+//! Services over loaded tables: the statements of a session and the reports of many files, with
 //! the lines of faults that they share.
 #![tactic(auto)]
 

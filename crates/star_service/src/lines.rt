@@ -1,4 +1,4 @@
-// The lines of faults, and how they are told.
+// The lines of faults, and how they are printed.
 
 ghost use Rattle.std.specs.Prelude.{◌≡◌, IfOk, string_bytes};
 ghost use Rattle.star_engine.specs.Answered.{change};
@@ -8,10 +8,10 @@ use star_common::{Sink, write_whole};
 use star_engine::{EngineFault, FaultLine};
 use std::alloc::{AllocError, Global};
 
-/// The line where memory is refused, which takes none.
+/// The line if memory is refused, which takes none.
 pub const MEMORY_LINE: &str = "memory\n";
 
-/// The exit status where memory is refused.
+/// The exit status if memory is refused.
 pub const MEMORY_STATUS: u8 = 7;
 
 /// Writes a text on a sink, as far as the sink takes it.
@@ -45,7 +45,7 @@ pub fn status_of(fault: &EngineFault) -> u8
 
 // The line of a fault is made whole before any of it is written, so that the law of sinks says what
 // the stream gains.
-/// Writes the line of a fault, and gives its exit status; those of want of memory where there is
+/// Writes the line of a fault, and returns its exit status; those of out of memory if there is
 /// none for the line.
 pub fn tell_fault<S: Sink>(alloc: Global, err: &mut S, fault: &EngineFault) -> u8
     ensures { IsFaultTold (change S.contents S.is_failed err.old err.new) fault.now result }

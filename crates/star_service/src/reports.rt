@@ -1,5 +1,5 @@
 // Reports of many files over tables that are loaded once: each is kept under its name, and a line of
-// it is told. Or the files are checked and not run, and what is known before a run is told of each.
+// it is printed. Or the files are checked and not run, and the forecast of each is printed.
 
 ghost use Rattle.std.specs.Prelude.{◌≡◌, ◌<◌, Err, IfOk, MatchResult, length, string_bytes};
 ghost use Rattle.star_common.specs.Memory.{TellsMemory};
@@ -28,7 +28,7 @@ pub enum Halt<'a> {
     OutOfMemory,
     /// The report of this name was not kept: a write failed, `sent` bytes into the report.
     Unkept { name: &'a str, sent: u64 },
-    /// A line was not told: a write failed, `sent` bytes into the line.
+    /// A line was not printed: a write failed, `sent` bytes into the line.
     Unwritten { sent: u64 },
 }
 
@@ -91,7 +91,7 @@ fn write_line<'a, S: Sink>(out: &mut S, line: &[u8]) -> Result<(), Halt<'a>>
     }
 }
 
-// Keeps the report of a file, and tells its line.
+// Keeps the report of a file, and prints its line.
 fn keep_told<'a, K: Shelf, S: Sink>(
     alloc: Global,
     name: &'a str,
@@ -113,7 +113,7 @@ fn keep_told<'a, K: Shelf, S: Sink>(
     }
 }
 
-// Tells the line of a file that was not answered; of want of memory there is none.
+// Prints the line of a file that was not answered; out of memory has none.
 fn tell_refusal<'a, S: Sink>(
     alloc: Global,
     name: &'a str,
@@ -132,7 +132,7 @@ fn tell_refusal<'a, S: Sink>(
     Ok(false)
 }
 
-// What is printed of the run of what a file holds.
+// The printed counts of a file's run.
 fn report_of(alloc: Global, engine: &Engine, file: &[u8]) -> Result<Told, EngineFault>
     ensures { MatchResult result (λ told.
         IsFileToldOver engine.now.visits engine.now.database file.now (telling_of told))
@@ -142,7 +142,7 @@ fn report_of(alloc: Global, engine: &Engine, file: &[u8]) -> Result<Told, Engine
     engine.report(alloc, question)
 }
 
-// The line of what is known before it.
+// The line of its forecast.
 fn forecast_of(alloc: Global, engine: &Engine, file: &[u8]) -> Result<String, EngineFault>
     ensures { MatchResult result (λ line.
         IsJudgedOver engine.now.visits engine.now.database file.now (string_bytes line))
@@ -152,7 +152,7 @@ fn forecast_of(alloc: Global, engine: &Engine, file: &[u8]) -> Result<String, En
     engine.forecast(alloc, question)
 }
 
-// Answers a file over loaded tables: keeps its report under its name, and tells a line of it. The
+// Answers a file over loaded tables: keeps its report under its name, and prints a line of it. The
 // answer is whether it was not refused.
 fn deliver<'a, K: Shelf, S: Sink>(
     alloc: Global,
@@ -175,7 +175,7 @@ fn deliver<'a, K: Shelf, S: Sink>(
     }
 }
 
-// Checks a file over loaded tables, and tells what is known before its run, or why it is refused. The
+// Checks a file over loaded tables, and prints its forecast, or why it is refused. The
 // answer is whether it was not refused.
 fn judge<'a, S: Sink>(
     alloc: Global,
@@ -198,8 +198,8 @@ fn judge<'a, S: Sink>(
 }
 
 /// Answers files over loaded tables, one after another: keeps the report of each under its name on
-/// `shelf`, and tells a line of it on `out`, or one that says why it is refused. The answer is whether
-/// none was refused.
+/// `shelf`, and prints a line of it on `out`, or one that says why it is refused. The answer is
+/// whether none was refused.
 pub fn deliver_all<'a, K: Shelf, S: Sink>(
     alloc: Global,
     engine: &Engine,
@@ -219,9 +219,9 @@ pub fn deliver_all<'a, K: Shelf, S: Sink>(
     Ok(all)
 }
 
-/// Checks files over loaded tables, one after another, and tells of each how many visits are quoted
-/// and how many rows its report can have at most, or why it is refused. Nothing is run. The answer is
-/// whether none was refused.
+/// Checks files over loaded tables, one after another, and prints of each how many visits are
+/// quoted and how many rows its report can have at most, or why it is refused. Nothing is run. The
+/// answer is whether none was refused.
 pub fn judge_all<'a, S: Sink>(
     alloc: Global,
     engine: &Engine,

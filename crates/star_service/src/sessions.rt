@@ -76,7 +76,7 @@ fn report<S: Sink, N: Sink>(
     }
 }
 
-// The answer to what the text of a statement asks for.
+// The answer to the text of a statement.
 fn answer_statement<S: Sink, N: Sink>(
     alloc: Global,
     engine: &Engine,
@@ -104,7 +104,7 @@ fn may_go_on(fault: &EngineFault) -> bool
     !matches!(fault, EngineFault::Write { .. })
 }
 
-/// Answers one statement over loaded tables, by its text: writes on `out` what it asks for, on
+/// Answers one statement over loaded tables, by its text: writes the answer on `out`, on
 /// `err` the notes of a report or the line of a fault. The answer is whether the session goes on:
 /// it does after every fault but a write that failed.
 pub fn step<S: Sink, E: Sink>(
@@ -127,14 +127,14 @@ pub fn step<S: Sink, E: Sink>(
     }
 }
 
-// What is told before each statement, where a person types them.
+// The prompt before each statement, if a person types them.
 fn prompt_of(is_terminal: bool) -> &'static str
     ensures { result.now ≡ spec.prompt_of is_terminal }
 {
     if is_terminal { "star> " } else { "" }
 }
 
-// What is told after the last statement, where a person types them.
+// The text after the last statement, if a person types them.
 fn parting_of(is_terminal: bool) -> &'static str
     ensures { result.now ≡ spec.parting_of is_terminal }
 {
@@ -192,7 +192,7 @@ fn converse<R: Read, S: Sink, E: Sink>(
     Err(Stop::Unread(ReadFault::Failed))
 }
 
-// Tells how a session ends, and gives the exit status.
+// Prints how a session ends, and returns the exit status.
 fn part<E: Sink>(is_terminal: bool, ended: Result<(), Stop>, err: &mut E) -> u8
     ensures { IsSessionEnded is_terminal (change E.contents E.is_failed err.old err.new) ended result }
 {
@@ -214,8 +214,8 @@ fn part<E: Sink>(is_terminal: bool, ended: Result<(), Stop>, err: &mut E) -> u8
 }
 
 /// Reads the statements of a source to its end, and answers each as it comes, over loaded tables, as
-/// `step` does. Where a person types them, a prompt is told on `err` before each. Gives the exit
-/// status: 0 at the end of the source, 6 where a read or a write failed, 7 where there is no memory
+/// `step` does. If a person types them, a prompt is printed on `err` before each. Returns the exit
+/// status: 0 at the end of the source, 6 if a read or a write failed, 7 if there is no memory
 /// for a statement.
 pub fn hold<R: Read, S: Sink, E: Sink>(
     alloc: Global,

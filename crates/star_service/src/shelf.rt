@@ -23,18 +23,18 @@ impl From<AllocError> for ShelfFault {
     }
 }
 
-// A shelf keeps in mind how far the report came whose write failed: else a body that tells of a
+// A shelf keeps how far the report came whose write failed: else a body that reports a
 // failed write without any would meet the contract.
 /// A place that keeps reports, each under a name of its own.
 pub trait Shelf {
-    // The reports that were kept, in order, where they are known.
+    // The reports that were kept, in order, if they are known.
     ghost reports: { Self → Option (List Kept) };
 
-    // How many bytes of the last report were sent, where a write of it failed.
+    // How many bytes of the last report were sent, if a write of it failed.
     ghost failed_at: { Self → Option ℕ };
 
     /// Keeps a whole report under a name. On `Err` nothing is kept: a write failed, as far into the
-    /// report as is told, or at its end; or memory was refused.
+    /// report as the error says, or at its end; or memory was refused.
     fn keep(&mut self, alloc: Global, name: &str, report: &[u8]) -> Result<(), ShelfFault>
         ensures kept { OnOk result
             (HasKept (shelving reports failed_at self.old self.new) name.now report.now) }

@@ -49,8 +49,8 @@ fn now(clock: &impl Clock) -> Result<Instant, Failure> {
     Instant::now(clock).map_err(|_| Failure::Clock)
 }
 
-// The times of some runs in ascending order, each to its report and the nearest microsecond. What is
-// printed of a run is dropped after the clock is read.
+// The times of some runs in ascending order, each to its report and the nearest microsecond. A
+// report is dropped after the clock is read.
 fn times_of<R: Clock + AllocGlobal>(
     rt: &R,
     verified: &Verified<'_>,
@@ -122,7 +122,7 @@ fn read_arguments<R: Env + AllocGlobal>(rt: &R) -> io::Result<Vec<String>> {
     Ok(arguments)
 }
 
-// The folder and the number of runs, where the arguments are these.
+// The folder and the number of runs, if the arguments are these.
 fn asked(arguments: &[String]) -> Option<(&str, u64)> {
     let [folder, runs] = arguments else {
         return None;
@@ -133,7 +133,7 @@ fn asked(arguments: &[String]) -> Option<(&str, u64)> {
     }
 }
 
-// Does what the arguments ask for, and returns the exit status.
+// Carries out the request of the arguments, and returns the exit status.
 fn answer<R: Env + Files + Clock + AllocGlobal, S: Sink, E: Sink>(
     rt: &R,
     out: &mut S,

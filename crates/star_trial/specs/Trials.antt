@@ -11,7 +11,7 @@ IsFaultOfEnd end fault.OutOfMemory = Unit {0}
 IsFaultOfEnd end (fault.Trap at kind) = end ≡ Trapped at kind
 IsFaultOfEnd end fault.Limit = end ≡ Limited
 
--- the answer of a trial with at most `visits` visits: the outcome where the bounded run comes to
+-- the result of a trial with at most `visits` visits: the outcome if the bounded run comes to
 -- its end, else its trap or the limit
 abbrev pub IsTrial : World → Parts → ℕ → Result Outcome TrialFault → Type 0
 IsTrial w parts visits result =

@@ -92,7 +92,7 @@ fn update(
     }
 }
 
-// A number in a register, where it has 64 bits.
+// A number in a register, if it has 64 bits.
 #[tactic(auto, unfolding(star_interval::specs::Range::is_i64))]
 fn narrowed(number: i128) -> Option<Value>
     ensures { result ≡ fitting (Value.Number number) }
@@ -103,7 +103,7 @@ fn narrowed(number: i128) -> Option<Value>
     }
 }
 
-// Reads the total of an aggregate, or a default where it is NULL; `None` where it leaves 64 bits.
+// Reads the total of an aggregate, or a default if it is NULL; `None` if it leaves 64 bits.
 fn read(run: &Work<EagerStore>, group: u16, aggregate: u16, default: i64) -> Option<Value>
     requires there { group < length run.now.stores.items }
     requires declared { (store : EagerStore) → slice_get run.now.stores.items group ≡ Some store

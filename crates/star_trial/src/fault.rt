@@ -15,8 +15,8 @@ use std::fmt;
 pub enum TrialFault {
     /// Memory was refused.
     OutOfMemory,
-    /// An instruction, by its number from 1, was trapped; or, at 0, the report names what is not
-    /// there.
+    /// An instruction, by its number from 1, was trapped; or, at 0, the report names a group that
+    /// is not there.
     Trap { at: u16, kind: TrapKind },
     /// One more turn would have begun than are allowed.
     Limit,

@@ -25,7 +25,7 @@ fn empty_registers(alloc: Global, count: usize) -> Result<Vec<Register>, AllocEr
 }
 
 // Runs the instructions from the first on. The registers of the program and those of the scans that
-// can stand one in another are all the memory that it takes beside the groups.
+// can be nested are all the memory that it takes in addition to the groups.
 fn run_through(
     alloc: Global,
     catalogue: &Catalogue,
@@ -65,8 +65,8 @@ fn run_through(
 ///
 /// Answers the rows of the reported group in order, and how many turns of scans were begun, how
 /// many finds were reached and how many puts went through. The first in the order of the run
-/// decides: its end, a trap with its kind and the number of its instruction, or `Limit` where one
-/// more turn would begin. Instructions are numbered from 1 as they stand in the text, a scan before
+/// decides: its end, a trap with its kind and the number of its instruction, or `Limit` if one
+/// more turn would begin. Instructions are numbered from 1 in the order of the text, a scan before
 /// its body; a trap at 0 is a report that names a group or a column that is not there, or has no
 /// show line, and comes before the first instruction. Memory may be refused at any time.
 pub fn trial(

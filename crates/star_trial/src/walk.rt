@@ -101,7 +101,7 @@ fn turns(
     Ok(())
 }
 
-// A scan of a table, whose own number stands before that of its body.
+// A scan of a table, whose own number precedes that of its body.
 #[cycle(walk)]
 fn scan(
     machine: &Machine<'_>,

@@ -37,7 +37,7 @@ fn empty_state(alloc: Global, parts: &Parts) -> Result<VerifierState, AllocError
     })
 }
 
-// Checks the instructions in order. Returns the first refusal, or what is put to the keys of each
+// Checks the instructions in order. Returns the first refusal, or the facts about the keys of each
 // group.
 fn check_instructions(alloc: Global, parts: &Parts, facts: &Facts) -> Result<Vec<Tally>, Refusal>
     requires limits { IsWithinLimits parts.now }
@@ -68,7 +68,7 @@ fn check_instructions(alloc: Global, parts: &Parts, facts: &Facts) -> Result<Vec
     Ok(keys)
 }
 
-// Facts about the run of an accepted program: its quote, and what is put to the keys of each group.
+// Facts about the run of an accepted program: its quote, and facts about the keys of each group.
 #[derive(Drop)]
 pub(crate) struct Accepted {
     pub(crate) visits: u128,

@@ -116,7 +116,7 @@ fn may_hide(shape: Shape) -> bool
     }
 }
 
-// The groupings of a group's keys: their shape, what is put to each key, and the maximum number of
+// The groupings of a group's keys: their shape, facts about each key, and the maximum number of
 // updates.
 #[derive(Clone, Copy)]
 struct Groupings<'a> {
@@ -182,7 +182,7 @@ const NO_KEYS: Front = Front {
     lists: 1,
 };
 
-// Returns the maximum number of rows of a program's report, from what is put to the keys of each
+// Returns the maximum number of rows of a program's report, from facts about the keys of each
 // group. Two tighter bounds are left out, since each needs more state: the updates and values of
 // each put separately, and dependent keys, as a year depends on its date.
 pub(crate) fn most_rows(catalogue: &Catalogue, parts: &Parts, keys: &[Tally]) -> u128

@@ -1,4 +1,4 @@
--- What is told of words that ask for nothing, and the exit status.
+-- The errors of arguments that make no request, and the exit status.
 use Rattle.std.specs.Prelude.{ℕ, List, Option, Some, None, codes}
 use Rattle.clap.specs.{Values.kind_of, declared.error.Error.Error, declared.error.kind.ErrorKind.ErrorKind, declared.error.kind.ErrorKind.TheVariants.DisplayHelp, declared.error.kind.ErrorKind.TheVariants.DisplayVersion}
 use Rattle.star_words.specs.declared.fault.WordsFault.TheVariants.{Told, NotText, EmptyFolder, NoTarget, NoCommand, OutOfMemory}
@@ -13,7 +13,7 @@ fault_of_kind error kind = Told error
 abbrev pub fault_of_error : Error → WordsFault
 fault_of_error error = fault_of_kind error (kind_of error)
 
--- its line, where that is known: the parser has its own
+-- its line, if that is known: the parser has its own
 unfoldable pub words_fault_text : WordsFault → Option (List ℕ)
 words_fault_text (Told error) = None
 words_fault_text NotText = Some (codes "error: a word is not UTF-8\n")

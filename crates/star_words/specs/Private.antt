@@ -1,2 +1,2 @@
--- What the contracts of functions that are not public cite.
+-- Definitions that only contracts of private functions cite.
 pub mod Parting

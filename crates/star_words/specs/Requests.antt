@@ -1,4 +1,4 @@
--- What the arguments of a command line ask for, one by one.
+-- The requests of command lines, argument by argument.
 use Rattle.std.specs.Prelude.{◌≡◌, ⊤, ◌&&◌, ◌||◌, ◌==◌, ℕ, Bool, true, false, List, [], ◌∷◌, Option, Some, None, if◌then◌else◌, codes, is_some, length, map, nat_le, nat_lt, slice_index}
 use Rattle.std.specs.{Char.digit_value, List.list_all, Option.option_and_then, Option.option_map, Option.option_to_list, Str.bytes_eq, Str.Parse.digits_value, Str.Parse.without_leading_plus}
 use Rattle.star_schema.specs.Most.{most_rows}
@@ -206,7 +206,7 @@ names_folders (merge file partials is_distinct) = true
 
 -- ---- requests and refusals
 
--- the request is what the arguments ask for
+-- the request is that of the arguments
 pub record IsRequest (words : List Word) (request : Request) : Type 0 where
   pub asked_for : asked words ≡ Some (request_asked request)
   pub named : names_folders (request_asked request) ≡ true

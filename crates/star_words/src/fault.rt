@@ -12,7 +12,7 @@ use std::fmt;
 /// Why words ask for nothing that can be done.
 #[derive(Drop)]
 pub enum WordsFault {
-    /// The words are no command, or ask for help or the version: what the parser tells of them.
+    /// The arguments are no command, or ask for help or the version: the parser's text.
     Told(Error),
     /// A word is not UTF-8.
     NotText,
@@ -45,7 +45,7 @@ impl From<Error> for WordsFault {
     }
 }
 
-/// Writes its line with the line's end; of `Told` what the parser tells, which may be help.
+/// Writes its line with the line's end; of `Told` the parser's text, which may be help.
 impl fmt::Display for WordsFault {
     ghost output = { words_fault_text };
 
@@ -73,7 +73,7 @@ fn status_of_words(kind: ErrorKind) -> u8
 }
 
 impl WordsFault {
-    /// Gives the exit status: 0 of help and the version, 7 of want of memory, and 2 of all else.
+    /// Returns the exit status: 0 of help and the version, 7 of out of memory, and 2 of all else.
     pub fn status(&self) -> u8
         ensures { result ≡ words_fault_status self.now }
     {

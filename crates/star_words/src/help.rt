@@ -1,7 +1,7 @@
-// What the program tells of itself and of its commands.
+// The help of the program and of its commands.
 
-/// What is told of a command: its name, what it is called on a command line, what it does, and
-/// after its words an example and its exit statuses.
+/// The help of a command: its name, its call on a command line, its purpose, and
+/// after its arguments an example and its exit statuses.
 #[derive(Clone, Copy)]
 pub(crate) struct Help {
     pub(crate) name: &'static str,
@@ -10,7 +10,7 @@ pub(crate) struct Help {
     pub(crate) after: &'static str,
 }
 
-/// What a FILE is told to be.
+/// The help of a FILE.
 pub(crate) const QUERY_FILE: &str = "A file with the text of a query (docs/QUERIES.md)";
 
 pub(crate) const PROGRAM_FILE: &str = "A file with the text of a program (docs/PROGRAMS.md)";

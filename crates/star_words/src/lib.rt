@@ -1,4 +1,4 @@
-//! What the words of a command line ask for, and what is told of words that ask for nothing.
+//! The requests of command lines, and the errors of arguments that make none.
 #![tactic(auto)]
 
 mod fault;

@@ -5,7 +5,7 @@ use clap::{Arg, ArgAction, Command, value_parser};
 use star_schema::MOST_VISITS;
 use std::alloc::{AllocError, Global};
 
-// A word that has to be there, as it stands.
+// A word that has to be there, as it is.
 fn word<'a>(alloc: Global, name: &'a str, help: &'a str) -> Arg<'a> {
     Arg::new(alloc, name)
         .help(help)
@@ -45,7 +45,7 @@ pub(crate) fn wordless<'a>(alloc: Global, help: Help) -> Result<Command<'a>, All
         .bin_name(help.called)
 }
 
-// Some words, as they stand.
+// Some words, as they are.
 fn file_words<'a>(alloc: Global) -> Arg<'a> {
     Arg::new(alloc, "FILE")
         .help(
@@ -101,7 +101,7 @@ fn distinct_flag<'a>(alloc: Global) -> Arg<'a> {
 pub(crate) enum Asked {
     Nothing,
     Folder,
-    /// A file; help tells this of it, here and below.
+    /// A file, with its help, here and below.
     File(&'static str),
     FolderAndFile(&'static str),
     FolderFileAndLimit(&'static str),
@@ -145,7 +145,7 @@ pub(crate) fn asking<'a>(
     }
 }
 
-/// Makes these commands; each asks for what stands beside its help.
+/// Makes these commands; each with its help and its request.
 pub(crate) fn asking_all<'a>(
     alloc: Global,
     commands: &[(Help, Asked)],

@@ -1,4 +1,4 @@
-// What the arguments of a command line ask for.
+// The requests of command lines.
 
 ghost use Rattle.std.specs.Prelude.{◌≡◌, ◌∷◌, IfOk, MatchResult, OnOk, map, option_map, string_bytes};
 ghost use Rattle.star_words.specs.Private.Parting.{AreArguments, IsAdded, IsLimited, IsMade, texts};
@@ -10,7 +10,7 @@ use crate::refusal::parsed;
 use star_schema::{Limits, MOST_ROWS, MOST_VISITS};
 use std::alloc::{AllocError, Global};
 
-/// What the program is to do.
+/// A request to the program.
 #[derive(Clone, Copy)]
 pub enum Task<'a> {
     /// List the tables of the sample, and answer the queries of the benchmark over them.
@@ -37,7 +37,7 @@ pub enum Task<'a> {
         folder: &'a str,
         file: &'a str,
     },
-    /// Tell how many visits of the program of a file, or of the program of its query, are quoted
+    /// Print how many visits of the program of a file, or of the program of its query, are quoted
     /// over the tables of a folder.
     Quote {
         folder: &'a str,
@@ -52,14 +52,14 @@ pub enum Task<'a> {
     },
 }
 
-/// What the words of a command line ask for.
+/// The request of a command line.
 #[derive(Drop)]
 pub enum Request<'a> {
-    /// An answer, over what is read before it.
+    /// An answer, over input that is read before it.
     Answer(Task<'a>),
     /// A session over the tables of a folder.
     Session { folder: &'a str },
-    /// Reports of some files over the tables of a folder, or what is known before their runs.
+    /// Reports of some files over the tables of a folder, or their forecasts.
     Reports(Reports<'a>),
     /// The partials of the query of a file over parts of lineorder.
     Partial(Partials<'a>),
@@ -86,8 +86,8 @@ pub struct Merge<'a> {
     pub is_distinct: bool,
 }
 
-/// What is asked of some files over the tables of a folder: their reports, into the folder `target`;
-/// or, where it `is_quote`, what is known before their runs.
+/// A request for files over the tables of a folder: their reports, into the folder `target`;
+/// or, if it `is_quote`, their forecasts.
 #[derive(Drop)]
 pub struct Reports<'a> {
     pub folder: &'a str,
@@ -429,7 +429,7 @@ fn may_ask_help(command: &str, arguments: &Arguments<'_>) -> bool
 /// The first is the name of a command; without arguments the sample is asked for.
 ///
 /// `clap` parses the arguments first, and its error is returned if there is one. On `Ok` the request
-/// is `asked words`, a function of the arguments alone. On `Err` the parser refused the arguments or
+/// is `asked words`, a function of only the arguments. On `Err` the parser refused the arguments or
 /// printed help, they make no request, a folder's name is empty, or memory ran out.
 pub fn request_of<'a>(alloc: Global, words: &'a [String]) -> Result<Request<'a>, WordsFault>
     ensures { MatchResult result (IsRequest (map string_bytes words.now))

@@ -3,7 +3,7 @@ use Rattle.std.specs.Prelude.{◌≡◌, ◌≤◌, ℕ, List, length}
 use Rattle.star_service.specs.declared.shelf.ShelfFault.{ShelfFault}
 use Rattle.star_service.specs.declared.shelf.ShelfFault.TheVariants as fault
 
--- a write failed behind the first `sent` bytes, or memory was refused
+-- a write failed after the first `sent` bytes, or memory was refused
 abbrev pub IsFailedBehind : (sent : ℕ) → ShelfFault → Type 0
 IsFailedBehind sent fault.OutOfMemory = Unit {0}
 IsFailedBehind sent (fault.Write at) = at ≡ sent

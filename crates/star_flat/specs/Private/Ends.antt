@@ -2,7 +2,7 @@
 use Rattle.std.specs.Prelude.{◌+◌, ◌/◌, ℕ, List, length, map, slice_index}
 use Rattle.std.specs.List.{range_with_len}
 
--- each end lies its offset behind the start of its block of 16
+-- each end is its offset after the start of its block of 16
 abbrev pub end_of : List ℕ → List ℕ → ℕ → ℕ
 end_of starts offsets place = slice_index starts (place / 16) + slice_index offsets place
 

@@ -27,7 +27,7 @@ pub record IsKeyed (texts : List (List ℕ)) (e : Numbered) : Type 0 where
   pub long : 12 ≤ length (text_at texts e) → e.second % 256 ≡ 12
   pub bytes : All (λ byte. byte < 256) (text_at texts e)
 
--- what is looked at where fronts are one: nothing of a text that its front tells whole
+-- the part that is compared if fronts are equal: nothing of a text that its front contains whole
 abbrev pub ending : List (List ℕ) → Numbered → List ℕ
 ending texts e = if nat_lt (e.second % 256) 12 then [] else text_at texts e
 
@@ -35,12 +35,12 @@ ending texts e = if nat_lt (e.second % 256) 12 then [] else text_at texts e
 abbrev pub key_of : Whole → Numbered
 key_of e = record { first = e.first; second = e.second; number = e.number }
 
--- a text of a list, behind its key
+-- a text of a list, after its key
 pub record IsWhole (texts : List (List ℕ)) (e : Whole) : Type 0 where
   pub keyed : IsKeyed texts (key_of e)
   pub text_is : e.text.now ≡ text_at texts (key_of e)
 
--- keys compare as their fronts, and where these are one, as their texts where these are longer
+-- keys compare as their fronts, and if these are equal, as their texts if these are longer
 abbrev pub by_key : List (List ℕ) → Numbered → Numbered → Ordering
 by_key texts a b =
     ordering_then (nat_cmp a.first b.first) (ordering_then (nat_cmp a.second b.second)

@@ -44,7 +44,7 @@ RollsUp shape count gs place entries place' entries' = (puts : List Update)
     → IsRolledUp (group_with shape count gs) place entries puts
     → IsRolledUp (group_with shape count gs) place' entries' puts
 
--- a row is merged into that of its coarser key, where that is a grouping; else nothing changes
+-- a row is merged into that of its coarser key, if that is a grouping; else nothing changes
 abbrev pub IsMergedWhere : Shape → ℕ → List Aggregate → RowKey → Row → List Entry → List Entry → Type 0
 IsMergedWhere shape count gs key more entries entries' =
     MatchBool (is_grouping shape (take count key)) (IsMergedAt gs key more entries entries') (entries' ≡ entries)
@@ -59,7 +59,7 @@ abbrev pub first_hidden : Shape → ℕ → ℕ
 first_hidden Plain count = count
 first_hidden _ count = 0
 
--- the first row that a pass makes a coarser one of, where there were `row_count` before the pass
+-- the first row that a pass makes a coarser one of, if there were `row_count` before the pass
 -- before it: the rows of a rollup are made each of those that were made last
 abbrev pub first_finer : Shape → ℕ → ℕ
 first_finer Rollup row_count = row_count

@@ -57,6 +57,6 @@ abbrev pub cell_of_one_put : Aggregate → ℤ → ℤ
 cell_of_one_put Count v = pos 1
 cell_of_one_put g v = v
 
--- the row of one put alone
+-- the row of a single put
 abbrev pub IsRowOfOnePut : List Aggregate → List ℤ → Row → Type 0
 IsRowOfOnePut gs vs row = (place : ℕ) → place < length gs → slice_index_or row place None ≡ Some (cell_of_one_put (slice_index_or gs place Count) (slice_index_or vs place (pos 0)))

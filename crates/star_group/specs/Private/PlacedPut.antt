@@ -10,7 +10,7 @@ abbrev pub AreAtPlaces : List Span → PutBatch → List ℕ → Type 0
 AreAtPlaces spans b at = (row : ℕ) → row < b.rows
     → cell_place spans (put_in b row).keys ≡ Some (slice_index_or at row 0)
 
--- whichever puts the cells and the rows beside them were those of, these are their rows, each key once
+-- whichever puts the cells and the other rows were those of, these are their rows, each key once
 abbrev pub IsListed : List Aggregate → List Span → List Bool → List ℤ
     → List Entry → List Entry → Type 0
 IsListed gs spans seen cells es fs =

@@ -1,11 +1,11 @@
--- What stands at places after one number more for each of some rows.
+-- The cells at places after one number more for each of some rows.
 use Rattle.std.specs.Prelude.{◌≡◌, ℕ, zero, suc, ◌<◌, false, true, ℤ, pos, List, [], ◌∷◌, Some, length, slice_index_or, slice_set, take, drop}
 use Rattle.star_interval.specs.Range.{is_i64}
 use Rattle.star_schema.specs.{declared.group.Aggregate.Aggregate, declared.group.Aggregate.TheVariants.Count}
 use Rattle.star_program.specs.{Puts.leaves, Rows.cut}
 use Rattle.star_group.specs.{declared.batch.PutBatch.PutBatch, Batches.put_in, Cells.step, Stores.put_number}
 
--- the items after the first rows, where each row changes the item at its place
+-- the items after the first rows, if each row changes the item at its place
 unfoldable pub after_rows : {A : Type 0} → A → (ℕ → A → A) → List ℕ → List A → ℕ → List A
 after_rows none change at items zero = items
 after_rows none change at items (suc row) =

@@ -41,11 +41,11 @@ digit_at width key depth =
 abbrev pub key_at : List (List KeyPart) → ℕ → List KeyPart
 key_at ks n = slice_index_or ks n []
 
--- the node below this one by a digit, 0 where there is none; node 0 is above all, and row n is node n + 1
+-- the node below this one by a digit, 0 if there is none; node 0 is above all, and row n is node n + 1
 abbrev pub child : List (List ℕ) → ℕ → ℕ → ℕ
 child links node digit = slice_index_or (slice_index_or links node []) digit 0
 
--- where the key's digits lead to from node 0
+-- the node that the key's digits lead to from node 0
 unfoldable pub node_at : ℕ → List (List ℕ) → List KeyPart → ℕ → ℕ
 node_at width links key zero = 0
 node_at width links key (suc depth) = child links (node_at width links key depth) (digit_at width key depth)

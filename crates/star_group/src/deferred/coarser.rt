@@ -15,7 +15,7 @@ use crate::keyed::{KeyedRows, ListedRows};
 use star_schema::{Aggregate, Shape};
 use std::alloc::{AllocError, Global};
 
-// A row merged into that of its coarser key, where that is a grouping.
+// A row merged into that of its coarser key, if that is a grouping.
 fn merge_coarser(
     rows: &mut KeyedRows,
     shape: Shape,
@@ -39,7 +39,7 @@ fn merge_coarser(
     rows.merge(key, aggregates, more)
 }
 
-// The coarser rows of a pass: for each row from this one on that with ALL at this place, where that is
+// The coarser rows of a pass: for each row from this one on that with ALL at this place, if that is
 // a grouping, made of all rows that differ only there. The rows before have none.
 fn coarser_rows(
     alloc: Global,
@@ -90,7 +90,7 @@ fn first_hidden(shape: Shape, key_count: usize) -> usize
     }
 }
 
-// The first row that a pass makes a coarser one of, where there were `row_count` rows before the
+// The first row that a pass makes a coarser one of, if there were `row_count` rows before the
 // pass before it. The coarser rows of a rollup are a chain: each is made of those that were made
 // last.
 fn first_finer(shape: Shape, row_count: usize) -> usize

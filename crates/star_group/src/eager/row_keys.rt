@@ -10,7 +10,7 @@ use crate::keyed::key::{OrderedKey, base_key, is_grouping, with_all_at};
 use star_schema::Shape;
 use std::alloc::AllocError;
 
-// One key more, where a row has it.
+// One key more, if a row has it.
 fn push_row_key(
     row_keys: &mut Vec<OrderedKey>,
     shape: Shape,
@@ -28,7 +28,7 @@ fn push_row_key(
     Ok(())
 }
 
-// Each key once more, with ALL at this place, where a row has that.
+// Each key once more, with ALL at this place, if a row has that.
 fn double(
     row_keys: &mut Vec<OrderedKey>,
     shape: Shape,

@@ -10,7 +10,7 @@ use crate::cell::Held;
 use star_program::row_of;
 use std::alloc::AllocError;
 
-// The key at a place, where there is one.
+// The key at a place, if there is one.
 fn part_in(parts: &[KeyPart], place: usize) -> Option<KeyValue>
     ensures { result ≡ slice_index_or (key_view parts.now) place None }
 {
@@ -20,7 +20,7 @@ fn part_in(parts: &[KeyPart], place: usize) -> Option<KeyValue>
     }
 }
 
-// The aggregate at a place, where there is one.
+// The aggregate at a place, if there is one.
 fn held_in(row: &[Held], place: usize) -> Option<i128>
     ensures { result ≡ slice_index_or row.now place None }
 {
@@ -71,7 +71,7 @@ impl ListedRows {
         )
     }
 
-    // The aggregate at a place of the row of a number, where there is one.
+    // The aggregate at a place of the row of a number, if there is one.
     pub(crate) fn cell(&self, number: usize, place: usize) -> Option<i128>
         ensures { result ≡ slice_index_or
             (slice_index_or (listed_entries self.now) number ([], [])).1 place None }

@@ -82,7 +82,7 @@ fn stays(aggregate: Aggregate, held: i128, more: i128) -> bool
     }
 }
 
-// The number at a place of a row, and 0 where there is none.
+// The number at a place of a row, and 0 if there is none.
 fn number_in(held: Option<&[Held]>, place: usize) -> i128
     requires { MatchOption held (Unit {0}) (λ row. place < length row.now) }
     ensures { unwrap_or (slice_index_or (unwrap_or (option_copied held.entry) []) place None)
@@ -135,7 +135,7 @@ fn cell_of(aggregate: Aggregate, value: i64) -> i128
     }
 }
 
-// The row of one put alone.
+// The row of a single put.
 pub(crate) fn row_of_put(aggregates: &[Aggregate], values: &[i64]) -> Row
     requires values { length values.now ≡ length aggregates.now }
     requires few { length aggregates.now ≤ 8 }

@@ -63,7 +63,7 @@ impl KeyedRows {
         self.listed.reserve(additional)
     }
 
-    // One more row, for a key that no row has, below the node where the key's digits end.
+    // One more row, for a key that no row has, below the node at which the key's digits end.
     fn push(
         &mut self,
         node: usize,

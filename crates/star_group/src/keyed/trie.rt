@@ -10,7 +10,7 @@ use super::KeyedRows;
 use super::key::KeyPart;
 use star_program::row_of;
 
-// What tells a value's bits apart from those of another kind.
+// Distinguishes a value's bits from those of another kind.
 fn kind_of(part: KeyPart) -> usize
     ensures { result ≡ spec.key_kind part }
 {
@@ -71,7 +71,7 @@ fn word_of(key: &[KeyPart]) -> u64
     word
 }
 
-// Which two bits of a word are the digit at a depth: the lowest tell the keys of few rows apart;
+// Which two bits of a word are the digit at a depth: the lowest distinguish the keys of few rows;
 // then the higher ones come first, so that what keys pass that come in order lies close by.
 fn turn_at(depth: usize) -> usize
     ensures turn { result ≡ spec.turn_at depth }
@@ -87,7 +87,7 @@ fn turn_at(depth: usize) -> usize
 }
 
 // The digit of a key at a depth: first those of its word, then those of its parts in turn, which
-// tell all keys apart.
+// distinguish all keys.
 fn digit_at(word: u64, key: &[KeyPart], depth: usize) -> usize
     requires word { word ≡ word_from 0 key.now }
     requires some { 0 < length key.now }
@@ -102,7 +102,7 @@ fn digit_at(word: u64, key: &[KeyPart], depth: usize) -> usize
     }
 }
 
-// Where a key's digits lead.
+// The node that a key's digits lead to.
 #[derive(Clone, Copy)]
 pub(super) enum Place {
     Held(usize),
@@ -128,7 +128,7 @@ fn has_key(keys: &[KeyPart], width: usize, count: usize, number: usize, key: &[K
 }
 
 impl KeyedRows {
-    // Where this key's row is, or would be.
+    // The place of this key's row, or of a new one.
     pub(super) fn find(&self, key: &[KeyPart]) -> Place
         requires { length key.now ≡ self.now.listed.width }
         ensures { IsKeyFound self.now.listed.width (keys_in self.now) self.now.links.items key.now

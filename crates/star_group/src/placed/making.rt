@@ -45,7 +45,7 @@ fn span_between(is_code: bool, low: i64, last: u32) -> Span
     }
 }
 
-// The range of a key, where one is expected of at most `most` values; else that of the one value 0.
+// The range of a key, if one is expected of at most `most` values; else that of the one value 0.
 fn span_of(key: GroupKey, range: Option<&Interval>, most: u32) -> Span
     requires { 0 < most }
     ensures kind { IsOf result key }

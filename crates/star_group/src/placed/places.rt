@@ -11,7 +11,7 @@ use crate::batch::PutBatch;
 use star_program::GroupKey;
 
 impl Span {
-    // Where a word lies in the range.
+    // The offset of a word in the range.
     pub(crate) fn offset(self, word: i64) -> Option<u32>
         ensures { result ≡ place_up_to self.last (word -ℤ self.low) }
     {
@@ -23,7 +23,7 @@ impl Span {
         }
     }
 
-    // Where a key lies in it.
+    // The offset of a key in it.
     fn offset_of(self, key: KeyValue) -> Option<u32>
         ensures { result ≡ spec.offset_of self key }
     {

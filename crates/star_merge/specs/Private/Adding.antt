@@ -30,7 +30,7 @@ abbrev pub alone : {K : Type 0} → List Aggregate → GroupRow K → GroupRow K
 alone {K} gs row =
     record { keys = row.keys; totals = merged_totals gs row.totals (totals_of {K = K} gs []) }
 
--- a row before others: where the first has the same keys, it is merged into that
+-- a row before others: if the first has the same keys, it is merged into that
 abbrev pub onto : {K : Type 0} → (K → K → Ordering) → List Aggregate → GroupRow K → List (GroupRow K)
     → List (GroupRow K)
 onto cmp gs row [] = alone gs row ∷ []
@@ -75,7 +75,7 @@ empty_total {K} s count gs =
 abbrev pub addends : {K : Type 0} → Shape → ℕ → List Aggregate → List (GroupRow K) → List (GroupRow K)
 addends s count gs groups = empty_total s count gs ++ all_added s groups
 
--- groups that some told groups came to so far
+-- the groups so far, of some given groups
 pub record HasMerged (s : Shape) (keys : ℕ) (gs : List Aggregate) (told : List (GroupRow Value))
     (merging : Merging) : Type 0 where
   pub by_shape : merging.shape ≡ s

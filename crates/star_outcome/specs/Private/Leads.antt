@@ -48,7 +48,7 @@ abbrev pub column_lead : GroupColumn → Row KeyValue → ℤ
 column_lead (column.Key place) row = key_lead (slice_index_or row.keys place None)
 column_lead (column.Aggregate place) row = total_lead (slice_index_or row.totals place None)
 
--- descending, what was greater is less
+-- descending, the greater value is less
 abbrev pub directed : Direction → ℤ → ℤ
 directed Ascending lead = lead
 directed Descending lead = negsuc 0 -ℤ lead

@@ -6,9 +6,10 @@ use std::alloc::{AllocError, Global};
 // How many rows are read ahead.
 const AHEAD: usize = 16;
 
-// Rows in their order are far from each other in memory, which answers several reads in the time of
-// one where nothing waits between them. So the first parts of some rows are read together before
-// the cells of these are made; they are kept, since a read of what is not kept would be left out.
+// Rows in their order are far from each other in memory, which serves several reads in the time of
+// one if nothing waits between them. Therefore the first parts of some rows are read together
+// before the cells of these are made; they are kept, since a compiler omits a read whose value is
+// unused.
 #[derive(Drop)]
 pub(super) struct Ahead<'a> {
     rest: &'a [usize],
@@ -39,7 +40,7 @@ impl Ahead<'_> {
         Ok(())
     }
 
-    // Goes on to the next row: where none is left of those that were read, reads some more.
+    // Goes on to the next row: if all that were read are done, reads some more.
     pub(super) fn turn(&mut self, rows: &GroupRows) -> Result<(), AllocError> {
         if self.left == 0 {
             let (next, rest) = self.rest.split_at(self.rest.len().min(AHEAD));

@@ -17,7 +17,7 @@ use star_program::{Cell, CellRows, CellText, GroupDecl, GroupKey, Items, KeptCel
 use star_schema::{ColumnId, GroupColumn};
 use std::alloc::{AllocError, Global};
 
-// The text that a code stands for.
+// The text of a code.
 fn text_cell(
     alloc: Global,
     catalogue: &Catalogue,

@@ -1,4 +1,4 @@
-// Rows by their numbers, each with what it has in the two columns by which it is compared first, so
+// Rows by their numbers, each with its values in the two columns by which it is compared first, so
 // that most comparisons of a sort read no row.
 
 ghost use Rattle.std.specs.{Prelude.◌≡◌, Prelude.IfOk, Prelude.length, Prelude.map, List.range_with_len};
@@ -25,8 +25,8 @@ const CODE_END: i64 = 4_611_686_022_722_355_201;
 
 const ALL: i64 = i64::MAX;
 
-// The number of a row, and its leads: in the column that is compared first, and in the next.
-// The number takes four bytes, as in the links of a store: a group of 2^32 rows or more is told as
+// The number of a row, and its leads: in the column that is compared first, and in the next. The
+// number takes four bytes, as in the links of a store: a group of 2^32 rows or more is reported as
 // refused memory.
 #[derive(Clone, Copy)]
 pub(super) struct Led {
@@ -95,7 +95,7 @@ fn is_end(lead: i64) -> bool
     !(LEAST < lead) || lead == GREATEST || lead == CODE_END
 }
 
-// Descending, what was greater is less.
+// Descending, the greater value is less.
 fn directed(direction: Direction, lead: i64) -> i64
     ensures { result ≡ spec.directed direction lead }
 {

@@ -1,4 +1,4 @@
--- What the calls of this crate answer.
+-- The results of this crate's calls.
 use Rattle.std.specs.Prelude.{◌≡◌, ◌+◌, ◌<◌, ℕ, List, [], get_or, length, map, Option, None, Some, Result, Ok, Err, IfOk, Vec}
 use Rattle.std.specs.{Global.Global}
 use Rattle.star_common.specs.Memory.{UnlessMemory}
@@ -7,12 +7,12 @@ use Rattle.star_plan.specs.{declared.fault.PlanFault.PlanFault, declared.fault.P
 use Rattle.star_query.specs.{declared.tree.Comparison.Comparison, Tree.Item, Tree.aggregate, Tree.plain}
 use Rattle.star_query.specs.declared.tree.Condition as of_query
 
--- the answer tells the fault that there is, or want of memory
+-- the error is the fault that there is, or out of memory
 abbrev pub Tells : {X : Type 0} → Option PlanFault → Result X PlanFault → Type 0
 Tells fault (Ok x) = fault ≡ None
 Tells fault (Err e) = UnlessMemory OutOfMemory e (fault ≡ Some e)
 
--- what is answered, as it is shown, is what is there
+-- the result, as it is shown, is the expected one
 abbrev pub Resolves : {X A F : Type 0} → (X → A) → Option A → Result X F → Type 0
 Resolves shown there result = IfOk result (λ x. Some (shown x) ≡ there)
 

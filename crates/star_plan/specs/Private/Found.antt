@@ -1,4 +1,4 @@
--- What the planner found of a query's columns, as the definitions see it.
+-- The columns that the planner found, as the definitions see them.
 use Rattle.std.specs.Prelude.{List, map}
 use Rattle.star_plan.specs.declared.joins.Pair as of_joins
 use Rattle.star_plan.specs.declared.uses.Use as of_uses

@@ -34,7 +34,7 @@ groups_uses names = map any_use names
 
 -- ---- items and aggregates
 
--- what an item shows, where `before` aggregates come before it
+-- the cell of an item, after `before` aggregates
 abbrev pub item_column : List Name → ℕ → Item → Option GroupColumn
 item_column groups before (plain n) = key_column groups n.text
 item_column groups before (aggregate a) = Some (group.Aggregate before)

@@ -1,4 +1,4 @@
--- What the parser's functions on the clauses of a query do, by the machine.
+-- The parser's functions on the clauses of a query, by the machine.
 use Rattle.std.specs.Prelude.{◌≡◌, ℕ, Bool, List, [], ◌∷◌, map, Option, Some, None, option_map, Result, Ok, Err}
 use Rattle.std.specs.declared.{alloc.Global.Global, vec.Vec.Vec}
 use Rattle.star_query.specs.declared.{token.Fold.Fold, counts.Part.Part, fault.Fault.TheVariants.TooMany, fault.ParseError.ParseError, clauses.Function.Function, tree.Name.Name, tree.Test.Test, tree.Condition.Condition, tree.Measure.Measure, tree.Aggregate.Aggregate, tree.Item.Item, tree.Grouping.Grouping, tree.SortKey.SortKey, tree.Tree.Tree}
@@ -105,7 +105,7 @@ abbrev pub ReadsColumns : Spot → Spot → Result (Vec Name Global) ParseError 
 ReadsColumns =
     ReadsPhrase {P = Several tree.Name} {H = Filtered × Option Hiding} (λ v. map name_view v.items) names Anywhere (λ h. column_wanted h.0 h.1 None) (λ is h. columns_had h.0 h.1 is)
 
--- ( names ), behind the word of this shape
+-- ( names ), after the word of this shape
 abbrev pub ReadsHidden : Shape → Spot → Spot → Result Grouping ParseError → Type 0
 ReadsHidden shape =
     ReadsPhrase {P = Several tree.Name} {H = Filtered × Hiding} grouping_view (λ is. record { shape = shape; columns = names is }) Anywhere (λ h. hiding_had h.0 h.1) (λ is h. grouped_had (grouped_by h.0 (hiding h.1 is)))

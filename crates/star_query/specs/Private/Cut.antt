@@ -47,7 +47,7 @@ abbrev pub word_piece : ℕ → List ℕ → Piece
 word_piece place bytes =
     let width = prefix_len is_word_byte bytes in token (word_of place (take width bytes)) width
 
--- the longest run of digits: not too many, and no letter behind it
+-- the longest run of digits: not too many, and no letter after it
 abbrev pub number_piece : ℕ → List ℕ → Piece
 number_piece place bytes =
     let width = prefix_len is_ascii_digit bytes in
@@ -55,7 +55,7 @@ number_piece place bytes =
 
 -- ---- texts
 
--- how a text ends: by its closing quote, behind this many bytes; at a byte that may not stand in it; or not at all
+-- how a text ends: by its closing quote, after this many bytes; at a byte that it may not contain; or not at all
 pub data Ending : Type 0 where
   closed : ℕ → Ending
   stopped : ℕ → Ending
@@ -71,7 +71,7 @@ abbrev pub text_goes_on : (a_quote : Bool) → ℕ → Option Bool
 text_goes_on true b = if b == 39 then Some false else None
 text_goes_on false b = if b == 39 then Some true else if is_printable b then Some false else None
 
--- the end of a text, behind a quote that closes it unless another one follows, or behind any other byte
+-- the end of a text, after a quote that closes it unless another one follows, or after any other byte
 abbrev pub ending_after : (a_quote : Bool) → List ℕ → Ending
 ending_after q [] = if q then closed 0 else open_ended
 ending_after q (b ∷ bs) = behind (text_goes_on q b) (λ p. ending_after p bs)
@@ -80,7 +80,7 @@ ending_after q (b ∷ bs) = behind (text_goes_on q b) (λ p. ending_after p bs)
     behind None rest = if q then closed 0 else stopped 0
     behind (Some p) rest = farther (rest p)
 
--- of two quotes in a row the second is left out
+-- of two quotes in a row the second is dropped
 abbrev pub unquoted_after : (a_quote : Bool) → List ℕ → List ℕ
 unquoted_after q [] = []
 unquoted_after true (b ∷ bs) = unquoted_after false bs
@@ -90,7 +90,7 @@ unquoted_after false (b ∷ bs) = b ∷ unquoted_after (b == 39) bs
 abbrev pub undoubled : List ℕ → List ℕ
 undoubled inside = unquoted_after false inside
 
--- a text, from behind its opening quote
+-- a text, from after its opening quote
 abbrev pub text_piece : ℕ → List ℕ → Piece
 text_piece place bytes = ended (ending_after false bytes)
   where
@@ -150,12 +150,12 @@ piece_at place b bs =
     then text_piece place bs
     else sign_piece place b (slice_get bs 0)
 
--- one more in front of what was cut
+-- one more in front of the pieces so far
 abbrev pub put_in_front : {A : Type 0} → A → Result (List A) QueryFault → Result (List A) QueryFault
 put_in_front x (Ok xs) = Ok (x ∷ xs)
 put_in_front x (Err e) = Err e
 
--- a piece, and what is cut behind its first byte and as many more
+-- a piece, and the cut after its first byte and as many more
 abbrev pub before_rest : ℕ → Piece → (ℕ → Result (List Placed) QueryFault) → Result (List Placed) QueryFault
 before_rest place blank rest = rest 0
 before_rest place (token x width) rest = put_in_front (record { symbol = x; place = place }) (rest (width - 1))

@@ -1,4 +1,4 @@
--- What the tokens of the code are.
+-- The symbols of the code's tokens.
 use Rattle.std.specs.Prelude.{◌≡◌, ◌≤◌, ◌<◌, ℕ, ◌+◌, Bool, false, [], ◌∷◌, List, ◌++◌, Result, Ok, Err}
 use Rattle.std.specs.Char.{is_ascii_digit}
 use Rattle.star_query.specs.declared.{token.Kind.Kind, token.Token.Token, lexer.Ending.Ending, lexer.Piece.Piece, fault.QueryFault.QueryFault, fault.QueryFault.TheVariants.OutOfMemory, fault.QueryFault.TheVariants.BadCharacter, fault.QueryFault.TheVariants.BadNumber, fault.QueryFault.TheVariants.OpenText}
@@ -48,7 +48,7 @@ piece_of place pieces.Blank = spec.blank
 piece_of place (pieces.Token kind width) = spec.token (symbol_of kind place) width
 piece_of place (pieces.Bad e) = spec.bad e
 
--- a fault of the cut, or want of memory
+-- a fault of the cut, or out of memory
 abbrev pub IsLexical : QueryFault → Type 0
 IsLexical OutOfMemory = Unit {0}
 IsLexical (BadCharacter place) = Unit {0}
@@ -62,23 +62,23 @@ IsPieceWithin size pieces.Blank = Unit {0}
 IsPieceWithin size (pieces.Token kind width) = (1 ≤ width) × (width ≤ size)
 IsPieceWithin size (pieces.Bad fault) = IsLexical fault
 
--- what was found at a place, within `size` bytes, is this piece of the cut
+-- the token found at a place, within `size` bytes, is this piece of the cut
 pub record IsPiece (place : ℕ) (piece : spec.Piece) (size : ℕ) (found : Piece) : Type 0 where
   pub same : piece_of place found ≡ piece
   pub within : IsPieceWithin size found
 
--- the first fault of the cut, or want of memory
+-- the first fault of the cut, or out of memory
 abbrev pub IsCutFault : List ℕ → QueryFault → Type 0
 IsCutFault bytes OutOfMemory = Unit {0}
 IsCutFault bytes fault = spec.cut_of bytes ≡ Err fault
 
--- an ending behind n more bytes
+-- an ending after n more bytes
 abbrev pub ended_at : ℕ → spec.Ending → spec.Ending
 ended_at n (spec.closed m) = spec.closed (n + m)
 ended_at n (spec.stopped m) = spec.stopped (n + m)
 ended_at n spec.open_ended = spec.open_ended
 
--- behind these tokens
+-- after these tokens
 abbrev pub with_tokens : List Placed → Result (List Placed) QueryFault → Result (List Placed) QueryFault
 with_tokens so_far (Ok tokens) = Ok (so_far ++ tokens)
 with_tokens so_far (Err fault) = Err fault

@@ -32,7 +32,7 @@ more_listed : {A B C : Type 0} (f : A → B) (g : C → B) (xs : Several A) (x :
 more_listed f g xs x y so_far v e before same =
     ap (λ l. l ++ f x ∷ []) before ∙ ap (λ z. map g so_far ++ z ∷ []) same ∙ sym (map-append g so_far (y ∷ [])) ∙ ap (map g) (sym e)
 
--- so it is where a phrase that is read there goes to the end of the list so far, and a comma from there to the next
+-- likewise if a phrase that is read there goes to the end of the list so far, and a comma from there to the next
 module _ {A T P H G : Type 0} (view : A → T) (tree : P → T) (at : G → Option (Several P) → H)
     (wanted : H → ParserState) (given : P → H → ParserState) (had : Several P → G → ParserState) where
   listing : ((g : G) (b : Option (Several P)) (p : P) → given p (at g b) ≡ had (extended b p) g)

@@ -9,12 +9,12 @@ use Rattle.star_query.specs.Symbols.{Symbol, keyword, fold, count, relation, sig
 use Rattle.star_query.specs.{Tree.Name, Grammar.Mark, Maxima.limit, Maxima.most_name_bytes, Maxima.most_nestings}
 use Rattle.star_query.specs.Private.Phrases.{Several, one, more, Expr, lone_term, plus_or_minus, Term, lone_factor, times, Factor, column, constant, negative, parens, Lit, unsigned_literal, negative_literal, string_literal, Cond, lone_conj, or_conj, Conj, lone_unit, and_unit, Unary, not_unit, group, pair, compare, between, Agg, folded, counted, Item, plain, aggregate, Key, unmarked, ascending, descending, Groups, ungrouped, grouped, Hiding, cube, rollup, hiding, Query, at, first, function}
 
--- one more behind these, if there are any
+-- one more after these, if there are any
 abbrev pub extended : {A : Type 0} → Option (Several A) → A → Several A
 extended None x = one x
 extended (Some xs) x = more xs x
 
--- what stands to the left of a phrase that is to come
+-- the part to the left of a phrase that is to come
 mutual
   pub data ExprHole : Type 0 where
     in_fold : Option (Several Item) → Fold → (place : ℕ) → ExprHole
@@ -100,7 +100,7 @@ lit_depth (compared h i q) = unit_depth h
 lit_depth (low h i) = unit_depth h
 lit_depth (high h i l) = unit_depth h
 
--- what was read last, or is to be read next
+-- the phrase that was read last, or is to be read next
 pub data ParserState : Type 0 where
   begin : ParserState
   item_wanted : Option (Several Item) → ParserState
@@ -198,7 +198,7 @@ abbrev pub on_filtered : Filtered → Symbol → Option Step
 on_filtered f (keyword k.Group) = to (group_had f) (at 0 (keyword k.Group))
 on_filtered f x = on_grouped (grouped_by f ungrouped) x
 
--- an equals sign may stand before a name too
+-- an equals sign may precede a name too
 abbrev pub behind_relation : UnitHole → Name → Relation → ParserState
 behind_relation h i r.Equal = equal_had h i
 behind_relation h i q = lit_wanted (compared h i q)
@@ -303,7 +303,7 @@ next_step (keys_had g ks) x = on_keys g ks x
 next_step (done g ks) x = on_done g ks x
 next_step (ended g ks) x = None
 
--- the query that was read, where one may end
+-- the query that was read, if one may end here
 abbrev pub cond_end : Cond → CondHole → Option Query
 cond_end a (in_where is ts) = Some (query_of (grouped_by (filtered_by is ts (Some a)) ungrouped) None false)
 cond_end a (in_group h) = None

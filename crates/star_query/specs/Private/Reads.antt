@@ -1,4 +1,4 @@
--- What the parser's functions do, by the machine.
+-- The parser's functions, by the machine.
 use Rattle.std.specs.Prelude.{◌≡◌, ℕ, ◌<◌, ◌≤◌, Bool, true, false, ◌||◌, List, [], ◌∷◌, map, Option, Some, None, Result, Ok, Err}
 use Rattle.star_query.specs.declared.{token.Token.Token, token.Kind.Kind, token.Digits.Digits, token.Additive.Additive, counts.Part.Part, counts.Counts.Counts, fault.Fault.TheVariants.Unexpected, fault.Fault.TheVariants.TooDeep, fault.Fault.TheVariants.TooMany, fault.ParseError.ParseError, parser.Parser.Parser, tree.Name.Name, tree.Expression.Expression, tree.Literal.Literal, tree.Test.Test, tree.Condition.Condition}
 use Rattle.star_query.specs.declared.token.Keyword.TheVariants as k
@@ -10,7 +10,7 @@ use Rattle.star_query.specs.{Private.Lexed.symbol_of, Maxima.limit, Maxima.most_
 use Rattle.star_query.specs.Private.Phrases.{ident, factor_tree, term_tree, expr_tree, lit_tree, unit_tree, conj_tree, cond_tree}
 use Rattle.star_query.specs.Private.Machine.{UnitHole, factor_depth, term_depth, expr_depth, lit_depth, unit_depth, conj_depth, cond_depth, first_factor, first_term, first_unit, first_conj, ParserState, factor_wanted, give_factor, term_had, expr_had, lit_wanted, give_lit, unit_wanted, give_unit, conj_had, cond_had, Verdict, Bad, count_of_part, bump, plus, is_over, is_long, run}
 
--- where the parser is: what is left, and how much was counted
+-- the parser's position: the remaining tokens, and how much was counted
 pub record Spot : Type 0 where
   pub left : List Symbol
   pub counts : Counts
@@ -114,7 +114,7 @@ Nests x ps d old new (Err (errors.Fault Unexpected)) = ⊥
 Nests x ps d old new (Err (errors.Fault TooDeep)) = (most_nestings ≤ d) × (head_of old.left ≡ Some x) × (new ≡ old)
 Nests x ps d old new (Err (errors.Fault TooMany)) = (d < most_nestings) × (head_of old.left ≡ Some x) × IsBeyond ps old.counts old.left × (new ≡ old)
 
--- a phrase is read wherever one may stand, or the machine ends with the fault
+-- a phrase is read wherever one may be, or the machine ends with the fault
 abbrev pub ReadsPhrase : {A T P H : Type 0} → (A → T) → (P → T) → (H → Type 0) → (H → ParserState) → (P → H → ParserState) → Spot → Spot → Result A ParseError → Type 0
 ReadsPhrase {A} {T} {P} {H} view tree IsHole wanted given old new (Ok x) =
     (p : P) × (tree p ≡ view x) × ((h : H) → IsHole h → verdict old (wanted h) ≡ verdict new (given p h))
@@ -145,7 +145,7 @@ ReadsLit = ReadsPhrase literal_view lit_tree (λ h. lit_depth h ≤ most_nesting
 abbrev pub ReadsUnit : ℕ → Spot → Spot → Result (Condition Test) ParseError → Type 0
 ReadsUnit d = ReadsPhrase condition_view unit_tree (λ h. unit_depth h ≡ d) unit_wanted give_unit
 
--- a comparison from behind its column, from behind BETWEEN, and from behind its relation
+-- a comparison from after its column, from after BETWEEN, and from after its relation
 abbrev pub ReadsNamed : (UnitHole → ParserState) → Spot → Spot → Result (Condition Test) ParseError → Type 0
 ReadsNamed wanted = ReadsPhrase condition_view unit_tree (λ h. unit_depth h ≤ most_nestings) wanted give_unit
 

@@ -6,13 +6,13 @@ use Rattle.star_query.specs.{Views.tree_view, Symbols.Placed, Symbols.symbols, D
 use Rattle.star_query.specs.declared.fault.ParseError.TheVariants as errors
 use Rattle.star_query.specs.declared.fault.QueryFault.TheVariants as faults
 
--- the tokens have this first fault, before these that are left
+-- the tokens have this first fault, before these remaining ones
 pub record TokensStopAt (tokens : List Placed) (fault : Fault) (left : List Placed) : Type 0 where
   pub front : List Placed
   pub cut : tokens ≡ front ++ left
   pub first : FirstQueryFault (symbols tokens) fault (symbols left)
 
--- the fault of tokens whose text has this length; want of memory may come before it
+-- the fault of tokens whose text has this length; out of memory may come before it
 abbrev pub IsTokenFault : List Placed → ℕ → QueryFault → Type 0
 IsTokenFault tokens end faults.OutOfMemory = Unit {0}
 IsTokenFault tokens end (faults.Unexpected place) = (left : List Placed) × TokensStopAt tokens Unexpected left × (place ≡ first_place left end)
@@ -20,7 +20,7 @@ IsTokenFault tokens end faults.TooDeep = (left : List Placed) × TokensStopAt to
 IsTokenFault tokens end faults.TooMany = (left : List Placed) × TokensStopAt tokens TooMany left
 IsTokenFault tokens end _ = ⊥
 
--- a fault, with its place where it has one
+-- a fault, with its place if it has one
 abbrev pub refusal_of : Fault → ℕ → QueryFault
 refusal_of Unexpected place = faults.Unexpected place
 refusal_of TooDeep place = faults.TooDeep

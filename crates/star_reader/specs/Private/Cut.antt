@@ -1,4 +1,4 @@
--- Where a piece of a text is cut: at its first line end and behind its last.
+-- The cut of a piece of a text: at its first line end and after its last.
 use Rattle.std.specs.Prelude.{◌≡◌, ◌++◌, ◌∷◌, ◌<◌, ◌≤◌, ◌-◌, true, ℕ, List, [], drop, length, take}
 use Rattle.std.specs.List.{list_all}
 use Rattle.star_schema.specs.Records.{ends_line}
@@ -18,7 +18,7 @@ pub record EndsInLineEnd (text : List ℕ) : Type 0 where
   pub ends : ends_line byte ≡ true
   pub is : text ≡ front ++ byte ∷ []
 
--- the lines of a piece: from its first line end to behind its last
+-- the lines of a piece: from its first line end to after its last
 pub record AreLinesOf (piece : List ℕ) (first behind : ℕ) : Type 0 where
   pub order : first < behind
   pub within : behind ≤ length piece

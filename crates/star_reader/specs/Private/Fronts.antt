@@ -7,7 +7,7 @@ use Rattle.star_schema.specs.Records.{fields_of, is_bar}
 abbrev pub is_plain : ℕ → Bool
 is_plain b = not (is_bar b)
 
--- a byte that ends a cell, or may not stand in one
+-- a byte that ends a cell, or may not be in one
 abbrev pub is_stop : ℕ → Bool
 is_stop b = is_bar b || not (is_printable b)
 
@@ -17,6 +17,6 @@ pub record IsFront (text : List ℕ) (count : ℕ) : Type 0 where
   pub plain : list_all is_plain (take count text) ≡ true
   pub end : (count ≡ length text) ⊎ ((count < length text) × (get_or text count 0 ≡ 124))
 
--- the fields of a line from a place on: none where the place lies behind its end
+-- the fields of a line from a place on: none if the place is after its end
 abbrev pub left_of : List ℕ → ℕ → List (List ℕ)
 left_of line at = if nat_le at (length line) then fields_of (drop at line) else []

@@ -26,7 +26,7 @@ pub record HasLeft (reader : Reader (Bor (List ℕ))) (lines : List (List ℕ)) 
   pub ready : Ready reader
   pub between : IsBetween reader lines
 
--- the fields of a read that have a byte are the first records, and the others are left
+-- the fields of a read that have a byte are the first records, and the others remain
 pub record TakesSome (lines fields : List (List ℕ)) (reader : Reader (Bor (List ℕ)))
     : Type 0 where
   pub others : List (List ℕ)

@@ -1,4 +1,4 @@
--- What is true of every reader of a table in pieces.
+-- Properties of every reader of a table in pieces.
 use Rattle.std.specs.Prelude.{◌≤◌, ℕ, List, MatchOption, length}
 use Rattle.star_reader.specs.{declared.table_reader.TableReader.TheInside.Inside, Partway.IsPartway, Partway.Reading}
 

@@ -1,4 +1,4 @@
--- The leading filters of a body: the keeps among its first instructions, as long as these only write registers. A turn ends early where the flag of one of them is false.
+-- The leading filters of a body: the keeps among its first instructions, as long as these only write registers. A turn ends early if the flag of one of them is false.
 use Rattle.std.specs.Prelude.{ℕ, zero, suc, ◌+◌, Bool, true, false, ◌&&◌, Option, Some, None, if◌then◌else◌}
 use Rattle.star_program.specs.{declared.op.Op.Op, declared.op.Op.TheVariants.Assign, declared.op.Op.TheVariants.Keep, declared.op.Operation.Operation, declared.op.Operation.TheVariants.Find, declared.op.Operation.TheVariants.Read, declared.program.Parts.Parts, Code.Code, Code.Then}
 use Rattle.star_program.specs.{Effects.State, Effects.empty_state, Effects.next_registers, Values.Registers, Values.flag_read, World.World}
@@ -10,12 +10,12 @@ abbrev pub looks : Operation → ℕ
 looks (Find table k) = 1
 looks _ = 0
 
--- whether what an operation makes hangs on the registers and the tables alone, and on no group
+-- whether the result of an operation depends on the registers and the tables only, and on no group
 abbrev pub is_leading : Operation → Bool
 is_leading (Read g a n) = false
 is_leading _ = true
 
--- how many look-ups a turn has, `looked` of them already behind it, where it ends at a keep among
+-- how many look-ups a turn has, `looked` of them already done, if it ends at a keep among
 -- its first n instructions, if it does
 abbrev pub early : World → Parts → ℕ → Code → ℕ → Registers → Option ℕ
 early w parts zero code looked regs = None
@@ -27,9 +27,9 @@ early w parts (suc n) (Then (Assign t o) rest) looked regs =
     else None
 early w parts (suc n) _ looked regs = None
 
--- ---- what is behind the first n instructions of some code
+-- ---- the code after the first n instructions
 
--- these only keep, or write registers by registers alone
+-- these only keep, or write registers by registers only
 abbrev pub are_leading : ℕ → Code → Bool
 are_leading zero code = true
 are_leading (suc n) (Then (Keep f) rest) = are_leading n rest
@@ -41,7 +41,7 @@ code_behind zero code = code
 code_behind (suc n) (Then op rest) = code_behind n rest
 code_behind (suc n) code = code
 
--- the registers there, where each keep lets the turn go on
+-- the registers there, if each keep lets the turn go on
 abbrev pub registers_behind : World → Parts → ℕ → Code → Registers → Registers
 registers_behind w parts zero code regs = regs
 registers_behind w parts (suc n) (Then op rest) regs =
@@ -58,7 +58,7 @@ looks_before zero code = 0
 looks_before (suc n) (Then op rest) = op_looks op + looks_before n rest
 looks_before (suc n) code = 0
 
--- ---- what is left in the store
+-- ---- the content of the store
 
 -- with some look-ups more
 abbrev pub looked_up : ℕ → State → State
@@ -69,7 +69,7 @@ abbrev pub shifted : ℕ → ℕ → State → State
 shifted visits lookups s =
     record s { visits = s.visits + visits; lookups = s.lookups + lookups }
 
--- ---- turns that end early, where it is known row by row
+-- ---- turns that end early, if it is known row by row
 
 -- how many look-ups there are in the turns, from a row on, that end early
 abbrev pub looks_early : Option ℕ → ℕ

@@ -1,4 +1,4 @@
--- The steps of a report that is kept and told.
+-- The steps of a report that is kept and printed.
 use Rattle.std.specs.Prelude.{◌≡◌, ◌⊎◌, ℕ, List, Bool, false, Result, Ok, Err}
 use Rattle.star_engine.specs.{declared.fault.EngineFault.EngineFault, Answered.Change, Answered.HasGained, Answered.HasGainedPart, Answered.IsUntouched, Noted.Telling}
 use Rattle.star_service.specs.{Reports.refused_line, Reports.told_line, Shelves.HasFailedAt, Shelves.HasKept, Shelves.HasKeptNone, Shelves.Shelving, declared.reports.Halt.Halt, declared.reports.Halt.TheVariants.OutOfMemory, declared.reports.Halt.TheVariants.Unkept}
@@ -10,7 +10,7 @@ IsLineWritten out line (Ok answer) = HasGained out line
 IsLineWritten out line (Err (Unwritten sent)) = HasGainedPart out line sent
 IsLineWritten out line (Err halt) = ⊥
 
--- a report was kept, and its line told
+-- a report was kept, and its line printed
 abbrev pub IsKeptAndTold : {K S : Type 0} → (name : List ℕ) → Telling → Shelving K → Change S
     → Result (Unit {0}) Halt → Type 0
 IsKeptAndTold name telling shelf out (Ok answer) =
@@ -22,7 +22,7 @@ IsKeptAndTold name telling shelf out (Err (Unkept named sent)) =
 IsKeptAndTold name telling shelf out (Err (Unwritten sent)) =
     HasKept shelf name telling.report × HasGainedPart out (told_line name telling) sent
 
--- the line of a fault was told
+-- the line of a fault was printed
 abbrev pub IsRefusalTold : {S : Type 0} → (name : List ℕ) → EngineFault → Change S
     → Result Bool Halt → Type 0
 IsRefusalTold name fault out (Ok answered) =

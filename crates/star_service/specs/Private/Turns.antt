@@ -12,7 +12,7 @@ pub record IsStatementAnswered {S E : Type 0} (loaded : Loaded) (is_terminal : B
   pub read : IsStatementRead old new kept is_ended statement
   pub round : IsRound loaded is_terminal statement out err goes_on
 
--- nothing but the prompt was told
+-- nothing but the prompt was printed
 abbrev pub IsPrompted : {S E : Type 0} → (is_terminal : Bool) → Change S → Change E → Type 0
 IsPrompted is_terminal out err = IsUntouched out × IsTextTold err (prompt_of is_terminal)
 

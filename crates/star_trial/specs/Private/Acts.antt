@@ -37,19 +37,19 @@ abbrev pub IsActStopped : Effect → Stop → Type 0
 IsActStopped effect stop.OutOfMemory = Unit {0}
 IsActStopped effect (stop.Trap kind) = effect ≡ Traps kind
 
--- what was made of an operation with this effect
+-- the result of an operation with this effect
 abbrev pub IsValueMade : Database → Parts → Registers → Run → ℕ → Effect → Result Value Stop → Type 0
 IsValueMade database parts registers run target effect result =
     MatchResult result (Sets database parts registers run target effect) (IsActStopped effect)
 
--- what was done of an instruction with this effect
+-- the result of an instruction with this effect
 abbrev pub IsActed : Database → Parts → Registers → Run → Effect → Result Flow Stop → Type 0
 IsActed database parts registers run effect result =
     MatchResult result (IsFlow database parts registers run effect) (IsActStopped effect)
 
 -- ---- an operation, and an instruction, of a machine
 
--- before it: registers as declared that hold what is sound, and a run that has done something, and
+-- before it: registers as declared that hold sound values, and a run that has done something, and
 -- not too much
 pub record CanAct (m : Machine) (registers : List (Option Value)) (run : Run) : Type 0 where
   pub few : run.lookups + run.updates < 2 ^ 63

@@ -1,4 +1,4 @@
--- A run over eager stores, beside what the definitions say that it has done.
+-- A run over eager stores, next to the same run by the definitions.
 use Rattle.std.specs.Prelude.{ℕ, List}
 use Rattle.star_schema.specs.Database.{Database}
 use Rattle.star_group.specs.{declared.eager.EagerStore.EagerStore, Eager.group_view, Eager.Has}

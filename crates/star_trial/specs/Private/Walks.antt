@@ -14,12 +14,12 @@ pub record Finishes (database : Database) (parts : Parts) (run : Run) (end : End
   pub is : end ≡ Ended s
   pub done : HasDone database parts run s
 
--- Ok with what was done where the run comes to its end, else the trap or the limit
+-- Ok with the final state if the run comes to its end, else the trap or the limit
 abbrev pub IsEnd : Database → Parts → Run → End → Result (Unit {0}) TrialFault → Type 0
 IsEnd database parts run end result =
     MatchResult result (λ _. Finishes database parts run end) (IsFaultOfEnd end)
 
--- what is left of a body, from an instruction on
+-- the rest of a body, from an instruction on
 abbrev pub means : Machine → Code → ℕ → Bool → Registers → State → End
 means m code at inside registers s =
     meaning (world_of m.catalogue.now) m.parts.now (λ visits. nat_lt visits m.most) code at
@@ -46,7 +46,7 @@ means_scan m scan before s =
 abbrev pub HasRun : Machine → Run → Type 0
 HasRun m run = (s : State) × HasDone m.catalogue.now m.parts.now run s
 
--- what was done before, and then what this means
+-- the effects before, and then those of this
 abbrev pub Does : Machine → Run → Run → (State → End) → Result (Unit {0}) TrialFault → Type 0
 Does m old new meant result =
     (s : State) → HasDone m.catalogue.now m.parts.now old s
@@ -61,13 +61,13 @@ fault_at at (stop.Trap kind) = fault.Trap at kind
 abbrev pub work : Run → ℕ
 work run = run.lookups + run.updates
 
--- what was done, and `instructions` more, is no more than 4,096 a visit and 4,096 outside scans
+-- the work so far, and `instructions` more, is no more than 4,096 a visit and 4,096 outside scans
 pub record IsFew (most : ℕ) (run : Run) (instructions : ℕ) : Type 0 where
   pub visits : run.visits ≤ most
   pub work : work run + instructions ≤ 4096 * run.visits + 4096
 
 -- a walk over `instructions` more, with scans nested `depth` deep, may go on from here: these
--- registers hold what is sound, the frames have room, and the run has done something, and not too
+-- registers hold sound values, the frames have room, and the run has done something, and not too
 -- much
 pub record IsWalkReady (m : Machine) (registers frames : List (Option Value)) (run : Run)
     (depth instructions : ℕ) : Type 0 where
@@ -77,7 +77,7 @@ pub record IsWalkReady (m : Machine) (registers frames : List (Option Value)) (r
   pub sound : AreSound m.catalogue.now (registers_view registers)
   pub done : HasRun m run
 
--- what was done by `instructions` instructions and by the turns of the scans among them
+-- the work of `instructions` instructions and of the turns of the scans among them
 pub record HasWorked (most : ℕ) (old new : Run) (instructions : ℕ) : Type 0 where
   pub visits : new.visits ≤ most
   pub more : old.visits ≤ new.visits

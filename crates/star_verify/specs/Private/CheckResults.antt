@@ -79,7 +79,7 @@ scan_first w parts pending x at table r body =
 
 -- ---- a whole program
 
--- Ok with its quote and what is put to the keys of its groups, in 64 tallies, if nothing refuses
+-- Ok with its quote and facts about the keys of its groups, in 64 tallies, if nothing refuses
 -- it; otherwise the first refusal, or out of memory
 abbrev pub IsChecked : Result Accepted Refusal → World → ℕ → Parts → Type 0
 IsChecked result w most parts =

@@ -1,4 +1,4 @@
--- How the arguments of a command are separated, and what is made of them.
+-- How the arguments of a command are separated, and the request that they make.
 use Rattle.std.specs.Prelude.{◌≡◌, ⊤, ◌++◌, Bool, true, false, ℕ, List, [], ◌∷◌, Option, IfSome, if◌then◌else◌, map}
 use Rattle.std.specs.{Borrow.Bor, Option.option_map}
 use Rattle.star_schema.specs.{Most.most_rows, declared.limits.Limits.Limits}
@@ -35,18 +35,18 @@ abbrev pub IsLimited : Option ℕ → Option Limits → Type 0
 IsLimited visits limits = (option_map (λ given. given.visits) limits ≡ visits)
     × IfSome limits (λ given. given.rows ≡ most_rows)
 
--- a request is made of what is asked for
+-- a request is made of the arguments
 abbrev pub IsMade : Option Asked → Option Request → Type 0
 IsMade asked request = (option_map request_asked request ≡ asked) × IfSome request HasMostRows
 
--- what the parser says, or that it finds nothing wrong; and help only where it may be asked for
+-- the parser's text, or that it finds nothing wrong; and help only if it may be asked for
 abbrev pub IsRefusal : (may_ask_help : Bool) → WordsFault → Type 0
 IsRefusal may_ask_help NotText = ⊥
 IsRefusal may_ask_help EmptyFolder = ⊥
 IsRefusal may_ask_help OutOfMemory = ⊤
 IsRefusal may_ask_help fault = words_fault_status fault ≡ 0 → may_ask_help ≡ true
 
--- the parser's own fault, or want of memory
+-- the parser's own fault, or out of memory
 abbrev pub IsParsersFault : WordsFault → Type 0
 IsParsersFault (Told error) = ⊤
 IsParsersFault OutOfMemory = ⊤
