@@ -56,19 +56,8 @@ fn begin_with(bytes: &[u8; 16], text: &[u8], count: usize) -> bool
     ensures { IsTrue result → take count bytes.now ≡ take count text.now }
 {
     if text.len() >= SHORT {
-        same_front(bytes, text) >= count
-    } else {
-        begin_slowly(bytes, text, count)
+        return same_front(bytes, text) >= count;
     }
-}
-
-// What `begin_with` does, byte by byte.
-#[inline(never)]
-fn begin_slowly(bytes: &[u8; 16], text: &[u8], count: usize) -> bool
-    requires short { count ≤ 16 }
-    requires within { count ≤ length text.now }
-    ensures { IsTrue result → take count bytes.now ≡ take count text.now }
-{
     for at in 0..count {
         if bytes[at] != text[at] {
             return false;

@@ -112,13 +112,15 @@ pub enum SignedWords {
     Bits64(Vec<i64>),
 }
 
-/// Makes room for more. Apart from the pushes, so that these stay short.
+/// Puts a word at the end of a full list, or changes nothing where memory is refused. Apart from
+/// `push_to`, which stays short so.
 #[cold]
-fn make_room<W: SignedWord>(words: &mut Vec<W>) -> Result<(), AllocError>
-    ensures items { words.new.items ≡ words.old.items }
-    ensures room { OnOk result (vec_len words.new < vec_capacity words.new) }
+fn push_full<W: SignedWord>(words: &mut Vec<W>, word: W) -> Result<(), AllocError>
+    ensures ok { OnOk result (words.new.items ≡ words.old.items ++ word ∷ []) }
+    ensures err { OnErr result (words.new.items ≡ words.old.items) }
 {
-    words.reserve(1)
+    words.push(word)?;
+    Ok(())
 }
 
 /// Puts a number at the end, or changes nothing if it is too wide or memory is refused. Returns
@@ -133,10 +135,11 @@ fn push_to<W: SignedWord>(words: &mut Vec<W>, number: i64) -> Result<bool, Alloc
 {
     match W::of(number) {
         Some(word) => {
-            if words.len() == words.capacity() {
-                make_room(words)?;
+            if words.len() < words.capacity() {
+                words.push_reserved(word);
+            } else {
+                push_full(words, word)?;
             }
-            words.push_reserved(word);
             Ok(true)
         }
         None => Ok(false),
