@@ -1,5 +1,5 @@
 -- The facts of a part and of further parts together.
-use Rattle.std.proofs.Common.{◌≡◌, ◌∙◌, ◌+◌, ◌<◌, ℕ, zero, suc, List, [], ◌∷◌, ◌++◌, ap, append-nil, arith, length, map, refl, rules, slice_get, slice_index_or, subst, sym}
+use Rattle.std.proofs.Common.{◌≡◌, ◌∙◌, ◌+◌, ◌<◌, ◌≤◌, ◌^◌, ℕ, zero, suc, List, [], ◌∷◌, ◌++◌, ap, append-nil, arith, length, map, refl, rules, slice_get, slice_index_or, subst, sym}
 use Rattle.std.proofs.lemmas.List.{length-append, length-map}
 use Rattle.std.proofs.lemmas.List.Elements.{All-head, All-tail}
 use Rattle.std.specs.{List.All}
@@ -14,7 +14,7 @@ use Rattle.star_merge_laws.specs.{Facts.AreFactsOf, Facts.Facts, Facts.hull_of_r
 use Rattle.star_verify.specs.{Facts.AreFacts}
 use Rattle.star_verify.specs.declared.facts.Facts.{Facts as Known}
 use Rattle.star_world.specs.WorldOf.{world_of}
-use Rattle.star_merger.specs.{Private.Shown.HasFacts, Private.Shown.HasOwnFacts, Shares.Share, Shares.contents_of_shares, Shares.share_rows}
+use Rattle.star_merger.specs.{Private.Shown.HasFacts, Private.Shown.HasOwnFacts, Private.Shares.Share, Private.Shares.contents_of_shares, Private.Shares.share_rows}
 
 at : (xs : List Interval) (place : ℕ) (any : Interval) → place < length xs
     → range_if (slice_get xs place) ≡ range_of (slice_index_or xs place any)
@@ -69,6 +69,10 @@ module _ (database : Database) (rows others : List Row) (a b sizes : TableId →
   sizes_are sum date customer supplier part Lineorder =
       sum ∙ (λ i. h.sizes Lineorder i + k.sizes Lineorder i) ∙ sym (length-append rows others)
 
+  pub many_rows : ¬ (a Lineorder + b Lineorder < 2 ^ 32) → 2 ^ 32 ≤ length (rows ++ others)
+  many_rows over =
+      omega (arith, length-append rows others, h.sizes Lineorder, k.sizes Lineorder, over)
+
   pub joined_are : AreFactsOf (with_lineorder database (rows ++ others)) (joined_facts facts more)
       → sizes Lineorder ≡ a Lineorder + b Lineorder → sizes Date ≡ a Date
       → sizes Customer ≡ a Customer → sizes Supplier ≡ a Supplier → sizes Part ≡ a Part
@@ -91,6 +95,9 @@ are_facts database facts full has = record {
 }
 
 -- ---- the facts of all parts
+
+pub many_more : (rows others : List Row) → 2 ^ 32 ≤ length others → 2 ^ 32 ≤ length (rows ++ others)
+many_more rows others many = omega (arith, length-append rows others, many)
 
 no_items : {X : Type 0} (xs : List X) → length xs ≡ 0 → xs ≡ []
 no_items [] e = refl
@@ -144,13 +151,10 @@ pub some_mapped : (partials rest : List Partial) (next : Partial) → partials �
     → map contents_of partials ≡ contents_of next ∷ map contents_of rest
 some_mapped partials rest next is = ap (map contents_of) is
 
-pub all_are : (database : Database) (partials more : List Partial) (first : Partial)
-    (shares : List Share) (Goal : List Share → Type 0) → partials ≡ first ∷ more
-    → map contents_of partials ≡ contents_of_shares shares → All (HasOwnFacts database) shares
-    → ((share : Share) (rest : List Share)
-    → contents_of first ∷ map contents_of more ≡ contents_of_shares (share ∷ rest)
-    → All (HasOwnFacts database) (share ∷ rest) → Goal (share ∷ rest)) → Goal shares
-all_are database partials more first [] Goal is same are on =
-    absurd (omega (arith, ap length is, ap length same, length-map partials contents_of))
-all_are database partials more first (share ∷ rest) Goal is same are on =
-    on share rest (ap (map contents_of) (sym is) ∙ same) are
+pub all_are : (database : Database) (partials more : List Partial) (first : Partial) (share : Share)
+    (shares : List Share) (Goal : Type 0) → partials ≡ first ∷ more
+    → map contents_of partials ≡ contents_of_shares (share ∷ shares)
+    → (contents_of first ∷ map contents_of more ≡ contents_of_shares (share ∷ shares) → Goal)
+    → Goal
+all_are database partials more first share shares Goal is same on =
+    on (ap (map contents_of) (sym is) ∙ same)

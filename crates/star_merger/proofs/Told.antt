@@ -1,66 +1,100 @@
--- The text that a merge writes.
-use Rattle.std.proofs.Common.{◌≡◌, ◌∙◌, ◌++◌, ◌↔◌, ◌≤◌, ℕ, Bool, List, None, Option, ap, length, subst}
-use Rattle.std.specs.Prelude.{Err, Ok, OnOk, Result}
-use Rattle.star_partial.specs.Contents.{Contents}
-use Rattle.std.proofs.KnownBytes.{Appends-trans}
-use Rattle.star_schema.specs.{Database.Database}
+-- What is written and what is due over all parts.
+use Rattle.std.proofs.Common.{◌≡◌, ◌∙◌, ◌<◌, ℕ, Bool, true, List, Some, ◌∷◌, ap, arith, length, subst, sym}
+use Rattle.std.specs.List.{All}
+use Rattle.star_schema.specs.declared.table.TableId.TheVariants.{Lineorder}
+use Rattle.star_schema.specs.{Database.Database, Database.TableTexts, Loadable.IsLoadable, Loadable.database_of}
+use Rattle.star_catalogue.specs.declared.fault.LoadFault.{LoadFault}
+use Rattle.star_catalogue.specs.declared.fault.LoadFault.TheVariants.{TooManyRows}
 use Rattle.star_plan.specs.Meaning.{Plan}
-use Rattle.star_report.specs.Report.{report_text}
-use Rattle.star_safety.specs.Admissible.{IsAdmissible, first_refusal}
-use Rattle.star_world.specs.WorldOf.{world_of}
-use Rattle.star_compile_laws.specs.Compiled.{compiled}
+use Rattle.star_verify.specs.declared.refusal.Refusal.{Refusal}
+use Rattle.star_partial.specs.Contents.{Contents}
 use Rattle.star_merge_laws.specs.Tables.{all_of}
-use Rattle.star_engine.specs.{Answered.Change, Answered.HasGained, Answered.change, Executions.IsAcceptedWithin, Executions.quote_over, Noted.HasTold, Notes.counts_line, Notes.quote_line, Queries.FitsRows, Queries.IsPlanOf, Queries.IsQueryToldOver}
-use Rattle.star_merger.specs.{Private.Outcomes.IsMergedOutcome, Private.Written.IsWritten, Shares.AreShares, Shares.Share, Shares.contents_of_shares, Shares.share_rows, Shares.whole_of}
-use Rattle.star_merger.proofs.Whole.{told}
+use Rattle.star_merge_laws.proofs.Many.{too_many}
+use Rattle.star_engine.specs.{Loads.AreLoadedRows, Noted.Telling, Notes.quote_line, Queries.FitsRows, Queries.IsPlanOf, Queries.IsQueryQuote, Queries.IsQueryTold, Queries.IsQueryToldOver, Queries.IsUnanswered, Queries.IsUnfit, Queries.fact_rows}
+use Rattle.star_engine.specs.declared.fault.EngineFault.TheVariants as engine
+use Rattle.star_merger.specs.{Merged.spans_of, Private.Checked.AreChecked, Private.Outcomes.IsMergedOutcome, Private.Shares.AreShares, Private.Shares.Share, Private.Shares.contents_of_shares, Private.Shares.share_rows, Private.Shares.whole_of, Private.Written.IsMergedTelling, Private.Written.telling_of}
+use Rattle.star_merger.specs.TextShares.{AreDistinct, IsTextShare, TextShare, all_contents, whole_texts}
+use Rattle.star_merger.proofs.{Results.loaded_rows, TextParts.contents_same, TextParts.loadable_parts, TextParts.own_shares, TextParts.records_counted, TextParts.row_shares, TextParts.whole_loadable, TextParts.whole_same, Whole.told}
+use Rattle.star_verify.specs.declared.facts.Facts.{Facts}
 
--- a note after another
-pub gained_both : {N : Type 0} (contents : N → Option (List ℕ)) (is_failed : N → Bool) (old mid new : N)
-    (first second : List ℕ) → HasGained (change contents is_failed old mid) first
-    → HasGained (change contents is_failed mid new) second
-    → HasGained (change contents is_failed old new) (first ++ second)
-gained_both contents is_failed old mid new first second h k = record {
-  gained = Appends-trans (contents old) (contents mid) (contents new) first second h.gained
-      k.gained;
-  not_failed = k.not_failed;
-}
+told_over : (most visits count : ℕ) (note : List ℕ) (database : Database) (query : List ℕ)
+    (p : Plan) (meant : IsPlanOf query p) (shares : List Share) (all : List Contents)
+    (telling : Telling) → AreShares most database query shares → all ≡ contents_of_shares shares
+    → count ≡ length (all_of (share_rows shares)) → note ≡ quote_line count
+    → FitsRows visits (whole_of database shares) query → IsMergedTelling p all count note telling
+    → IsQueryToldOver visits (whole_of database shares) query telling
+told_over most visits count note database query p meant shares all telling are same counted quoted
+    fits is =
+    let merged = subst (λ (X : Type 0). X)
+    (λ i. IsMergedOutcome p (same i) (counted i) is.outcome) is.merged in
+    subst (IsQueryToldOver visits (whole_of database shares) query)
+    (sym (is.told ∙ ap (λ note. telling_of note is.outcome) (quoted ∙ ap quote_line counted)))
+    (told most database query p meant visits shares is.outcome are merged fits)
 
--- a program that nothing refuses over the whole is that of a query that fits
-pub fits : (visits : ℕ) (whole : Database) (query : List ℕ) (p : Plan)
-    → (FitsRows visits whole query ↔ IsAcceptedWithin whole visits (compiled p))
-    → ((first_refusal (world_of whole) visits (compiled p) ≡ None)
-    ↔ (IsAdmissible (world_of whole) (compiled p) × (quote_over whole (compiled p) ≤ visits)))
-    → first_refusal (world_of whole) visits (compiled p) ≡ None → FitsRows visits whole query
-fits visits whole query p accepted admitted none =
-    let both = admitted.0 none in
-    accepted.1 (record { admissible = both.0; cheap = both.1 })
+module _ (rows visits : ℕ) (texts : TableTexts) (query hash : List ℕ) (share : TextShare)
+    (shares : List TextShare)
+    (are : All (IsTextShare rows visits texts query hash) (share ∷ shares)) where
+  abbrev pub whole : TableTexts
+  whole = whole_texts texts (share ∷ shares)
 
-pub on_ok : {A E : Type 0} (X Y : Type 0) (result : Result A E) → (X → Y) → OnOk result X
-    → OnOk result Y
-on_ok X Y (Ok value) on is = on is
-on_ok X Y (Err fault) on is = tt
+  abbrev pub whole_rows : Database
+  whole_rows = whole_of (database_of texts) (row_shares (share ∷ shares))
 
-pub merged : {S N : Type 0} (out : Change S) (notes : Change N) (most visits rows : ℕ)
-    (note : List ℕ) (database : Database) (query : List ℕ) (p : Plan) (meant : IsPlanOf query p)
-    (shares : List Share) (all : List Contents) → AreShares most database query shares
-    → all ≡ contents_of_shares shares → rows ≡ length (all_of (share_rows shares))
-    → note ≡ quote_line rows → FitsRows visits (whole_of database shares) query
-    → IsWritten p all rows note out notes
-    → HasTold out notes (IsQueryToldOver visits (whole_of database shares) query)
-merged out notes most visits rows note database query p meant shares all are same counted quoted
-    fitting written =
-    let outcome = written.outcome in
-    let is = subst (λ (X : Type 0). X) (λ i. IsMergedOutcome p (same i) (counted i) outcome)
-    written.merged in
-    let noted = subst (λ note. HasGained notes
-    (note ++ counts_line outcome.visits outcome.lookups outcome.updates))
-    (quoted ∙ ap quote_line counted) written.noted in (
-      record {
-        quoted = quote_line (length (all_of (share_rows shares)));
-        report = report_text outcome.names outcome.rows;
-        done = counts_line outcome.visits outcome.lookups outcome.updates;
-      },
-      told most database query p meant visits shares outcome are is fitting,
-      written.report,
-      noted,
-    )
+  -- too many rows are due if there are too many
+  pub too_many_due : (p : Plan) → IsPlanOf query p → (fault : LoadFault)
+      → fault ≡ TooManyRows Lineorder → rows < fact_rows whole_rows
+      → IsUnanswered rows visits whole query (engine.Load fault)
+  too_many_due p meant fault is many =
+      let counted = records_counted (share ∷ shares) in (
+        (p, meant),
+        record {
+          first = too_many rows texts _ _
+              (loadable_parts rows visits texts query hash (share ∷ shares) are)
+              (omega (arith, counted, many)) ∙ ap Some (sym is);
+          not_loadable = λ loadable. omega (arith, counted, many, (loadable.tables Lineorder).0);
+        },
+      )
+
+  pub loadable : (is_distinct : Bool) (facts : Facts)
+      → AreChecked rows whole_rows is_distinct (spans_of (all_contents (share ∷ shares))) facts
+      → (is_distinct ≡ true → AreDistinct (share ∷ shares)) → IsLoadable rows whole
+  loadable is_distinct facts checked distinct =
+      whole_loadable rows visits texts query hash is_distinct share shares are
+      (omega (arith, checked.known.sizes Lineorder, checked.few)) distinct checked.disjoint
+
+  module _ (loads : IsLoadable rows whole) (p : Plan) (meant : IsPlanOf query p) where
+    same : whole_rows ≡ database_of whole
+    same = whole_same texts (share ∷ shares)
+
+    pub loaded : AreLoadedRows whole_rows
+    loaded = subst AreLoadedRows (sym same) (loaded_rows rows whole loads)
+
+    pub quote_due : (count : ℕ) (note quoted : List ℕ) → count ≡ fact_rows whole_rows
+        → note ≡ quote_line count → quoted ≡ note → IsQueryQuote rows whole query quoted
+    quote_due count note quoted counted is e = record {
+      loadable = loads;
+      holds = record {
+        is_query = (p, meant);
+        quoted = e ∙ is ∙ ap quote_line (counted ∙ ap fact_rows same);
+      };
+    }
+
+    pub telling_due : (count : ℕ) (note : List ℕ) (all : List Contents) (telling : Telling)
+        → all ≡ all_contents (share ∷ shares) → count ≡ fact_rows whole_rows
+        → note ≡ quote_line count → FitsRows visits whole_rows query
+        → IsMergedTelling p all count note telling → IsQueryTold rows visits whole query telling
+    telling_due count note all telling is counted quoted fits merged = record {
+      loadable = loads;
+      holds = subst (λ database. IsQueryToldOver visits database query telling) same
+          (told_over visits visits count note (database_of texts) query p meant
+          (row_shares (share ∷ shares)) all telling
+          (own_shares rows visits texts query hash (share ∷ shares) are)
+          (is ∙ contents_same (share ∷ shares)) counted quoted fits merged);
+    }
+
+    pub refusal_due : (refusal : Refusal) → IsUnfit visits whole_rows query refusal
+        → IsUnanswered rows visits whole query (engine.Refused refusal)
+    refusal_due refusal unfit = record {
+      loadable = loads;
+      holds = subst (λ database. IsUnfit visits database query refusal) same unfit;
+    }

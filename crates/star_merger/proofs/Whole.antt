@@ -19,7 +19,7 @@ use Rattle.star_merge.proofs.PlainReports.{merged_answer, of_shape}
 use Rattle.star_engine.specs.{Notes.counts_line, Notes.quote_line, Partials.IsPartialOver, Partials.IsPlainOutcome, Queries.FitsRows, Queries.IsPlanOf, Queries.IsQueryToldOver}
 use Rattle.star_engine.proofs.PlansOfQueries.{plan_sound}
 use Rattle.star_merger.specs.{Private.Outcomes.IsMergedOutcome, Private.Outcomes.all_shown, Private.Outcomes.groups_of, Private.Shown.HasOwnFacts, Private.Shown.IsUsable, Private.Shown.counted, Private.Shown.lookups_in, Private.Shown.rows_shown, Private.Shown.updates_in}
-use Rattle.star_merger.specs.Shares.{AreShares, Share, contents_of_shares, share_rows, whole_of}
+use Rattle.star_merger.specs.Private.Shares.{AreShares, Share, contents_of_shares, share_rows, whole_of}
 
 -- ---- a text means one plan
 

@@ -1,8 +1,9 @@
 // Why a text is not a partial of a query, or is not merged with others.
 
-ghost use Rattle.std.specs.Prelude.{Some};
+ghost use Rattle.std.specs.Prelude.{◌≡◌, None, Some};
 ghost use Rattle.star_common.specs.Memory.{TellsMemory};
-ghost use Rattle.star_merger.specs.{FaultTexts.partial_fault_text, declared.fault.PartialFault.TheVariants.OutOfMemory};
+ghost use Rattle.star_merger.specs.{FaultTexts.partial_fault_text, declared.fault.PartialFault.TheVariants.OutOfMemory, declared.fault.PartialsFault.TheVariants.Engine, declared.fault.PartialsFault.TheVariants.Partial};
+ghost use Rattle.star_engine.specs.declared.fault.EngineFault.TheVariants as engine;
 
 use star_engine::EngineFault;
 use std::alloc::{AllocError, AllocFailed};
@@ -71,25 +72,33 @@ pub enum PartialsFault {
 }
 
 impl From<EngineFault> for PartialsFault {
+    ghost from_gives = { λ fault shown. shown ≡ Engine fault };
+
     fn from(fault: EngineFault) -> PartialsFault {
         PartialsFault::Engine(fault)
     }
 }
 
 impl From<AllocError> for PartialsFault {
+    ghost from_gives = { TellsMemory (Engine engine.OutOfMemory) };
+
     fn from(_error: AllocError) -> PartialsFault {
         PartialsFault::Engine(EngineFault::OutOfMemory)
     }
 }
 
 impl<T: Drop> From<AllocFailed<T>> for PartialsFault {
+    ghost from_gives = { TellsMemory (Engine engine.OutOfMemory) };
+
     fn from(_error: AllocFailed<T>) -> PartialsFault {
         PartialsFault::Engine(EngineFault::OutOfMemory)
     }
 }
 
 /// Returns the fault of the partial at a place.
-pub(crate) fn fault_at(place: usize, fault: PartialFault) -> PartialsFault {
+pub(crate) fn fault_at(place: usize, fault: PartialFault) -> PartialsFault
+    ensures { result ≡ Partial place fault None }
+{
     PartialsFault::Partial {
         place,
         fault,

@@ -2,6 +2,7 @@
 #![tactic(auto)]
 
 mod columns;
+mod dimensions;
 mod facts;
 mod fault;
 mod fields;

@@ -1,16 +1,18 @@
 // The report of a query over all parts, from its partials.
 
-ghost use Rattle.std.specs.Prelude.{◌≡◌, ◌<◌, ℕ, List, OnOk, length, map};
-ghost use Rattle.star_schema.specs.Database.{Database};
+ghost use Rattle.std.specs.Prelude.{◌≡◌, ◌<◌, ◌∷◌, All, ℕ, List, length, map, true};
+ghost use Rattle.star_schema.specs.Database.{TableTexts};
 ghost use Rattle.star_partial.specs.Contents.{contents_of};
-ghost use Rattle.star_engine.specs.{Answered.change, Loads.AreLoadedRows, Noted.HasTold, Queries.IsQueryToldOver};
-ghost use Rattle.star_merger.specs.{Mergers.IsMergerOf, Private.Written.IsWritten, Shares.AreShares, Shares.Share, Shares.contents_of_shares, Shares.whole_of};
+ghost use Rattle.star_engine.specs.{Answered.change, Queries.IsQueryQuote, Queries.IsQueryTold, Queries.IsUnanswered};
+ghost use Rattle.star_merger.specs.{Merged.IsMerged, Merged.IsOverlap, Merged.spans_of, Mergers.IsMergerOf};
+ghost use Rattle.star_merger.specs.TextShares.{AreDistinct, IsTextShare, TextShare, all_contents, whole_texts};
+ghost use Rattle.star_merger.specs.{Private.Outcomes.IsUnmerged, Private.Written.IsMergedTelling, Private.Written.as_merge};
 
 use crate::facts::checked_facts;
 use crate::fault::PartialsFault;
 use crate::merger::Merger;
 use crate::outcome::outcome_of;
-use crate::writing::{quote_note, write_note, write_run};
+use crate::writing::{quote_note, write_outcome, write_refused};
 use star_common::Sink;
 use star_engine::EngineFault;
 use star_engine::query_laws::queries_that_fit_are_answered;
@@ -19,6 +21,15 @@ use star_safety::law::admissible_programs_within_the_limit_are_not_refused;
 use star_schema::Limits;
 use star_verify::forecast;
 use std::alloc::Global;
+
+fn as_merge(result_of_call: Result<(), EngineFault>) -> Result<(), PartialsFault>
+    ensures { result ≡ as_merge result_of_call }
+{
+    match result_of_call {
+        Ok(()) => Ok(()),
+        Err(fault) => Err(PartialsFault::Engine(fault)),
+    }
+}
 
 // Writes the note of the quote, the report over all parts, and the note of its counts.
 fn write_merged<S: Sink, N: Sink>(
@@ -32,14 +43,15 @@ fn write_merged<S: Sink, N: Sink>(
 ) -> Result<(), PartialsFault>
     requires { 0 < length note.now }
     ensures { (query : List ℕ) (is : IsMergerOf query merger.now)
-        → OnOk result (IsWritten is.p (map contents_of partials.now) rows note.now
-        (change S.contents S.is_failed out.old out.new)
-        (change N.contents N.is_failed notes.old notes.new)) }
+        → IsMerged (change S.contents S.is_failed out.old out.new)
+        (change N.contents N.is_failed notes.old notes.new) (λ quoted. quoted ≡ note.now)
+        (IsMergedTelling is.p (map contents_of partials.now) rows note.now) (λ fault. ⊥)
+        (IsUnmerged (map contents_of partials.now)) result }
 {
-    let outcome = outcome_of(alloc, merger, partials, rows)?;
-    write_note(notes, note, 0)?;
-    write_run(alloc, &outcome, out, notes)?;
-    Ok(())
+    match outcome_of(alloc, merger, partials, rows) {
+        Ok(outcome) => as_merge(write_outcome(alloc, &outcome, note, out, notes)),
+        Err(fault) => Err(fault),
+    }
 }
 
 impl Merger {
@@ -57,26 +69,34 @@ impl Merger {
         out: &mut S,
         notes: &mut N,
     ) -> Result<(), PartialsFault>
-        ensures { (query : List ℕ) (most : ℕ) (database : Database) (shares : List Share)
-            → IsMergerOf query self.now → AreShares most database query shares
-            → AreLoadedRows (whole_of database shares)
-            → map contents_of partials.now ≡ contents_of_shares shares
-            → OnOk result (HasTold (change S.contents S.is_failed out.old out.new)
+        ensures { (query hash : List ℕ) (texts : TableTexts) (share : TextShare)
+            (shares : List TextShare) → IsMergerOf query self.now
+            → All (IsTextShare limits.rows limits.visits texts query hash) (share ∷ shares)
+            → map contents_of partials.now ≡ all_contents (share ∷ shares)
+            → (is_distinct ≡ true → AreDistinct (share ∷ shares))
+            → let whole = whole_texts texts (share ∷ shares) in
+            IsMerged (change S.contents S.is_failed out.old out.new)
             (change N.contents N.is_failed notes.old notes.new)
-            (IsQueryToldOver limits.visits (whole_of database shares) query)) }
+            (IsQueryQuote limits.rows whole query)
+            (IsQueryTold limits.rows limits.visits whole query)
+            (IsUnanswered limits.rows limits.visits whole query)
+            (IsOverlap is_distinct (spans_of (map contents_of partials.now))) result }
     {
         queries_that_fit_are_answered();
         admissible_programs_within_the_limit_are_not_refused();
-        let facts = checked_facts(&self.query, partials, is_distinct, limits)?;
+        let facts = match checked_facts(&self.query, partials, is_distinct, limits) {
+            Ok(facts) => facts,
+            Err(fault) => return Err(fault),
+        };
         let _bounds = facts.bounds;
         let rows = u64::from(facts.sizes.lineorder);
-        let note = quote_note(alloc, rows)?;
+        let note = match quote_note(alloc, rows) {
+            Ok(note) => note,
+            Err(_) => return Err(PartialsFault::Engine(EngineFault::OutOfMemory)),
+        };
         match forecast(alloc, &self.program, &facts, limits) {
             Ok(_) => write_merged(alloc, self, partials, rows, note.as_bytes(), out, notes),
-            Err(refusal) => {
-                write_note(notes, note.as_bytes(), 0)?;
-                Err(PartialsFault::Engine(EngineFault::from(refusal)))
-            }
+            Err(refusal) => as_merge(write_refused(refusal, note.as_bytes(), notes)),
         }
     }
 }

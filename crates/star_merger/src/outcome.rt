@@ -1,13 +1,13 @@
 // The outcome of a query over all parts, from the outcomes over each.
 
-ghost use Rattle.std.specs.Prelude.{◌≡◌, ◌++◌, ℕ, All, IfOk, List, OnOk, length, map};
+ghost use Rattle.std.specs.Prelude.{◌≡◌, ◌++◌, ◌∷◌, [], ℕ, All, IfErr, IfOk, List, OnOk, length, map};
 ghost use Rattle.std.specs.{List.flat_map};
 ghost use Rattle.star_schema.specs.{Groups.GroupRow, Tables.Value};
 ghost use Rattle.star_plan.specs.Meaning.{Plan, aggregate_of};
 ghost use Rattle.star_partial.specs.Contents.{contents_of};
 ghost use Rattle.star_compile_laws.specs.Compiled.{compiled};
 ghost use Rattle.star_merge.specs.{Cells.group_of, Merged.AreOfShape, Merged.IsMergedRows};
-ghost use Rattle.star_merger.specs.{Mergers.IsMergerOf, Private.Outcomes.IsMergedOutcome, Private.Outcomes.all_shown, Private.Shown.IsUsable, Private.Shown.counted, Private.Shown.lookups_in, Private.Shown.rows_shown, Private.Shown.updates_in};
+ghost use Rattle.star_merger.specs.{Mergers.IsMergerOf, Private.Outcomes.IsMergedOutcome, Private.Outcomes.IsUnmerged, Private.Outcomes.all_shown, Private.Shown.IsUsable, Private.Shown.counted, Private.Shown.lookups_in, Private.Shown.rows_shown, Private.Shown.updates_in};
 
 use crate::fault::{PartialFault, PartialsFault, fault_at};
 use crate::merger::Merger;
@@ -29,6 +29,7 @@ fn push_report<'p>(
     ensures shown { OnOk result (map (λ rows. rows.now) reports.new.items
         ≡ map (λ rows. rows.now) reports.old.items ++ rows_shown partial.now.run) }
     ensures usable { OnOk result (IsUsable (contents_of partial.now)) }
+    ensures failed { IfErr result (IsUnmerged (contents_of partial.now ∷ [])) }
 {
     match &partial.run {
         Some(outcome) => {
@@ -50,6 +51,7 @@ fn push_reports<'p>(
     ensures shown { OnOk result (map (λ rows. rows.now) reports.new.items
         ≡ map (λ rows. rows.now) reports.old.items ++ all_shown (map contents_of partials.now)) }
     ensures usable { OnOk result (All IsUsable (map contents_of partials.now)) }
+    ensures failed { IfErr result (IsUnmerged (map contents_of partials.now)) }
 {
     match partials.split_first() {
         None => Ok(()),
@@ -84,6 +86,7 @@ fn counts_of(partials: &[Partial], place: usize, line: usize) -> Result<(u64, u6
         (λ counts. counts.0 ≡ counted lookups_in (map contents_of partials.now)) }
     ensures updates { IfOk result
         (λ counts. counts.1 ≡ counted updates_in (map contents_of partials.now)) }
+    ensures failed { IfErr result (IsUnmerged (map contents_of partials.now)) }
 {
     match partials.split_first() {
         None => Ok((0, 0)),
@@ -154,8 +157,9 @@ pub(crate) fn outcome_of(
     partials: &[Partial],
     visits: u64,
 ) -> Result<Outcome, PartialsFault>
-    ensures { (query : List ℕ) (is : IsMergerOf query merger.now)
+    ensures merged { (query : List ℕ) (is : IsMergerOf query merger.now)
         → IfOk result (IsMergedOutcome is.p (map contents_of partials.now) visits) }
+    ensures failed { IfErr result (IsUnmerged (map contents_of partials.now)) }
 {
     let line = dimensions_line(&merger.query).saturating_add(37);
     let mut reports = Vec::new(alloc);

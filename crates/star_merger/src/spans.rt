@@ -1,10 +1,13 @@
 // Spans of keys.
 
-ghost use Rattle.std.specs.Prelude.{◌≡◌};
+ghost use Rattle.std.specs.Prelude.{◌≡◌, ◌<◌, ℕ, MatchOption, MatchResult, None, false, length, map, slice_index_or, true};
+ghost use Rattle.star_partial.specs.Contents.{contents_of};
 ghost use Rattle.star_merge_laws.specs.Parts.{are_disjoint, key_list_cmp};
 ghost use Rattle.star_engine.specs.Partials.{line_numbers, span_view};
+ghost use Rattle.star_merger.specs.{Merged.DoOverlap, Merged.IsOverlap, Merged.spans_of, Private.Checked.AreDisjointSpans};
 
-use star_partial::{LineKey, Span};
+use crate::fault::{PartialFault, PartialsFault};
+use star_partial::{LineKey, Partial, Span};
 use std::cmp::Ordering;
 
 #[tactic(auto, using(star_engine::proofs::SpanLemmas::then_equal))]
@@ -14,12 +17,55 @@ fn compare(key: LineKey, other: LineKey) -> Ordering
     key.order.cmp(&other.order).then(key.line.cmp(&other.line))
 }
 
-/// Tests whether one of two spans ends before the other begins.
-pub(crate) fn are_disjoint(a: &Option<Span>, b: &Option<Span>) -> bool
+// Tests whether one of two spans ends before the other begins.
+fn are_disjoint(a: &Option<Span>, b: &Option<Span>) -> bool
     ensures { result ≡ are_disjoint (span_view a.now) (span_view b.now) }
 {
     match (a, b) {
         (Some(a), Some(b)) => compare(a.high, b.low).is_lt() || compare(b.high, a.low).is_lt(),
         _ => true,
     }
+}
+
+// Tests the same of the spans of the partials at two places.
+fn are_disjoint_at(partials: &[Partial], other: usize, place: usize) -> bool
+    requires other { other < length partials.now }
+    requires place { place < length partials.now }
+    ensures { let spans = spans_of (map contents_of partials.now) in
+        result ≡ are_disjoint (slice_index_or spans other None) (slice_index_or spans place None) }
+{
+    are_disjoint(&partials[other].span, &partials[place].span)
+}
+
+// Returns the first of the places before `place` whose span overlaps that at `place`.
+fn overlapped(partials: &[Partial], place: usize) -> Option<usize>
+    requires { place < length partials.now }
+    ensures { let spans = spans_of (map contents_of partials.now) in
+        MatchOption result ((other : ℕ) → other < place → are_disjoint
+        (slice_index_or spans other None) (slice_index_or spans place None) ≡ true)
+        (λ other. DoOverlap spans place other) }
+{
+    for other in 0..place {
+        if !are_disjoint_at(partials, other, place) {
+            return Some(other);
+        }
+    }
+    None
+}
+
+/// Fails if the spans of two partials overlap. `line` is that of the span in the partial's text.
+pub(crate) fn check_spans(partials: &[Partial], line: usize) -> Result<(), PartialsFault>
+    ensures { MatchResult result (λ _. AreDisjointSpans (spans_of (map contents_of partials.now)))
+        (IsOverlap false (spans_of (map contents_of partials.now))) }
+{
+    for place in 0..partials.len() {
+        if let Some(other) = overlapped(partials, place) {
+            return Err(PartialsFault::Partial {
+                place,
+                fault: PartialFault::Overlap { line },
+                other: Some(other),
+            });
+        }
+    }
+    Ok(())
 }

@@ -7,6 +7,8 @@ use Rattle.star_program.specs.{declared.outcome.Cell.Cell, declared.outcome.Outc
 use Rattle.star_partial.specs.Contents.{Contents}
 use Rattle.star_query_meaning.specs.Answers.{shown_name}
 use Rattle.star_merge.specs.{Cells.group_of, Merged.AreOfShape, Merged.IsMergedRows}
+use Rattle.star_engine.specs.declared.fault.EngineFault.TheVariants.{OutOfMemory}
+use Rattle.star_merger.specs.declared.fault.{PartialFault.TheVariants.Overflow, PartialFault.TheVariants.Refused, PartialsFault.PartialsFault, PartialsFault.TheVariants.Engine, PartialsFault.TheVariants.Partial}
 use Rattle.star_merger.specs.Private.Shown.{IsUsable, counted, lookups_in, rows_shown, updates_in}
 
 -- the rows of the reports of some partials, one report after another
@@ -27,3 +29,10 @@ pub record IsMergedOutcome (p : Plan) (all : List Contents) (count : ℕ) (outco
   pub visits : outcome.visits ≡ count
   pub lookups : outcome.lookups ≡ counted lookups_in all
   pub updates : outcome.updates ≡ counted updates_in all
+
+-- why there is none: out of memory, a part with rows that is refused, or a total that leaves its range
+abbrev pub IsUnmerged : List Contents → PartialsFault → Type 0
+IsUnmerged all (Engine OutOfMemory) = Unit {0}
+IsUnmerged all (Partial place (Refused line) other) = ¬ All IsUsable all
+IsUnmerged all (Partial place (Overflow line) other) = Unit {0}
+IsUnmerged all _ = ⊥

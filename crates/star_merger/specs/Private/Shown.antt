@@ -6,7 +6,7 @@ use Rattle.star_schema.specs.{declared.column.ColumnId.ColumnId, declared.table.
 use Rattle.star_program.specs.{declared.outcome.Cell.Cell, declared.outcome.Outcome.Outcome}
 use Rattle.star_partial.specs.Contents.{Contents}
 use Rattle.star_merge_laws.specs.Parts.{with_lineorder}
-use Rattle.star_merger.specs.Shares.{Share}
+use Rattle.star_merger.specs.Private.Shares.{Share}
 
 -- the row counts and the bounds of the tables of a database
 pub record HasFacts (database : Database) (counts : TableId → ℕ) (ranges : ColumnId → Range)

@@ -1,7 +1,7 @@
 use Rattle.std.proofs.Common.{◌≡◌, ◌+◌, refl, rules}
 use Rattle.star_schema.specs.{declared.table.TableId.TheVariants.Lineorder, Sizes.size_of}
 use Rattle.star_partial.specs.Contents.{bounds_at}
-use Rattle.star_merger.proofs.JoinedFacts.{joined_are, joined_bounds}
+use Rattle.star_merger.proofs.JoinedFacts.{joined_are, joined_bounds, many_rows}
 use Rattle.star_merger.proofs.facts.joined.Goals as goal
 
 pub returns : goal.returns
@@ -25,3 +25,12 @@ returns c = λ database rows others h k.
     (record { rows = k.sizes Lineorder; bounds = k.bounds })) sum refl refl refl refl
     (joined_bounds partial.sizes.lineorder more.sizes.lineorder partial.bounds more.bounds joined
     c.join_bounds-bounds.ensures)
+
+pub returns-in_err-rows : goal.returns-in_err-rows
+returns-in_err-rows c = λ database rows others h k.
+    let partial = c.args.partial.now in
+    let more = c.args.more.now in
+    rw c.from_residual.ensures
+    (many_rows database rows others (size_of partial.sizes) (size_of more.sizes)
+    (size_of partial.sizes) (bounds_at partial.bounds) (bounds_at more.bounds)
+    (bounds_at partial.bounds) h k c.in_err-rows.ensures)

@@ -1,16 +1,34 @@
-use Rattle.star_engine.specs.Notes.{counts_line}
-use Rattle.star_merger.proofs.Told.{gained_both}
+use Rattle.std.proofs.Common.{◌≡◌, List, map, refl, ℕ}
+use Rattle.star_partial.specs.Contents.{contents_of}
+use Rattle.star_engine.specs.{Answered.change, Noted.Telling}
+use Rattle.star_engine.proofs.NotedAs.{noted_as}
+use Rattle.star_merger.specs.{Private.Outcomes.IsUnmerged, Private.Written.IsMergedTelling, Private.Written.telling_of}
+use Rattle.star_merger.proofs.{Results.as_noted, Results.not_merged}
 use Rattle.star_merger.proofs.merges.write_merged.Goals as goal
 
-pub returns : goal.returns
-returns g c = λ query is.
-    let outcome = c.in_ok-outcome.outcome in
-    record {
-      outcome = outcome;
-      merged = c.in_ok-outcome.ensures query is;
-      report = c.in_ok-write_run.ensures.report;
-      noted = gained_both g.N.Sink.contents g.N.Sink.is_failed c.args.notes.now
-          c.write_note.new.notes c.write_run.new.notes c.args.note.now
-          (counts_line outcome.visits outcome.lookups outcome.updates) c.in_ok-write_note.ensures
-          c.in_ok-write_run.ensures.counts;
-    }
+pub returns-in-Ok : goal.returns-in-Ok
+returns-in-Ok g c = λ query is.
+    let out = change g.S.Sink.contents g.S.Sink.is_failed c.args.out.now c.write_outcome.new.out in
+    let notes = change g.N.Sink.contents g.N.Sink.is_failed c.args.notes.now
+    c.write_outcome.new.notes in
+    let all = map contents_of c.args.partials.now in
+    let IsQuote = λ (quoted : List ℕ). quoted ≡ c.args.note.now in
+    let IsTold = IsMergedTelling is.p all c.args.rows c.args.note.now in
+    rw c.as_merge.ensures
+    (as_noted out notes IsQuote IsTold (λ fault. ⊥) (IsUnmerged all) c.write_outcome.result
+    (noted_as out notes IsQuote IsQuote
+    (λ (telling : Telling). telling ≡ telling_of c.args.note.now c.in-Ok.outcome) IsTold
+    (λ fault. ⊥) (λ fault. ⊥) c.write_outcome.result (λ quoted is. is)
+    (λ telling same.
+    record { outcome = c.in-Ok.outcome; merged = c.in-Ok.ensures.merged query is; told = same })
+    (λ fault never. never) c.write_outcome.ensures))
+
+pub returns-in-Err : goal.returns-in-Err
+returns-in-Err g c = λ query is.
+    let all = map contents_of c.args.partials.now in
+    not_merged
+    (change g.S.Sink.contents g.S.Sink.is_failed c.args.out.now c.args.out.now)
+    (change g.N.Sink.contents g.N.Sink.is_failed c.args.notes.now c.args.notes.now)
+    (λ (quoted : List ℕ). quoted ≡ c.args.note.now)
+    (IsMergedTelling is.p all c.args.rows c.args.note.now) (λ fault. ⊥) all c.in-Err.fault refl refl
+    c.in-Err.ensures.failed

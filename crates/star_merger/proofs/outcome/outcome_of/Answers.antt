@@ -6,8 +6,8 @@ use Rattle.star_merger.specs.Private.Outcomes.{all_shown, groups_of}
 use Rattle.star_merger.proofs.Outcomes.{mapped, names_shown}
 use Rattle.star_merger.proofs.outcome.outcome_of.Goals as goal
 
-pub returns-in-Ok : goal.returns-in-Ok
-returns-in-Ok c = λ query is.
+pub returns-in-Ok-clause-merged : goal.returns-in-Ok-clause-merged
+returns-in-Ok-clause-merged c = λ query is.
     let all = map contents_of c.args.partials.now in
     let shows = c.as_slice.ensures ∙ ap (λ parts. parts.shows) (c.parts.ensures.same ∙ is.program) in
     let shown = ap (map (λ rows. rows.now)) c.deref-2.ensures.value

@@ -1,42 +1,140 @@
-use Rattle.std.proofs.Common.{◌∙◌, ◌≡◌, None, arith, map, subst}
+use Rattle.std.proofs.Common.{◌≡◌, ◌∙◌, List, None, ◌∷◌, arith, map, refl, subst, sym, ℕ}
+use Rattle.std.specs.List.{All}
+use Rattle.star_schema.specs.Loadable.{database_of}
 use Rattle.star_schema.specs.declared.table.TableId.TheVariants.{Lineorder}
-use Rattle.star_partial.specs.Contents.{contents_of}
+use Rattle.star_partial.specs.Contents.{Contents, contents_of}
+use Rattle.star_program.specs.World.{World}
 use Rattle.star_safety.specs.Admissible.{first_refusal}
+use Rattle.star_verify.specs.{Facts.AreFacts, Views.refusal_view}
 use Rattle.star_world.specs.WorldOf.{world_of}
 use Rattle.star_compile_laws.specs.Compiled.{compiled}
-use Rattle.star_engine.specs.{Answered.change, Noted.HasTold, Queries.IsQueryToldOver}
-use Rattle.star_merger.specs.{Private.Written.IsWritten, Shares.whole_of}
-use Rattle.star_merger.proofs.{JoinedFacts.are_facts, TextBytes.quote_some, Told.fits, Told.merged, Told.on_ok, Whole.own_facts}
+use Rattle.star_engine.specs.{Answered.change, Queries.IsQueryQuote, Queries.IsQueryTold, Queries.IsUnanswered}
+use Rattle.star_merger.specs.{Merged.IsOverlap, Merged.spans_of, Private.Checked.AreChecked, Private.Outcomes.IsUnmerged, Private.Shown.IsUsable, Private.Written.IsMergedTelling}
+use Rattle.star_merger.specs.TextShares.{whole_texts}
+use Rattle.star_merger.proofs.JoinedFacts.{are_facts}
+use Rattle.star_merger.proofs.Results.{as_noted, merged_as, none_fits, not_checked, only_overflow, refused_after, unfit}
+use Rattle.star_merger.proofs.TextBytes.{quote_some}
+use Rattle.star_merger.proofs.TextParts.{all_dimensions, contents_same, own_shares, row_share, row_shares}
+use Rattle.star_merger.proofs.Told.{loadable, loaded, quote_due, refusal_due, telling_due, too_many_due, whole_rows}
+use Rattle.star_merger.proofs.Usable.{usable}
+use Rattle.star_merger.proofs.Whole.{own_facts}
 use Rattle.star_merger.proofs.merger.Merger.merge.Goals as goal
-
-pub write_note-requires : goal.write_note-requires
-write_note-requires g c =
-    rw (c.as_bytes-in-Err.ensures.value ∙ c.in_ok-note.ensures) (quote_some c.from-rows.result)
 
 pub write_merged-requires : goal.write_merged-requires
 write_merged-requires g c =
-    rw (c.as_bytes.ensures.value ∙ c.in_ok-note.ensures) (quote_some c.from-rows.result)
+    rw (c.as_bytes.ensures.value ∙ c.in-Ok-quote_note.ensures) (quote_some c.from-rows.result)
 
-pub returns-in-Ok : goal.returns-in-Ok
-returns-in-Ok g c = λ query most database shares is are loaded same.
+pub write_refused-requires : goal.write_refused-requires
+write_refused-requires g c =
+    rw (c.as_bytes-in-Err-forecast.ensures.value ∙ c.in-Ok-quote_note.ensures)
+    (quote_some c.from-rows.result)
+
+pub returns-in-Err : goal.returns-in-Err
+returns-in-Err g c = λ query hash texts share shares is are same distinct.
+    let rows = c.args.limits.rows in
     let visits = c.args.limits.visits in
-    let whole = whole_of database shares in
-    let facts = c.in_ok-facts.facts in
-    let has = c.in_ok-facts.ensures database shares same
-    (own_facts most database query is.p is.meant shares are) in
-    let none : first_refusal (world_of whole) visits (compiled is.p) ≡ None =
-    subst (λ program. first_refusal (world_of whole) visits program ≡ None) is.program
-    (c.in-Ok.ensures.accepted (world_of whole) (are_facts whole facts (omega arith) has)) in
-    let fitting = fits visits whole query is.p
-    (c.queries_that_fit_are_answered.ensures.accepted visits whole query is.p loaded is.meant)
-    (c.admissible_programs_within_the_limit_are_not_refused.ensures (world_of whole) visits
-    (compiled is.p)) none in
-    let out = change g.S.Sink.contents g.S.Sink.is_failed c.args.out.now c.write_merged.new.out in
-    let notes = change g.N.Sink.contents g.N.Sink.is_failed c.args.notes.now
-    c.write_merged.new.notes in
+    let whole = whole_texts texts (share ∷ shares) in
+    let own = own_shares rows visits texts query hash (share ∷ shares) are in
+    not_checked (change g.S.Sink.contents g.S.Sink.is_failed c.args.out.now c.args.out.now)
+    (change g.N.Sink.contents g.N.Sink.is_failed c.args.notes.now c.args.notes.now)
+    (IsQueryQuote rows whole query) (IsQueryTold rows visits whole query)
+    (IsUnanswered rows visits whole query) rows
+    (whole_rows rows visits texts query hash share shares are) c.args.is_distinct
+    (spans_of (map contents_of c.args.partials.now)) c.in-Err.fault
+    (too_many_due rows visits texts query hash share shares are is.p is.meant) refl refl
+    (c.in-Err.ensures hash (database_of texts) (row_share share) (row_shares shares)
+    (same ∙ contents_same (share ∷ shares))
+    (own_facts visits (database_of texts) query is.p is.meant (row_shares (share ∷ shares)) own)
+    (all_dimensions rows visits texts query hash (share ∷ shares) c.args.partials.now are same))
+
+pub returns-in-Ok-forecast : goal.returns-in-Ok-forecast
+returns-in-Ok-forecast g c = λ query hash texts share shares is are same distinct.
+    let rows = c.args.limits.rows in
+    let visits = c.args.limits.visits in
+    let whole = whole_texts texts (share ∷ shares) in
+    let over = whole_rows rows visits texts query hash share shares are in
+    let facts = c.in-Ok.facts in
     let all = map contents_of c.args.partials.now in
-    on_ok (IsWritten is.p all c.from-rows.result c.as_bytes.result.now out notes)
-    (HasTold out notes (IsQueryToldOver visits whole query)) c.write_merged.result
-    (merged out notes most visits c.from-rows.result c.as_bytes.result.now database query is.p
-    is.meant shares all are same (c.from-rows.ensures ∙ has.sizes Lineorder)
-    (c.as_bytes.ensures.value ∙ c.in_ok-note.ensures) fitting) (c.write_merged.ensures query is)
+    let own = own_shares rows visits texts query hash (share ∷ shares) are in
+    let checked = c.in-Ok.ensures hash (database_of texts) (row_share share) (row_shares shares)
+    (same ∙ contents_same (share ∷ shares))
+    (own_facts visits (database_of texts) query is.p is.meant (row_shares (share ∷ shares)) own)
+    (all_dimensions rows visits texts query hash (share ∷ shares) c.args.partials.now are same) in
+    let loads = loadable rows visits texts query hash share shares are c.args.is_distinct facts
+    (subst (λ (all : List Contents). AreChecked rows over c.args.is_distinct (spans_of all) facts) same
+    checked) distinct in
+    let none : first_refusal (world_of over) visits (compiled is.p) ≡ None =
+    subst (λ program. first_refusal (world_of over) visits program ≡ None) is.program
+    (c.in-Ok-forecast.ensures.accepted (world_of over)
+    (are_facts over facts (omega arith) checked.known)) in
+    let fits = none_fits visits over query is.p is.meant
+    (c.queries_that_fit_are_answered.ensures.accepted visits over query is.p
+    (loaded rows visits texts query hash share shares are loads is.p is.meant) is.meant)
+    (c.admissible_programs_within_the_limit_are_not_refused.ensures (world_of over) visits
+    (compiled is.p)) none in
+    let count = c.from-rows.result in
+    let note = c.as_bytes.result.now in
+    let counted = c.from-rows.ensures ∙ checked.known.sizes Lineorder in
+    let quoted = c.as_bytes.ensures.value ∙ c.in-Ok-quote_note.ensures in
+    merged_as (change g.S.Sink.contents g.S.Sink.is_failed c.args.out.now c.write_merged.new.out)
+    (change g.N.Sink.contents g.N.Sink.is_failed c.args.notes.now c.write_merged.new.notes)
+    (λ (quoted : List ℕ). quoted ≡ note) (IsQueryQuote rows whole query)
+    (IsMergedTelling is.p all count note) (IsQueryTold rows visits whole query)
+    (λ fault. ⊥) (IsUnanswered rows visits whole query) (IsUnmerged all)
+    (IsOverlap c.args.is_distinct (spans_of all)) c.write_merged.result
+    (λ text e. quote_due rows visits texts query hash share shares are loads is.p is.meant count note
+    text counted quoted e)
+    (λ telling told. telling_due rows visits texts query hash share shares are loads is.p is.meant count
+    note all telling same counted quoted fits told)
+    (λ fault never. absurd never)
+    (only_overflow all c.args.is_distinct (spans_of all)
+    (subst (All IsUsable) (sym (same ∙ contents_same (share ∷ shares)))
+    (usable visits (database_of texts) query is.p is.meant (row_shares (share ∷ shares)) own fits)))
+    (c.write_merged.ensures query is)
+
+pub returns : goal.returns
+returns g c = λ query hash texts share shares is are same distinct.
+    let rows = c.args.limits.rows in
+    let visits = c.args.limits.visits in
+    let whole = whole_texts texts (share ∷ shares) in
+    let over = whole_rows rows visits texts query hash share shares are in
+    let facts = c.in-Ok.facts in
+    let all = map contents_of c.args.partials.now in
+    let own = own_shares rows visits texts query hash (share ∷ shares) are in
+    let checked = c.in-Ok.ensures hash (database_of texts) (row_share share) (row_shares shares)
+    (same ∙ contents_same (share ∷ shares))
+    (own_facts visits (database_of texts) query is.p is.meant (row_shares (share ∷ shares)) own)
+    (all_dimensions rows visits texts query hash (share ∷ shares) c.args.partials.now are same) in
+    let loads = loadable rows visits texts query hash share shares are c.args.is_distinct facts
+    (subst (λ (all : List Contents). AreChecked rows over c.args.is_distinct (spans_of all) facts) same
+    checked) distinct in
+    let laws = c.queries_that_fit_are_answered.ensures in
+    let known = are_facts over facts (omega arith) checked.known in
+    let note = c.as_bytes-in-Err-forecast.result.now in
+    let out = change g.S.Sink.contents g.S.Sink.is_failed c.args.out.now c.args.out.now in
+    let notes = change g.N.Sink.contents g.N.Sink.is_failed c.args.notes.now
+    c.write_refused.new.notes in
+    rw c.as_merge.ensures
+    (as_noted out notes (IsQueryQuote rows whole query) (IsQueryTold rows visits whole query)
+    (IsUnanswered rows visits whole query) (IsOverlap c.args.is_distinct (spans_of all))
+    c.write_refused.result
+    (refused_after out notes (IsQueryQuote rows whole query) (IsQueryTold rows visits whole query)
+    (IsUnanswered rows visits whole query) note c.in-Err-forecast.refusal
+    ((w : World) → AreFacts w facts
+    → first_refusal w visits c.args.self.now.program ≡ refusal_view c.in-Err-forecast.refusal)
+    c.write_refused.result c.in-Err-forecast.ensures.refused
+    (λ told not_memory. refusal_due rows visits texts query hash share shares are loads is.p is.meant
+    c.in-Err-forecast.refusal
+    (unfit visits over query is.p is.meant
+    (laws.accepted visits over query is.p
+    (loaded rows visits texts query hash share shares are loads is.p is.meant) is.meant)
+    (c.admissible_programs_within_the_limit_are_not_refused.ensures (world_of over) visits
+    (compiled is.p)) c.in-Err-forecast.refusal (laws.costly visits over is.p)
+    (laws.wide visits over query is.p is.meant) (laws.first visits over query is.p is.meant)
+    (subst (λ program. first_refusal (world_of over) visits program
+    ≡ refusal_view c.in-Err-forecast.refusal) is.program (told (world_of over) known)) not_memory))
+    refl
+    (quote_due rows visits texts query hash share shares are loads is.p is.meant c.from-rows.result
+    note note (c.from-rows.ensures ∙ checked.known.sizes Lineorder)
+    (c.as_bytes-in-Err-forecast.ensures.value ∙ c.in-Ok-quote_note.ensures) refl)
+    c.write_refused.ensures))
