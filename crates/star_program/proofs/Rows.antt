@@ -1,5 +1,5 @@
 -- Rows in flat storage: how many there are, what stands at a number, and what is gathered.
-use Rattle.std.proofs.Common.{◌≡◌, ◌<◌, ◌≤◌, ◌*◌, ◌+◌, ℕ, zero, suc, List, [], ◌∷◌, ◌++◌, length, map, get_or, take, drop, ap, sym, refl, ◌∙◌, arith}
+use Rattle.std.proofs.Common.{◌≡◌, ◌<◌, ◌≤◌, ◌*◌, ◌+◌, ℕ, zero, suc, List, [], ◌∷◌, length, map, get_or, take, drop, ap, sym, refl, ◌∙◌, arith}
 use Rattle.std.proofs.{lemmas.List.drop-drop, lemmas.List.get_or_past, lemmas.List.length-append, Math.Nat.add_comm, Math.Nat.suc-mul, Math.Nat.zero-mul, Math.Seq.drop-append_seam, Math.Seq.take-append_seam}
 use Rattle.std.specs.List.{flat_map}
 use Rattle.star_program.specs.Rows.{cut}
@@ -35,9 +35,4 @@ module _ {A B : Type 0} (w : ℕ) (row : B → List A) (wide : (x : B) → lengt
   pub cut_rows : (xs : List B) → cut w (length xs) (flat_map row xs) ≡ map row xs
   unfolding cut
   cut_rows [] = refl
-  cut_rows (x ∷ xs) =
-      let rest = flat_map row xs in
-      (λ i. (ap (λ m. take m (row x ++ rest)) (sym (wide x)) ∙ take-append_seam (row x) rest) i
-      ∷ cut w (length xs) ((ap (λ m. drop m (row x ++ rest)) (sym (wide x))
-      ∙ drop-append_seam (row x) rest) i))
-      ∙ ap (λ rows. row x ∷ rows) (cut_rows xs)
+  cut_rows (x ∷ xs) = grind (arith, cut_rows xs, take-append_seam, drop-append_seam)

@@ -32,21 +32,19 @@ fn push_line(columns: &mut [RawColumn], line: &[u8]) -> Result<bool, AllocError>
         (record_fault (map raw_kind columns.old) at_row (fields_of line.now) ≢ None)) }
     ensures kinds { map raw_kind columns.new ≡ map raw_kind columns.old }
 {
-    let mut at = 0;
+    let mut rest = line;
     for place in 0..columns.len() {
-        if at > line.len() {
-            return Ok(false);
-        }
         let column = &mut columns[place];
-        match column.push_front(from(line, at))? {
-            Some(count) => at += count + 1,
+        let count = match column.push_front(rest)? {
+            Some(count) => count,
             None => return Ok(false),
+        };
+        if count >= rest.len() {
+            return Ok(place + 1 == columns.len());
         }
+        rest = from(rest, count + 1);
     }
-    if at < line.len() {
-        return Ok(false);
-    }
-    Ok(true)
+    Ok(rest.is_empty())
 }
 
 // The fields of a line.

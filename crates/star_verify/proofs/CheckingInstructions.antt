@@ -1,6 +1,6 @@
 -- What an instruction is answered, and what a put leaves.
-use Rattle.std.proofs.Common.{◌≡◌, ◌+◌, ◌*◌, ◌<◌, ◌≤◌, ◌⊎◌, ℕ, Bool, true, false, List, [], ◌∷◌, ◌++◌, length, Option, Some, None, inl, inr, ⊎_elim, arith, refl, ap, sym, subst, ◌∙◌}
-use Rattle.star_verify.proofs.Common.{Aggregate, All, All-get_or, Context, HasKeyShares, HasShares, IsSmall, IsTally, IsTallyAt, Parts, Plain, Put, Reason, Share, Tally, World, after_op, at_place, eqb_tells, get_or-map, group_at, if◌then◌else◌, key_share, known_share, ltb-false, ltb-true, map, nat_lt, numbers_known, option_or, put_share, slice_index_or}
+use Rattle.std.proofs.Common.{◌≡◌, ◌+◌, ◌*◌, ◌<◌, ◌≤◌, ◌⊎◌, ℕ, Bool, List, [], ◌∷◌, ◌++◌, length, Option, Some, None, ⊎_elim, arith, ap, sym, subst, ◌∙◌}
+use Rattle.star_verify.proofs.Common.{Aggregate, All, All-get_or, Context, HasKeyShares, HasShares, IsSmall, IsTally, IsTallyAt, Parts, Plain, Put, Reason, Share, Tally, World, after_op, at_place, eqb_tells, get_or-map, group_at, if◌then◌else◌, key_share, known_share, ltb-false, ltb-true, map, numbers_known, option_or, put_share, slice_index_or}
 use Rattle.star_safety.specs.Ranges as ranges
 
 -- ---- the first of two reasons
@@ -17,15 +17,7 @@ second_found at found rest r e f = λ i. at_place at (option_or (e i) (f i))
 
 apart : (h g a n : ℕ) → ((h ≡ g) → ⊥) → a < 8 → n ≤ 8
     → (8 * h + a < 8 * g) ⊎ (8 * g + n ≤ 8 * h + a)
-apart h g a n other small few = below (nat_lt h g) refl
-  where
-    above : (b : Bool) → nat_lt g h ≡ b → g ≤ h → (8 * h + a < 8 * g) ⊎ (8 * g + n ≤ 8 * h + a)
-    above true e le = inr (omega (arith, ltb-true g h e, few))
-    above false e le = absurd (other (omega (arith, ltb-false g h e, le)))
-
-    below : (b : Bool) → nat_lt h g ≡ b → (8 * h + a < 8 * g) ⊎ (8 * g + n ≤ 8 * h + a)
-    below true e = inl (omega (arith, ltb-true h g e, small))
-    below false e = above (nat_lt g h) refl (ltb-false h g e)
+apart h g a n other small few = grind (arith, ltb-true, ltb-false)
 
 module _ (w : World) (parts : Parts) (x : Context) (old new : List Tally) (g met : ℕ)
     (ks vs values : List ℕ) (gs : List Aggregate) (table : ranges.AllKnown) where

@@ -1,6 +1,6 @@
 -- What is first of the steps of a body, one step after another.
 use Rattle.std.proofs.Common.{◌≡◌, ◌+◌, ◌-◌, ◌≤◌, ◌<◌, ℕ, Bool, List, [], ◌∷◌, length, take, drop, get_or, Option, Some, None, Result, arith, refl, ap, sym, subst, ◌∙◌}
-use Rattle.star_verify.proofs.Common.{Act, AreFewAt, AreRecorded, AreRemainingSteps, AreStepsChecked, Code, Context, Each, GivenSteps, InEachContext, IsFirst, IsPositionOf, IsSized, KeepsContext, Op, Parts, Position, Reason, Refusal, Scan, Step, Stop, TableId, VerifierState, World, after_op, after_scan, after_step, at_end, at_place, before, code_of_steps, code_puts_to, code_size, first_reason, in_scan, op_reason, open_with, option_or, scan_first, scan_reason, size_of, step_first, step_size, turns_met, ◌||◌}
+use Rattle.star_verify.proofs.Common.{Act, AreFewAt, AreRecorded, AreRemainingSteps, AreStepsChecked, Code, Context, Each, GivenSteps, InEachContext, IsFirst, IsPositionOf, IsSized, KeepsContext, Op, Parts, Position, Reason, Refusal, Scan, Step, Stop, TableId, VerifierState, World, after_op, after_scan, after_step, at_end, at_place, before, code_of_steps, code_puts_to, code_size, first_reason, in_scan, op_reason, open_with, option_or, scan_first, size_of, step_first, step_size, turns_met, ◌||◌}
 use Rattle.star_verify.specs.declared.refusal.Refusal.TheVariants as told
 use Rattle.star_verify.proofs.Firsts.{first_and_others}
 use Rattle.star_verify.proofs.Marks.{or_assoc as either_assoc}
@@ -30,10 +30,7 @@ turns_after size met (Scan table r body) rest = omega arith
 
 pub first_of : (refusal : Refusal) (p q : Option (ℕ × Reason)) → IsFirst refusal p
     → IsFirst refusal (option_or p q)
-first_of told.OutOfMemory p q h = tt
-first_of (told.TooCostly n) p q h = absurd h
-first_of (told.Refused at reason) p q h = ap (λ o. option_or o q) h
-first_of (told.BadShow n) p q h = absurd h
+first_of it p q h = grind arith
 
 or_assoc : {A : Type 0} (p q r : Option A)
     → option_or (option_or p q) r ≡ option_or p (option_or q r)
@@ -45,15 +42,7 @@ module _ (w : World) (parts : Parts) (pending : ℕ → Bool) (x : Context) (at 
       → first_reason w parts pending x at (before step rest)
       ≡ option_or (step_first w parts pending x at step rest)
       (first_reason w parts pending (after_step w parts x step) (at + step_size step) rest)
-  first_step (Act op) rest = refl
-  first_step (Scan table r body) rest =
-      let there = after_step w parts x (Scan table r body) in
-      let inside = open_with pending (before (Scan table r body) rest) in
-      sym (or_assoc (at_place at (scan_reason parts x r))
-      (first_reason w parts inside (in_scan w x table r) (at + 1) body)
-      (first_reason w parts pending there (at + 1 + code_size body) rest))
-      ∙ ap (λ n. option_or (step_first w parts pending x at (Scan table r body) rest)
-      (first_reason w parts pending there n rest)) (omega arith)
+  first_step it rest = grind (arith, before, or_assoc, at_place)
 
   end_first : (step : Step) (rest : Code)
       → at_end w parts x (before step rest) ≡ at_end w parts (after_step w parts x step) rest

@@ -42,12 +42,4 @@ module _ (old mid new : List Tally) (first met n : ℕ) (one : Option ranges.Kno
       → slice_index_or new p t ≡ slice_index_or mid p t)
       → (p : ℕ) (t : Tally) → IsBounded (slice_index_or old p t)
       → IsTallyGrown (slice_index_or old p t) (slice_index_or new p t) met
-  grown_more add keep contribute leave p t bounded = ⊎_elim
-      (λ e. let here = subst (λ q.
-      IsTallyGrown (slice_index_or old q t) (slice_index_or mid q t) met) (sym e.1) (add t) in
-      subst (λ tally. IsTallyGrown (slice_index_or old p t) tally met)
-      (sym (leave p t (inl (omega (arith, e.1))))) here)
-      (λ e. let same = keep p t e.1 in
-      subst (λ tally. IsTallyGrown tally (slice_index_or new p t) met) same
-      (contribute p t (subst IsBounded (sym same) bounded)))
-      (eqb_tells p first)
+  grown_more add keep contribute leave p t bounded = grind (arith, ⊎_elim, eqb_tells)

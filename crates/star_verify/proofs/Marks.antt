@@ -1,6 +1,7 @@
 -- Groups that are marked, one after another.
-use Rattle.std.proofs.Common.{◌≡◌, ◌<◌, ℕ, Bool, true, false, List, length, get_or, ap, sym, ◌∙◌, ⊎_elim, refl}
-use Rattle.star_verify.proofs.Common.{eqb_tells, get_or-set_other, get_or-set_same, nat_eq, slice_set, ◌||◌}
+use Rattle.std.proofs.Common.{◌≡◌, ◌<◌, ℕ, Bool, true, false, List, length, get_or, ap, sym, ◌∙◌, ⊎_elim, refl, arith}
+use Rattle.star_verify.proofs.Common.{get_or-set_other, get_or-set_same, nat_eq, slice_set, ◌||◌}
+use Rattle.std.proofs.lemmas.Grind.{common_steps}
 
 pub or_none : (a : Bool) → a || false ≡ a
 or_none true = refl
@@ -16,12 +17,8 @@ or_assoc false b c = refl
 
 pub marked_at : (xs : List Bool) (t g : ℕ) → t < length xs
     → get_or (slice_set xs t true) g false ≡ get_or xs g false || nat_eq g t
-marked_at xs t g h = ⊎_elim
-    (λ p. ap (λ q. get_or (slice_set xs t true) q false) p.1 ∙ get_or-set_same xs t true false h
-    ∙ sym (ap (λ b. get_or xs g false || b) p.0 ∙ or_all (get_or xs g false)))
-    (λ p. get_or-set_other xs t g true false p.1
-    ∙ sym (ap (λ b. get_or xs g false || b) p.0 ∙ or_none (get_or xs g false)))
-    (eqb_tells g t)
+marked_at xs t g h =
+    grind (arith, common_steps, ⊎_elim, get_or-set_same, or_all, get_or-set_other, or_none)
 
 -- one more step
 pub marked_more : (now old op rest left all : Bool) → now ≡ old || op → left ≡ op || rest

@@ -1,7 +1,8 @@
 -- What arithmetic makes of two registers, and where it leaves 64 bits.
-use Rattle.std.proofs.Common.{◌≡◌, Bool, true, false, Option, Some, None, Result, ap, subst, ◌∙◌, refl}
-use Rattle.star_verify.proofs.Common.{Beyond, FitsI64, Known, MatchResult, Overflow, Range, World, corner_range, fits_i64, fits_i64_fits, not, overflow_of, reach_view, reached, refuses, ℤ}
+use Rattle.std.proofs.Common.{◌≡◌, Option, Some, None, Result, ap, arith}
+use Rattle.star_verify.proofs.Common.{Beyond, FitsI64, Known, MatchResult, Overflow, Range, World, corner_range, fits_i64_fits, not, overflow_of, reach_view, reached, refuses, ℤ}
 use Rattle.star_safety.specs.Ranges as ranges
+use Rattle.std.proofs.lemmas.Int.{ints}
 
 module _ (w : World) (r : Range) (reach : ranges.Reach) where
   pub fitting : FitsI64 r → overflow_of w (ranges.KnownNumber r reach None) ≡ None
@@ -11,13 +12,7 @@ module _ (w : World) (r : Range) (reach : ranges.Reach) where
   pub leaving : (FitsI64 r → ⊥)
       → overflow_of w (ranges.KnownNumber r reach None)
       ≡ Some (Overflow r.low r.high (reached w reach))
-  leaving none = go (fits_i64 r) refl
-    where
-      go : (b : Bool) → fits_i64 r ≡ b
-          → refuses (not b) (Overflow r.low r.high (reached w reach))
-          ≡ Some (Overflow r.low r.high (reached w reach))
-      go true e = absurd (none ((fits_i64_fits r).0 e))
-      go false e = refl
+  leaving none = grind (arith, refuses, reached, fits_i64_fits)
 
 pub computed_is : (operation : ℤ → ℤ → ℤ) (b from to : Range)
     (reach on_left on_right : ranges.Reach)
@@ -26,12 +21,7 @@ pub computed_is : (operation : ℤ → ℤ → ℤ) (b from to : Range)
     → reach ≡ ranges.joined_reach on_left on_right
     → on_left ≡ ranges.reach_at left → on_right ≡ ranges.reach_at right
     → ranges.KnownNumber b reach None ≡ ranges.known_arithmetic operation left right
-computed_is operation b from to reach on_left on_right left right e f g h j k =
-    let ends : b ≡ corner_range operation (ranges.range_at left) (ranges.range_at right) =
-    e ∙ (λ i. corner_range operation (f i) (g i)) in
-    let columns : reach ≡ ranges.joined_reach (ranges.reach_at left) (ranges.reach_at right) =
-    h ∙ (λ i. ranges.joined_reach (j i) (k i)) in
-    λ i. ranges.KnownNumber (ends i) (columns i) None
+computed_is operation b from to reach on_left on_right left right e f g h j k = grind (arith, ints)
 
 -- what leaves 64 bits is told by its range and its columns
 pub overflow_as : (w : World) (result : Result Known Beyond) (k made : ranges.Known) → k ≡ made
@@ -41,8 +31,4 @@ pub overflow_as : (w : World) (result : Result Known Beyond) (k made : ranges.Kn
     → MatchResult result (λ _. overflow_of w made ≡ None)
     (λ beyond. overflow_of w made
     ≡ Some (Overflow beyond.range.low beyond.range.high (reached w (reach_view beyond.reach))))
-overflow_as w result k made e h =
-    subst (λ (m : ranges.Known). MatchResult result (λ _. overflow_of w m ≡ None)
-    (λ beyond. overflow_of w m
-    ≡ Some (Overflow beyond.range.low beyond.range.high (reached w (reach_view beyond.reach)))))
-    e h
+overflow_as w result k made e h = grind (arith, reached)

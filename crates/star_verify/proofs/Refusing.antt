@@ -1,6 +1,6 @@
 -- What refuses a program first.
-use Rattle.std.proofs.Common.{◌≡◌, ◌<◌, ◌≤◌, ℕ, Option, Some, inl, inr, ap, refl, sym, subst, ◌∙◌}
-use Rattle.star_verify.proofs.Common.{AreFacts, Facts, IsFirst, Parts, Reason, Refusal, UnlessMemory, World, at_first, cost_refusal, first_answer, first_reason, first_refusal, first_standing, instructions_of, le-leb, lt-leb, none_open, option_map, option_or, quote, reason_of, refusal_view, shown_fault, size_of}
+use Rattle.std.proofs.Common.{◌≡◌, ◌<◌, ◌≤◌, ℕ, Option, Some, inl, inr, ap, refl, ◌∙◌, arith}
+use Rattle.star_verify.proofs.Common.{AreFacts, Facts, IsFirst, Parts, Reason, Refusal, UnlessMemory, World, at_first, first_reason, first_refusal, first_standing, le-leb, lt-leb, none_open, option_map, option_or, quote, refusal_view, shown_fault, size_of}
 use Rattle.star_safety.specs.Admissible as admissible
 use Rattle.star_verify.specs.declared.refusal.Refusal.TheVariants as told
 
@@ -17,12 +17,7 @@ module _ (w : World) (most : ℕ) (parts : Parts) (facts : Facts) (are : AreFact
       (option_map admissible.BadShow line)
 
   pub too_costly : most < visits → first_refusal w most parts ≡ Some (admissible.TooCostly visits)
-  too_costly over =
-      let same = same_quote w facts are parts visits quoted in
-      subst (λ n. first_refusal w most parts ≡ Some (admissible.TooCostly n)) (sym same)
-      (ap (λ cheap. option_or (cost_refusal (quote w.size parts) cheap)
-      (later (first_answer (reason_of w parts) (instructions_of w parts)) (shown_fault parts)))
-      (lt-leb (quote w.size parts) most (subst (λ n. most < n) same over)))
+  too_costly over = grind (arith, same_quote, lt-leb)
 
   -- within the limit, the instructions decide, and then the report
   pub within : (held : Parts) → held ≡ parts → visits ≤ most
@@ -30,13 +25,7 @@ module _ (w : World) (most : ℕ) (parts : Parts) (facts : Facts) (are : AreFact
       → first_reason w held none_open at_first 1 held.body ≡ reason → shown_fault held ≡ line
       → first_refusal w most parts ≡ later reason line
   within held is cheap reason line first shown =
-      let same = same_quote w facts are parts visits quoted in
-      ap (λ b. option_or (cost_refusal (quote w.size parts) b)
-      (later (first_answer (reason_of w parts) (instructions_of w parts)) (shown_fault parts)))
-      (le-leb (quote w.size parts) most (subst (λ n. n ≤ most) same cheap))
-      ∙ ap (λ r. later r (shown_fault parts)) (sym (first_standing w parts)
-      ∙ subst (λ p. first_reason w p none_open at_first 1 p.body ≡ reason) is first)
-      ∙ ap (later reason) (ap shown_fault (sym is) ∙ shown)
+      grind (arith, same_quote, le-leb, first_standing, at_first)
 
   -- what a check tells of the instructions
   pub first_told : (held : Parts) → held ≡ parts → visits ≤ most → (refusal : Refusal)

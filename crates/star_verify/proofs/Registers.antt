@@ -1,19 +1,11 @@
 -- Registers in a list.
-use Rattle.std.proofs.Common.{◌≡◌, ℕ, ◌<◌, List, [], ◌∷◌, zero, suc, length, Some, sym, ap, ◌∙◌, ⊎_elim, get_or, refl}
-use Rattle.star_verify.proofs.Common.{Known, Register, eqb_tells, get_or-set_other, get_or-set_same, if◌then◌else◌, kind_known, kinds_known, known_in, known_of, known_view, nothing_known, register_kinds, slice_set, with_entry}
+use Rattle.std.proofs.Common.{◌≡◌, ℕ, ◌<◌, List, [], ◌∷◌, zero, suc, length, Some, ⊎_elim, refl, arith}
+use Rattle.star_verify.proofs.Common.{Known, Register, eqb_tells, get_or-set_other, get_or-set_same, kind_known, kinds_known, known_in, known_view, register_kinds, slice_set, with_entry}
 
 known_set_at : (xs : List Register) (t : ℕ) (k : Known) (r : ℕ) → t < length xs
     → known_in (slice_set xs t (record { known = Some k })) r
     ≡ with_entry (known_in xs) t (known_view k) r
-known_set_at xs t k r h =
-    let new : Register = record { known = Some k } in
-    ⊎_elim
-    (λ p. ap (λ q. known_of (get_or (slice_set xs t new) q nothing_known)) p.1
-    ∙ ap known_of (get_or-set_same xs t new nothing_known h)
-    ∙ ap (λ b. if b then Some (known_view k) else known_in xs r) (sym p.0))
-    (λ p. ap known_of (get_or-set_other xs t r new nothing_known p.1)
-    ∙ ap (λ b. if b then Some (known_view k) else known_in xs r) (sym p.0))
-    (eqb_tells r t)
+known_set_at xs t k r h = grind (arith, ⊎_elim, get_or-set_same, get_or-set_other, eqb_tells)
 
 -- a register that is written
 pub known_set : (xs : List Register) (t : ℕ) (k : Known) → t < length xs

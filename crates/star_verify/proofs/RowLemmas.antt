@@ -1,18 +1,15 @@
 -- The rows of all groupings, key by key.
-use Rattle.std.proofs.Common.{◌≡◌, ℕ, zero, suc, ◌+◌, ◌*◌, ◌-◌, ◌^◌, ◌≤◌, ◌<◌, Bool, true, false, List, [], ◌∷◌, Option, Some, None, length, map, refl, sym, ap, ◌∙◌, arith, inl, inr, ⊎_elim}
-use Rattle.star_verify.proofs.Common.{AgreeUpTo, Cube, MayHide, Parts, Plain, Rollup, Shape, World, all_key_shares, each_values, filter-append, group_at, grouping_goes_on, groupings, if◌then◌else◌, ints, is_grouping, is_none, leb-false, lesser, list_all, lists_of, masks, may_hide, may_show, most_of, most_report_rows, mul-le-mul_left, mul_assoc, nat_le, negsuc, not, numbers_to, pos, rows_behind, rows_of_grouping, rows_of_groupings, rows_of_rest, sum_by, sum_by-append, sum_by-cons, unsigned_abs, width, ℤ, ◌&&◌, ◌-ℤ◌, ◌≤ℤ◌}
+use Rattle.std.proofs.Common.{◌≡◌, ℕ, zero, suc, ◌+◌, ◌*◌, ◌-◌, ◌^◌, ◌≤◌, ◌<◌, Bool, true, false, List, [], ◌∷◌, Option, Some, None, length, map, refl, ap, ◌∙◌, arith, inl, inr, ⊎_elim}
+use Rattle.star_verify.proofs.Common.{AgreeUpTo, Cube, MayHide, Parts, Plain, Rollup, Shape, World, filter-append, group_at, grouping_goes_on, groupings, if◌then◌else◌, ints, is_grouping, is_none, leb-false, lesser, list_all, lists_of, masks, may_hide, may_show, most_report_rows, mul-le-mul_left, mul_assoc, nat_le, rows_behind, rows_of_grouping, rows_of_groupings, rows_of_rest, sum_by, sum_by-append, sum_by-cons, unsigned_abs, width, ℤ, ◌-ℤ◌, ◌≤ℤ◌}
 use Rattle.std.specs.Prelude.{filter}
+use Rattle.std.proofs.lemmas.Grind.{common_steps}
 
 -- ---- the width of a range
 
 pub width_is : (low high : ℤ) → low ≤ℤ high
     → width (record { low = low; high = high }) ≡ unsigned_abs (high -ℤ low) + 1
 unfolding width
-width_is low high h = by (high -ℤ low) refl
-  where
-    by : (d : ℤ) → high -ℤ low ≡ d → numbers_to d ≡ unsigned_abs d + 1
-    by (pos n) e = omega arith
-    by (negsuc n) e = absurd (omega (arith, ints, h))
+width_is low high h = grind (arith, ints)
 
 -- ---- numbers past all counts of updates
 
@@ -50,16 +47,7 @@ module _ {X : Type 0} where
   sum_mapped : {Y : Type 0} (f : Y → ℕ) (p : Y → Bool) (g : X → Y) (xs : List X)
       → sum_by f (filter p (map g xs)) ≡ sum_by (λ x. f (g x)) (filter (λ x. p (g x)) xs)
   sum_mapped f p g [] = refl
-  sum_mapped f p g (x ∷ xs) = by (p (g x)) (sum_mapped f p g xs)
-    where
-      by : (b : Bool)
-          → sum_by f (filter p (map g xs)) ≡ sum_by (λ x. f (g x)) (filter (λ x. p (g x)) xs)
-          → sum_by f (if b then g x ∷ filter p (map g xs) else filter p (map g xs))
-          ≡ sum_by (λ y. f (g y)) (if b then x ∷ filter (λ y. p (g y)) xs
-          else filter (λ y. p (g y)) xs)
-      by true e = sum_by-cons f (g x) (filter p (map g xs)) ∙ ap (λ n. f (g x) + n) e
-          ∙ sym (sum_by-cons (λ y. f (g y)) x (filter (λ y. p (g y)) xs))
-      by false e = e
+  sum_mapped f p g (x ∷ xs) = grind (arith, common_steps, sum_mapped f p g xs, sum_by-cons)
 
   sum_agree : (f g : X → ℕ) (p q : X → Bool) → ((x : X) → f x ≡ g x) → ((x : X) → p x ≡ q x)
       → (xs : List X) → sum_by f (filter p xs) ≡ sum_by g (filter q xs)
@@ -81,28 +69,12 @@ module _ (u : ℕ) (s : Shape) (has_shown has_hidden : Bool) (lists c : ℕ) (cs
       (filter (λ m. grouping_goes_on s has_hidden (Some c ∷ m)) (masks cs))
       + sum_by (λ m. rows_of_rest u has_shown lists (None ∷ m))
       (filter (λ m. grouping_goes_on s has_hidden (None ∷ m)) (masks cs))
-  parted =
-      let rows = rows_of_rest u has_shown lists in
-      let p = grouping_goes_on s has_hidden in
-      let shown = map (λ m. Some c ∷ m) (masks cs) in
-      let hidden = map (λ m. None ∷ m) (masks cs) in
-      ap (sum_by rows) (filter-append p shown hidden)
-      ∙ sum_by-append rows (filter p shown) (filter p hidden)
-      ∙ (λ i. sum_mapped rows p (λ m. Some c ∷ m) (masks cs) i
-      + sum_mapped rows p (λ m. None ∷ m) (masks cs) i)
+  parted = grind (arith, masks, filter-append, sum_by-append, sum_mapped)
 
   shown_rows : (m : List (Option ℕ))
       → rows_of_rest u has_shown lists (Some c ∷ m) ≡ rows_of_rest u true (lists * c) m
   unfolding rows_of_rest
-  shown_rows m = by has_shown
-    where
-      same : lesser u (lists * (c * lists_of m)) ≡ lesser u (lists * c * lists_of m)
-      same = ap (lesser u) (sym (mul_assoc lists c (lists_of m)))
-
-      by : (b : Bool) → (if not b && false then 1 else lesser u (lists * (c * lists_of m)))
-          ≡ (if false && list_all is_none m then 1 else lesser u (lists * c * lists_of m))
-      by true = same
-      by false = same
+  shown_rows m = grind (arith, lists_of, mul_assoc)
 
   hidden_rows : (m : List (Option ℕ))
       → rows_of_rest u has_shown lists (None ∷ m) ≡ rows_of_rest u has_shown lists m
@@ -214,12 +186,7 @@ no_keys Rollup u = refl
 
 pub one_row : (w : World) (parts : Parts) → (group_at parts parts.report).keys ≡ []
     → 1 ≡ most_report_rows w parts
-one_row w parts none =
-    let d = group_at parts parts.report in
-    let updates = most_of (all_key_shares w parts parts.report 0) in
-    sym (ap (λ keys. rows_of_groupings d.shape updates
-    (each_values w (all_key_shares w parts parts.report) 0 keys)) none
-    ∙ no_keys d.shape updates)
+one_row w parts none = grind (arith, group_at, no_keys)
 
 pub empty_list : {X : Type 0} (xs : List X) → length xs < 1 → xs ≡ []
 empty_list [] h = refl

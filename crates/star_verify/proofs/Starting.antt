@@ -3,10 +3,7 @@ use Rattle.std.proofs.Common.{◌≡◌, ◌<◌, ◌+◌, ◌*◌, ℕ, false, 
 use Rattle.star_verify.proofs.Common.{All-get_or, HasKeyShares, HasShares, IsSmall, IsTally, IsWithinLimits, Parts, Tally, at_first, cases_lt, flag_at, get_or-replicate, get_or_past, group_at, known_in, known_of, length-replicate, nothing_known, replicate}
 
 all_one : {X : Type 0} (n i : ℕ) (x : X) → get_or (replicate n x) i x ≡ x
-all_one n i x = ⊎_elim {C = get_or (replicate n x) i x ≡ x}
-    (λ lt. get_or-replicate n i x x lt)
-    (λ le. get_or_past (replicate n x) i x (omega (arith, le, length-replicate n x)))
-    (cases_lt i n)
+all_one n i x = grind (arith, ⊎_elim, get_or-replicate, get_or_past, length-replicate, cases_lt)
 
 pub nothing_in : (n : ℕ) → known_in (replicate n nothing_known) ≡ at_first.known
 nothing_in n = λ i r. ap known_of (all_one n r nothing_known) i

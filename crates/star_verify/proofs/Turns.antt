@@ -1,5 +1,5 @@
 -- The turns of a scan and of what follows it.
-use Rattle.std.proofs.Common.{◌≡◌, ◌<◌, ◌≤◌, ◌+◌, ◌*◌, ◌^◌, ℕ, arith, ap, subst, sym, ◌∙◌}
+use Rattle.std.proofs.Common.{◌≡◌, ◌<◌, ◌≤◌, ◌+◌, ◌*◌, ◌^◌, ℕ, arith, subst}
 use Rattle.star_verify.proofs.Common.{Code, Each, TableId, body_nested, met_within, rest_nested, scan_depth, turns_met}
 
 pub inner : (times size : ℕ) (table : TableId) (r : ℕ) (body rest left : Code)
@@ -26,11 +26,7 @@ pub scan_turns : (size_of : TableId → ℕ) (times size deeper : ℕ) (table : 
     → left ≡ Each table r body rest → size ≡ size_of table
     → deeper ≡ turns_met size_of (times * size) body
     → turns_met size_of times left ≡ times * size + deeper + turns_met size_of times rest
-scan_turns size_of times size deeper table r body rest left code is below =
-    ap (turns_met size_of times) code
-    ∙ ap (λ n. times * n + turns_met size_of (times * n) body + turns_met size_of times rest)
-    (sym is)
-    ∙ ap (λ n. times * size + n + turns_met size_of times rest) (sym below)
+scan_turns size_of times size deeper table r body rest left code is below = grind arith
 
 pub scan_sum : (total now turns deeper rest left all : ℕ) → now ≡ total + (turns + deeper)
     → left ≡ turns + deeper + rest → total + left ≡ all → now + rest ≡ all

@@ -1,8 +1,8 @@
 -- What a draft says and counts, with a statement more.
-use Rattle.std.proofs.Common.{◌≡◌, ◌≤◌, ◌+◌, ◌-◌, ◌∙◌, ◌∷◌, ◌++◌, [], ℕ, List, append_assoc, append-nil, length, map, arith, ap, refl, sym, subst}
-use Rattle.std.proofs.{lemmas.List.length_push, lemmas.List.map_push, lemmas.List.Elements.All-push}
+use Rattle.std.proofs.Common.{◌≡◌, ◌≤◌, ◌+◌, ◌-◌, ◌∙◌, ◌∷◌, ◌++◌, [], ℕ, List, append_assoc, append-nil, length, arith, ap, refl}
+use Rattle.std.proofs.{lemmas.List.length_push, lemmas.List.map_push, lemmas.Grind.common_steps}
 use Rattle.star_program.specs.Code.{Code, Stop, Then, Each, code_size, scan_depth}
-use Rattle.star_program.specs.Private.Drafts.{AreSmallGroups, Counts, IsBody, IsClosed, begun, closed, code_says, groups_say, opens_say, whole_draft}
+use Rattle.star_program.specs.Private.Drafts.{Counts, IsClosed, begun, closed, code_says, groups_say, opens_say, whole_draft}
 use Rattle.star_program.specs.{Private.Followed.followed, Limits.IsSmall, declared.group.GroupDecl.GroupDecl, declared.op.Op.Op, declared.program.Show.Show, declared.spelling.draft.Draft.Draft, declared.spelling.draft.OpenScan.OpenScan, declared.spelling.statement.Statement.Statement}
 use Rattle.star_schema.specs.{declared.group.SortKey.SortKey, declared.table.TableId.TableId}
 use Rattle.star_program.proofs.Text.Depths.{both_within, left_within, right_within}
@@ -13,10 +13,7 @@ use Rattle.star_program.specs.declared.spelling.statement.Statement.TheVariants 
 pub followed_says : (c d : Code) → code_says (followed c d) ≡ code_says c ++ code_says d
 followed_says Stop d = refl
 followed_says (Then op c) d = ap (λ ss. says.Act op ∷ ss) (followed_says c d)
-followed_says (Each t r b c) d =
-    ap (λ ss. says.Scan t r ∷ (code_says b ++ says.End ∷ ss)) (followed_says c d)
-    ∙ ap (λ ss. says.Scan t r ∷ ss)
-    (sym (append_assoc (code_says b) (says.End ∷ code_says c) (code_says d)))
+followed_says (Each t r b c) d = grind (arith, followed_says c d, append_assoc)
 
 followed_size : (c d : Code) → code_size (followed c d) ≡ code_size c + code_size d
 followed_size Stop d = omega arith
@@ -61,13 +58,7 @@ around_size o b = omega (arith, followed_size o.before (Each o.table o.target b 
 closed_size : (os : List OpenScan) (b x : Code)
     → code_size (closed os (followed b x)) ≡ code_size (closed os b) + code_size x
 closed_size [] b x = followed_size b x
-closed_size (s ∷ os) b x =
-    omega (
-      arith,
-      closed_size os b x,
-      around_size s (closed os (followed b x)),
-      around_size s (closed os b),
-    )
+closed_size (s ∷ os) b x = grind (arith, closed_size os b x, around_size)
 
 around_depth : (o : OpenScan) (b : Code) (k : ℕ) → scan_depth o.before ≤ k → 1 + scan_depth b ≤ k
     → scan_depth (around o b) ≤ k
@@ -96,19 +87,13 @@ closed_depth (s ∷ os) b x k h g =
 groups_push : (n : ℕ) (gs : List GroupDecl) (g : GroupDecl)
     → groups_say n (gs ++ g ∷ []) ≡ groups_say n gs ++ says.Group (n + length gs) g ∷ []
 groups_push n [] g = let same : n ≡ n + 0 = omega arith in ap (λ k. says.Group k g ∷ []) same
-groups_push n (h ∷ gs) g =
-    let same : n + 1 + length gs ≡ n + length (h ∷ gs) = omega arith in
-    ap (λ ss. says.Group n h ∷ ss) (groups_push (n + 1) gs g)
-    ∙ ap (λ k. says.Group n h ∷ (groups_say (n + 1) gs ++ says.Group k g ∷ [])) same
+groups_push n (h ∷ gs) g = grind (arith, groups_push (n + 1) gs g)
 
 opens_push : (os : List OpenScan) (o : OpenScan)
     → opens_say (os ++ o ∷ [])
     ≡ opens_say os ++ (code_says o.before ++ says.Scan o.table o.target ∷ [])
 opens_push [] o = refl
-opens_push (s ∷ os) o =
-    ap (λ ss. code_says s.before ++ says.Scan s.table s.target ∷ ss) (opens_push os o)
-    ∙ sym (append_assoc (code_says s.before) (says.Scan s.table s.target ∷ opens_say os)
-    (code_says o.before ++ says.Scan o.table o.target ∷ []))
+opens_push (s ∷ os) o = grind (arith, opens_push os o, append_assoc)
 
 -- the end of three lists
 behind : (a b c x : List Statement) → a ++ (b ++ (c ++ x)) ≡ (a ++ (b ++ c)) ++ x
@@ -117,23 +102,11 @@ behind a b c x = simp append_assoc
 pub begun_group : (d : Draft) (g : GroupDecl) → d.scans ≡ [] → d.body ≡ Stop
     → begun (record d { groups = d.groups ++ g ∷ [] })
     ≡ begun d ++ says.Group (length d.groups) g ∷ []
-begun_group d g closed_all body =
-    let same : 0 + length d.groups ≡ length d.groups = omega arith in
-    let added : groups_say 0 (d.groups ++ g ∷ []) ++ []
-    ≡ (groups_say 0 d.groups ++ []) ++ says.Group (length d.groups) g ∷ [] =
-    append-nil (groups_say 0 (d.groups ++ g ∷ [])) ∙ groups_push 0 d.groups g
-    ∙ ap (λ k. groups_say 0 d.groups ++ says.Group k g ∷ []) same
-    ∙ ap (λ ss. ss ++ says.Group (length d.groups) g ∷ [])
-    (sym (append-nil (groups_say 0 d.groups))) in
-    rw (closed_all, body) (ap (λ ss. says.Header ∷ says.Registers d.registers ∷ ss) added)
+begun_group d g closed_all body = grind (arith, append-nil, groups_push)
 
 pub begun_body : (d : Draft) (x : Code)
     → begun (record d { body = followed d.body x }) ≡ begun d ++ code_says x
-begun_body d x =
-    ap (λ ss. says.Header ∷ says.Registers d.registers
-    ∷ (groups_say 0 d.groups ++ (opens_say d.scans ++ ss))) (followed_says d.body x)
-    ∙ ap (λ ss. says.Header ∷ says.Registers d.registers ∷ ss)
-    (behind (groups_say 0 d.groups) (opens_say d.scans) (code_says d.body) (code_says x))
+begun_body d x = grind (arith, followed_says, behind)
 
 pub begun_scan : (d : Draft) (t : TableId) (r : ℕ)
     → begun (record d {
@@ -142,45 +115,18 @@ pub begun_scan : (d : Draft) (t : TableId) (r : ℕ)
       body = Stop;
     })
     ≡ begun d ++ says.Scan t r ∷ []
-begun_scan d t r =
-    let o : OpenScan = record { before = d.body; table = t; target = r } in
-    let opened : opens_say (d.scans ++ o ∷ []) ++ []
-    ≡ opens_say d.scans ++ (code_says d.body ++ says.Scan t r ∷ []) =
-    append-nil (opens_say (d.scans ++ o ∷ [])) ∙ opens_push d.scans o in
-    ap (λ ss. says.Header ∷ says.Registers d.registers ∷ (groups_say 0 d.groups ++ ss)) opened
-    ∙ ap (λ ss. says.Header ∷ says.Registers d.registers ∷ ss)
-    (behind (groups_say 0 d.groups) (opens_say d.scans) (code_says d.body) (says.Scan t r ∷ []))
+begun_scan d t r = grind (arith, append-nil, opens_push, behind)
 
 regrouped : (g o b c : List Statement) (s x : Statement)
     → g ++ (o ++ (b ++ s ∷ (c ++ x ∷ []))) ≡ (g ++ ((o ++ (b ++ s ∷ [])) ++ c)) ++ x ∷ []
 regrouped g o b c s x = simp append_assoc
 
 pub begun_end : (d e : Draft) → IsClosed d e → begun e ≡ begun d ++ says.End ∷ []
-begun_end d e c =
-    let o : OpenScan = c.scan in
-    let here : begun e ≡ says.Header ∷ says.Registers d.registers
-    ∷ (groups_say 0 d.groups ++ (opens_say e.scans ++ code_says (around o d.body))) =
-    ap begun c.body in
-    let scan : code_says (around o d.body)
-    ≡ code_says o.before ++ says.Scan o.table o.target ∷ (code_says d.body ++ says.End ∷ []) =
-    followed_says o.before (Each o.table o.target d.body Stop) in
-    let was : opens_say d.scans
-    ≡ opens_say e.scans ++ (code_says o.before ++ says.Scan o.table o.target ∷ []) =
-    ap opens_say c.scans ∙ opens_push e.scans o in
-    here ∙ ap (λ ss. says.Header ∷ says.Registers d.registers
-    ∷ (groups_say 0 d.groups ++ (opens_say e.scans ++ ss))) scan
-    ∙ ap (λ ss. says.Header ∷ says.Registers d.registers ∷ ss)
-    (regrouped (groups_say 0 d.groups) (opens_say e.scans) (code_says o.before)
-    (code_says d.body) (says.Scan o.table o.target) says.End)
-    ∙ ap (λ ss. says.Header ∷ says.Registers d.registers
-    ∷ ((groups_say 0 d.groups ++ (ss ++ code_says d.body)) ++ says.End ∷ [])) (sym was)
+begun_end d e c = grind (arith, followed_says, opens_push, regrouped)
 
 pub whole_report : (d : Draft) (g : ℕ) → d.scans ≡ [] → d.shows ≡ [] → d.sorts ≡ []
     → whole_draft (record d { report = g }) ≡ begun d ++ says.Report g ∷ []
-whole_report d g closed_all shows sorts =
-    rw (closed_all, shows, sorts)
-    (ap (λ ss. says.Header ∷ says.Registers d.registers ∷ ss)
-    (sym (append_assoc (groups_say 0 d.groups) (code_says d.body) (says.Report g ∷ []))))
+whole_report d g closed_all shows sorts = grind (arith, append_assoc)
 
 shown : (g b m : List Statement) (r x : Statement)
     → g ++ (b ++ r ∷ (m ++ x ∷ [])) ≡ (g ++ (b ++ r ∷ m)) ++ x ∷ []
@@ -188,38 +134,11 @@ shown g b m r x = simp append_assoc
 
 pub whole_show : (d : Draft) (show : Show) → d.sorts ≡ []
     → whole_draft (record d { shows = d.shows ++ show ∷ [] }) ≡ whole_draft d ++ says.Show show ∷ []
-whole_show d show sorts =
-    let added : map says.Show (d.shows ++ show ∷ []) ++ []
-    ≡ (map says.Show d.shows ++ []) ++ says.Show show ∷ [] =
-    append-nil (map says.Show (d.shows ++ show ∷ [])) ∙ map_push says.Show d.shows show
-    ∙ ap (λ ss. ss ++ says.Show show ∷ []) (sym (append-nil (map says.Show d.shows))) in
-    let all : says.Header ∷ says.Registers d.registers
-    ∷ (groups_say 0 d.groups
-    ++ (code_says d.body ++ says.Report d.report
-    ∷ (map says.Show (d.shows ++ show ∷ []) ++ [])))
-    ≡ says.Header ∷ says.Registers d.registers
-    ∷ ((groups_say 0 d.groups
-    ++ (code_says d.body ++ says.Report d.report ∷ (map says.Show d.shows ++ [])))
-    ++ says.Show show ∷ []) =
-    ap (λ ss. says.Header ∷ says.Registers d.registers
-    ∷ (groups_say 0 d.groups ++ (code_says d.body ++ says.Report d.report ∷ ss))) added
-    ∙ ap (λ ss. says.Header ∷ says.Registers d.registers ∷ ss)
-    (shown (groups_say 0 d.groups) (code_says d.body) (map says.Show d.shows ++ [])
-    (says.Report d.report) (says.Show show)) in
-    rw sorts all
+whole_show d show sorts = grind (arith, append-nil, map_push, shown)
 
 pub whole_sort : (d : Draft) (key : SortKey)
     → whole_draft (record d { sorts = d.sorts ++ key ∷ [] }) ≡ whole_draft d ++ says.Sort key ∷ []
-whole_sort d key =
-    let added : map says.Show d.shows ++ map says.Sort (d.sorts ++ key ∷ [])
-    ≡ (map says.Show d.shows ++ map says.Sort d.sorts) ++ says.Sort key ∷ [] =
-    ap (λ ss. map says.Show d.shows ++ ss) (map_push says.Sort d.sorts key)
-    ∙ sym (append_assoc (map says.Show d.shows) (map says.Sort d.sorts) (says.Sort key ∷ [])) in
-    ap (λ ss. says.Header ∷ says.Registers d.registers
-    ∷ (groups_say 0 d.groups ++ (code_says d.body ++ says.Report d.report ∷ ss))) added
-    ∙ ap (λ ss. says.Header ∷ says.Registers d.registers ∷ ss)
-    (shown (groups_say 0 d.groups) (code_says d.body)
-    (map says.Show d.shows ++ map says.Sort d.sorts) (says.Report d.report) (says.Sort key))
+whole_sort d key = grind (arith, map_push, append_assoc, shown)
 
 -- ---- what a draft counts, with a statement more
 
@@ -230,23 +149,11 @@ counts_registers g i dp sh so n d small c = (small, c.1, c.2, c.3, c.4)
 pub counts_group : (g i dp sh so : ℕ) (group : GroupDecl) (d : Draft) → IsSmall group
     → Counts g i dp sh so d
     → Counts (g + 1) i dp sh so (record d { groups = d.groups ++ group ∷ [] })
-counts_group g i dp sh so group d small c =
-    let groups : AreSmallGroups (g + 1) (d.groups ++ group ∷ []) = record {
-      many = length_push d.groups group ∙ ap (λ k. k + 1) c.1.many;
-      each = All-push IsSmall d.groups group c.1.each small;
-    } in
-    (c.0, groups, c.2, c.3, c.4)
+counts_group g i dp sh so group d small c = grind (arith, common_steps, length_push)
 
 pub counts_step : (g i dp sh so : ℕ) (op : Op) (d : Draft) → dp ≤ 3 → Counts g i dp sh so d
     → Counts g (i + 1) dp sh so (record d { body = followed d.body (Then op Stop) })
-counts_step g i dp sh so op d room c =
-    let step : Code = Then op Stop in
-    let body : IsBody (i + 1) dp d.scans (followed d.body step) = record {
-      open_scans = c.2.open_scans;
-      many = omega (arith, closed_size d.scans d.body step, c.2.many);
-      nested = closed_depth d.scans d.body step 3 c.2.nested (omega (arith, c.2.open_scans));
-    } in
-    (c.0, c.1, body, c.3, c.4)
+counts_step g i dp sh so op d room c = grind (arith, closed_size, closed_depth)
 
 pub counts_scan : (g i dp sh so : ℕ) (t : TableId) (r : ℕ) (d : Draft) → dp + 1 ≤ 3
     → Counts g i dp sh so d
@@ -255,33 +162,11 @@ pub counts_scan : (g i dp sh so : ℕ) (t : TableId) (r : ℕ) (d : Draft) → d
       body = Stop;
     })
 counts_scan g i dp sh so t r d room c =
-    let o : OpenScan = record { before = d.body; table = t; target = r } in
-    let scan : Code = Each t r Stop Stop in
-    let is : closed (d.scans ++ o ∷ []) Stop ≡ closed d.scans (followed d.body scan) =
-    closed_push d.scans o Stop in
-    let nested : scan_depth (closed d.scans (followed d.body scan)) ≤ 3 =
-    closed_depth d.scans d.body scan 3 c.2.nested (omega (arith, c.2.open_scans)) in
-    let body : IsBody (i + 1) (dp + 1) (d.scans ++ o ∷ []) Stop = record {
-      open_scans = length_push d.scans o ∙ ap (λ k. k + 1) c.2.open_scans;
-      many = ap code_size is ∙ omega (arith, closed_size d.scans d.body scan, c.2.many);
-      nested = rw is nested;
-    } in
-    (c.0, c.1, body, c.3, c.4)
+    grind (arith, closed_push, closed_depth, length_push, closed_size)
 
 pub counts_end : (g i dp sh so : ℕ) (d e : Draft) → IsClosed d e → Counts g i dp sh so d
     → Counts g i (dp - 1) sh so e
-counts_end g i dp sh so d e end c =
-    let o : OpenScan = end.scan in
-    let is : closed d.scans d.body ≡ closed e.scans (around o d.body) =
-    ap (λ os. closed os d.body) end.scans ∙ closed_push e.scans o d.body in
-    let shorter : length d.scans ≡ length e.scans + 1 =
-    ap length end.scans ∙ length_push e.scans o in
-    let body : IsBody i (dp - 1) e.scans (around o d.body) = record {
-      open_scans = omega (arith, c.2.open_scans, shorter);
-      many = sym (ap code_size is) ∙ c.2.many;
-      nested = rw (← is) c.2.nested;
-    } in
-    subst (Counts g i (dp - 1) sh so) (sym end.body) (c.0, c.1, body, c.3, c.4)
+counts_end g i dp sh so d e end c = grind (arith, closed_push, length_push)
 
 pub counts_show : (g i dp sh so : ℕ) (show : Show) (d : Draft) → Counts g i dp sh so d
     → Counts g i dp (sh + 1) so (record d { shows = d.shows ++ show ∷ [] })

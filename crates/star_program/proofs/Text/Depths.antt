@@ -15,23 +15,14 @@ rest_depth (Scan table target body) rest = at_least (1 + scan_depth body) (scan_
 pub rest_nested : (depth : ℕ) (steps : List Step) (i : ℕ) (step : Step)
     → slice_get steps i ≡ Some step → depth + scan_depth (code_of_steps (drop i steps)) ≤ 3
     → depth + scan_depth (code_of_steps (drop (i + 1) steps)) ≤ 3
-rest_nested depth steps i step at h =
-    let here : depth + scan_depth (before step (code_of_steps (drop (i + 1) steps))) ≤ 3 =
-    rw (drop_at_place steps i step at) at h in
-    omega (arith, here, rest_depth step (code_of_steps (drop (i + 1) steps)))
+rest_nested depth steps i step at h = grind (arith, drop_at_place, rest_depth)
 
 -- a step and the steps after it are no larger than the steps from it on
 pub step_small : (size : ℕ) (steps : List Step) (i : ℕ) (step : Step)
     → slice_get steps i ≡ Some step → code_size (code_of_steps (drop i steps)) ≤ size
     → (code_size (code_of_step step) ≤ size)
     × (code_size (code_of_steps (drop (i + 1) steps)) ≤ size)
-step_small size steps i step at h =
-    go step (code_of_steps (drop (i + 1) steps)) (rw (drop_at_place steps i step at) at h)
-  where
-    go : (step : Step) (rest : Code) → code_size (before step rest) ≤ size
-        → (code_size (code_of_step step) ≤ size) × (code_size rest ≤ size)
-    go (Act op) rest h = (omega (arith, h), omega (arith, h))
-    go (Scan table target body) rest h = (omega (arith, h), omega (arith, h))
+step_small size steps i step at h = grind (arith, drop_at_place)
 
 -- the larger of two is within what both are within
 abbrev pub larger : ℕ → ℕ → ℕ

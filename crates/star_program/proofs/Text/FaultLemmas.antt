@@ -1,6 +1,5 @@
 -- The first fault, line by line.
-use Rattle.std.specs.Prelude.{nat_le}
-use Rattle.std.proofs.Common.{◌≡◌, ◌+◌, ◌&&◌, ◌∷◌, [], ℕ, true, false, List, Some, Ok, Err, refl, lit≤}
+use Rattle.std.proofs.Common.{◌≡◌, ◌+◌, ◌∷◌, [], ℕ, true, false, List, Some, Ok, Err, refl, lit≤, arith}
 use Rattle.std.proofs.{lemmas.Bool.and_parts, lemmas.Bool.leb-true}
 use Rattle.star_program.specs.Text.FirstFaults.{advance, end_in, is_within, lines_fault, program_text_fault, start}
 use Rattle.star_program.specs.{Text.Lines.is_blank_line, Text.Lines.lines_of, Private.Within.IsWithinLargest, declared.spelling.fault.TextFault.TextFault, declared.spelling.place.Place.Place, declared.spelling.place.Stage.Stage}
@@ -19,24 +18,7 @@ place st g i dp sh so = record {
 
 pub within_from : (p : Place) → is_within p ≡ true → IsWithinLargest p
 unfolding is_within
-within_from p h =
-    let a : (nat_le p.groups 8 ≡ true)
-    × ((nat_le p.instructions 4096
-    && (nat_le p.depth 3 && (nat_le p.shows 16 && nat_le p.sorts 16))) ≡ true) =
-    and_parts _ _ h in
-    let b : (nat_le p.instructions 4096 ≡ true)
-    × ((nat_le p.depth 3 && (nat_le p.shows 16 && nat_le p.sorts 16)) ≡ true) =
-    and_parts _ _ a.1 in
-    let c : (nat_le p.depth 3 ≡ true) × ((nat_le p.shows 16 && nat_le p.sorts 16) ≡ true) =
-    and_parts _ _ b.1 in
-    let d : (nat_le p.shows 16 ≡ true) × (nat_le p.sorts 16 ≡ true) = and_parts _ _ c.1 in
-    record {
-      groups = leb-true _ _ a.0;
-      instructions = leb-true _ _ b.0;
-      depth = leb-true _ _ c.0;
-      shows = leb-true _ _ d.0;
-      sorts = leb-true _ _ d.1;
-    }
+within_from p h = grind (arith, and_parts, leb-true)
 
 pub blank_line : (p : Place) (n : ℕ) (text : List ℕ) (texts : List (List ℕ))
     → is_blank_line text ≡ true → lines_fault p n (text ∷ texts) ≡ lines_fault p (n + 1) texts
@@ -61,14 +43,7 @@ ended p n = refl
 
 pub start_within : IsWithinLargest start
 unfolding start
-start_within = record {
-  groups = lit≤ tt;
-  instructions = lit≤ tt;
-  depth = lit≤ tt;
-  shows =
-      lit≤ tt;
-  sorts = lit≤ tt;
-}
+start_within = grind (arith, lit≤)
 
 pub text_fault_is : (text : List ℕ) → program_text_fault text ≡ lines_fault start 1 (lines_of text)
 unfolding program_text_fault

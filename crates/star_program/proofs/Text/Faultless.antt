@@ -1,8 +1,8 @@
 -- The parser refuses no line of a text exactly where it spells a program within the limits.
-use Rattle.std.proofs.Common.{◌≡◌, ◌↔◌, ◌+◌, ◌∙◌, ◌∷◌, ◌++◌, [], ℕ, false, List, Option, Some, None, Result, Ok, Err, append-nil, map, refl, sym, inl, inr}
+use Rattle.std.proofs.Common.{◌≡◌, ◌↔◌, ◌+◌, ◌∙◌, ◌∷◌, ◌++◌, [], ℕ, false, List, Option, Some, None, Result, Ok, Err, append-nil, map, refl, sym, inl, inr, arith}
 use Rattle.std.proofs.lemmas.Bool.{cases_Bool}
-use Rattle.star_program.specs.{Private.Drafts.IsAt, Private.Drafts.finished, Private.Drafts.nothing_read, Private.Drafts.told, Limits.IsWithinLimits, Text.Lines.is_blank_line, Text.Lines.lines_of, Text.Said.said, Text.Said.said_in, Text.Spelling.Spells}
-use Rattle.star_program.specs.Text.FirstFaults.{FirstTextFault, advance, end_in, lines_fault, program_text_fault, reached_by, start}
+use Rattle.star_program.specs.{Private.Drafts.IsAt, Private.Drafts.told, Limits.IsWithinLimits, Text.Lines.is_blank_line, Text.Said.said, Text.Said.said_in, Text.Spelling.Spells}
+use Rattle.star_program.specs.Text.FirstFaults.{FirstTextFault, advance, end_in, lines_fault, program_text_fault, reached_by}
 use Rattle.star_program.specs.declared.{program.Parts.Parts, spelling.draft.Draft.Draft, spelling.fault.TextFault.TextFault, spelling.place.Place.Place, spelling.statement.Statement.Statement}
 use Rattle.star_program.proofs.Text.{Takes.takes, FaultLemmas.ended, FaultLemmas.refused, FaultLemmas.text_fault_is, NoFault.no_fault}
 use Rattle.star_program.proofs.Text.PassedLines.{blank_passed, end_opened, end_spelled, end_within, line_passed, nothing_at_start, nothing_told, opens_report}
@@ -16,10 +16,7 @@ reached_says p line (Some s) q h = (s, refl)
 advance_says : (p : Place) (line : ℕ) (text : List ℕ) (q : Place) → advance p line text ≡ Ok q
     → (s : Statement) × (said text ≡ Some s)
 unfolding advance
-advance_says p line text q h = elim (cases_Bool (opens_report p text)) [
-  | inl report ↦ let bad : ⊥ = let no = rw report at h in cc in absurd bad
-  | inr other ↦ reached_says p line (said text) q (rw other at h)
-]
+advance_says p line text q h = grind (arith, cases_Bool, opens_report, reached_says)
 
 faultless_advances : (p : Place) (line : ℕ) (text : List ℕ) (texts : List (List ℕ))
     → is_blank_line text ≡ false → lines_fault p line (text ∷ texts) ≡ None
@@ -63,14 +60,7 @@ finishes (text ∷ texts) p d line at h = elim (cases_Bool (is_blank_line text))
 spells_one : (text : List ℕ) → program_text_fault text ≡ None
     → (p : Parts) × Spells text p × IsWithinLimits p
 spells_one text h =
-    let end = finishes (lines_of text) start nothing_read 1 nothing_at_start
-    (sym (text_fault_is text) ∙ h) in
-    let all : said_in (lines_of text) ≡ map Some (told end.0.stage end.1) =
-    rw nothing_told at end.4 in (
-      finished end.1,
-      end_spelled end.0 end.1 end.2 text end.3 end.5 all,
-      end_within end.0 end.1 end.2 end.3 end.5,
-    )
+    grind (arith, finishes, nothing_at_start, text_fault_is, nothing_told, end_spelled, end_within)
 
 pub faultless : (text : List ℕ)
     → (program_text_fault text ≡ None) ↔ ((p : Parts) × Spells text p × IsWithinLimits p)

@@ -9,24 +9,8 @@ use Rattle.star_program.specs.{Text.Lines.begins_with, Text.Lines.lines_of, Priv
 pub without_return-push : (front : List ℕ) (b : ℕ)
     → without_return (front ++ b ∷ []) ≡ (if b == 13 then front else front ++ b ∷ [])
 without_return-push [] b = refl
-without_return-push (a ∷ []) b = elim (cases_Bool (b == 13)) [
-  | inl cr ↦ rw cr refl
-  | inr other ↦ rw other refl
-]
-without_return-push (a ∷ c ∷ front) b = elim (cases_Bool (b == 13)) [
-  | inl cr ↦
-      let rest : without_return ((c ∷ front) ++ b ∷ []) ≡ c ∷ front =
-      without_return-push (c ∷ front) b ∙ rw cr refl in
-      let all : without_return (a ∷ ((c ∷ front) ++ b ∷ [])) ≡ a ∷ c ∷ front =
-      ap (λ x. a ∷ x) rest in
-      rw cr all
-  | inr other ↦
-      let rest : without_return ((c ∷ front) ++ b ∷ []) ≡ (c ∷ front) ++ b ∷ [] =
-      without_return-push (c ∷ front) b ∙ rw other refl in
-      let all : without_return (a ∷ ((c ∷ front) ++ b ∷ [])) ≡ a ∷ ((c ∷ front) ++ b ∷ []) =
-      ap (λ x. a ∷ x) rest in
-      rw other all
-]
+without_return-push (a ∷ []) b = grind (arith, cases_Bool)
+without_return-push (a ∷ c ∷ front) b = grind (arith, without_return-push (c ∷ front) b, cases_Bool)
 
 -- of two that aren't both so, where the second is
 not_first : (x y : Bool) → (x && y) ≡ false → y ≡ true → x ≡ false
@@ -56,23 +40,12 @@ returns_here b text other plain = rw (other, plain) refl
 front_returned : (b : ℕ) (text : List ℕ) (k : ℕ) → ((b == 13) && begins_with 10 text) ≡ true
     → ((j : ℕ) → j < k → (get_or text j 0 == 10) ≡ false)
     → without_return (b ∷ take k text) ≡ without_return (take k text)
-front_returned b [] k returned before = let bad : false ≡ true =
-    (and_parts (b == 13) false returned).1 in cc
-front_returned b (c ∷ text) zero returned before = let cr : (b == 13) ≡ true =
-    (and_parts (b == 13) (c == 10) returned).0 in rw cr refl
-front_returned b (c ∷ text) (suc k) returned before =
-    let feed : (c == 10) ≡ true = (and_parts (b == 13) (c == 10) returned).1 in
-    let none : (c == 10) ≡ false = before 0 (omega arith) in
-    absurd (both_ways (c == 10) none feed)
+front_returned b it k returned before = grind (arith, and_parts, both_ways)
 
 front_plain : (b : ℕ) (text : List ℕ) (k : ℕ) → ((b == 13) && begins_with 10 text) ≡ false
     → k < length text → (get_or text k 0 == 10) ≡ true
     → without_return (b ∷ take k text) ≡ b ∷ without_return (take k text)
-front_plain b [] k plain within at = absurd (omega arith)
-front_plain b (c ∷ text) zero plain within at =
-    let other : (b == 13) ≡ false = not_first (b == 13) (c == 10) plain at in
-    rw other refl
-front_plain b (c ∷ text) (suc k) plain within at = refl
+front_plain b it k plain within at = grind (arith, not_first)
 
 -- a text with a line feed
 pub first_line : (text : List ℕ) (k : ℕ) → k < length text → (get_or text k 0 == 10) ≡ true

@@ -1,9 +1,8 @@
 -- A text that spells a program within the limits has no fault.
-use Rattle.std.specs.{Prelude.codes, Prelude.filter, Prelude.nat_lt, Prelude.not, Cmp.Lexicographic.bytes_decides, List.list_all, Option.option_map}
-use Rattle.std.proofs.Common.{◌≡◌, ◌==◌, ◌&&◌, ◌≤◌, ◌+◌, ◌-◌, ◌∙◌, ◌∷◌, ◌++◌, [], ℕ, Bool, true, false, List, Option, Some, None, Ok, All, append_assoc, length, map, arith, ap, refl, sym, subst, inl, inr, lit≤}
+use Rattle.std.specs.{Prelude.codes, Prelude.filter, Prelude.nat_lt, Prelude.not, Cmp.Lexicographic.bytes_decides, Option.option_map}
+use Rattle.std.proofs.Common.{◌≡◌, ◌&&◌, ◌≤◌, ◌+◌, ◌-◌, ◌∙◌, ◌∷◌, ◌++◌, [], ℕ, true, false, List, Option, Some, None, Ok, All, append_assoc, length, map, arith, ap, refl, sym, subst, inl, inr, lit≤}
 use Rattle.std.proofs.lemmas.Bool.{cases_Bool, eqb-true, eq-eqb, le-leb, ne_eqb}
 use Rattle.std.proofs.lemmas.List.Elements.{All-head, All-tail}
-use Rattle.star_common.specs.Printable.{is_printable}
 use Rattle.star_program.specs.Code.{Code, Stop, Then, Each, code_size, scan_depth}
 use Rattle.star_program.specs.{Private.Drafts.code_says, Private.Drafts.groups_say, Text.Keywords.keyword_name, Text.Keywords.keyword_of, Text.Keywords.same, Limits.IsSmall, Limits.IsWithinLimits, Text.Lines.is_blank_line, Text.Lines.lines_of, Text.Lines.words_of, Text.Numerals.count_of, Text.Said.by_keyword, Text.Said.by_words, Text.Said.from_one_word, Text.Said.said, Text.Spelling.Spells, Text.Spelling.program_statements}
 use Rattle.star_program.specs.Text.FirstFaults.{advance, after_in, begins_report, end_in, is_small, is_within, lines_fault, place_after, place_after_step, program_text_fault, start}
@@ -41,16 +40,10 @@ by_words_report (w ∷ ws) s begins h = by_report w ws s begins h
 report_said : (text : List ℕ) (s : Statement) → begins_report (words_of text) ≡ true
     → said text ≡ Some s → (g : ℕ) × (s ≡ says.Report g)
 unfolding said
-report_said text s begins h = elim (cases_Bool (list_all is_printable text)) [
-  | inl printable ↦ by_words_report (words_of text) s begins (rw printable at h)
-  | inr other ↦ let bad : ⊥ = let none = rw other at h in cc in absurd bad
-]
+report_said text s begins h = grind (arith, cases_Bool, by_words_report)
 
 step_report : (p q : Place) (g : ℕ) → place_after_step p (says.Report g) ≡ Some q → p.depth ≡ 0
-step_report p q g h = elim (cases_Bool (p.depth == 0)) [
-  | inl none ↦ eqb-true p.depth 0 none
-  | inr some ↦ let bad : ⊥ = let no = rw some at h in cc in absurd bad
-]
+step_report p q g h = grind (arith, cases_Bool, eqb-true)
 
 report_outside : (st : Stage) (p q : Place) (g : ℕ) → after_in st p (says.Report g) ≡ Some q
     → p.depth ≡ 0
@@ -75,18 +68,7 @@ walks_on p q r (s ∷ ss) ts w v = (w.0, w.1, walks_on w.0 q r ss ts w.2 v)
 pub no_report : (p q : Place) (text : List ℕ) (s : Statement) → said text ≡ Some s
     → place_after p s ≡ Some q → (nat_lt 0 p.depth && begins_report (words_of text)) ≡ false
 unfolding place_after
-no_report p q text s is goes = elim (cases_Bool (begins_report (words_of text))) [
-  | inl begins ↦
-      let report = report_said text s begins is in
-      let there : after_in p.stage p (says.Report report.0) ≡ Some q = rw (← report.1) goes in
-      let none : p.depth ≡ 0 = report_outside p.stage p q report.0 there in
-      rw none refl
-  | inr other ↦ rw other (no_and (nat_lt 0 p.depth))
-]
-  where
-    no_and : (b : Bool) → (b && false) ≡ false
-    no_and true = refl
-    no_and false = refl
+no_report p q text s is goes = grind (arith, cases_Bool, report_said, report_outside)
 
 pub advances : (p q : Place) (line : ℕ) (text : List ℕ) (s : Statement) → said text ≡ Some s
     → Follows p s q → advance p line text ≡ Ok q
@@ -128,12 +110,7 @@ group_follows : (g : ℕ) (group : GroupDecl) → g + 1 ≤ 8 → IsSmall group
     → Follows (place stage.Groups g 0 0 0 0) (says.Group g group)
     (place stage.Groups (g + 1) 0 0 0 0)
 unfolding place_after is_small
-group_follows g group room small = (
-  rw (eq-eqb g g refl) refl,
-  within_is stage.Groups (g + 1) 0 0 0 0 room (lit≤ tt) (lit≤ tt) (lit≤ tt) (lit≤ tt),
-  rw (le-leb (length group.keys) 6 small.keys, le-leb (length group.aggregates) 8 small.aggregates)
-      refl,
-)
+group_follows g group room small = grind (arith, eq-eqb, within_is, lit≤, le-leb)
 
 walk_groups : (gs : List GroupDecl) (g m : ℕ) → g + length gs ≡ m → m ≤ 8 → All IsSmall gs
     → Walks (place stage.Groups g 0 0 0 0) (groups_say g gs) (place stage.Groups m 0 0 0 0)
@@ -163,10 +140,7 @@ scan_follows st g i dp t r a b c =
 end_follows : (g i dp : ℕ) → g ≤ 8 → i ≤ 4096 → dp + 1 ≤ 3
     → Steps (place stage.Body g i (dp + 1) 0 0) says.End (place stage.Body g i dp 0 0)
 unfolding is_small
-end_follows g i dp a b c =
-    let some : (dp + 1 == 0) ≡ false = ne_eqb (dp + 1) 0 (λ h. absurd (omega arith)) in
-    let less : dp + 1 - 1 ≡ dp = omega arith in
-    (rw (some, less) refl, within_is stage.Body g i dp 0 0 a b (omega arith) (lit≤ tt) (lit≤ tt), refl)
+end_follows g i dp a b c = grind (arith, ne_eqb, within_is, lit≤)
 
 -- a body after one of its steps
 walk_body : (c : Code) (g i dp m : ℕ) → i + code_size c ≡ m → m ≤ 4096 → dp + scan_depth c ≤ 3

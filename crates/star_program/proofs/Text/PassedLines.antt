@@ -1,10 +1,10 @@
 -- Lines are read into a draft: each that is passed, each that is refused, and the end of the text.
-use Rattle.std.specs.Prelude.{if◌then◌else◌, nat_le, nat_lt}
-use Rattle.std.proofs.Common.{◌≡◌, ◌⊎◌, ◌==◌, ◌&&◌, ◌<◌, ◌≤◌, ◌+◌, ◌-◌, ◌∙◌, ◌∷◌, ◌++◌, [], ℕ, Bool, true, false, List, Option, Some, None, Ok, Err, append_assoc, length, map, arith, ap, refl, sym, subst, inl, inr, lit≤}
+use Rattle.std.specs.Prelude.{if◌then◌else◌, nat_lt}
+use Rattle.std.proofs.Common.{◌≡◌, ◌⊎◌, ◌==◌, ◌&&◌, ◌<◌, ◌≤◌, ◌+◌, ◌-◌, ◌∙◌, ◌∷◌, ◌++◌, [], ℕ, Bool, true, false, List, Option, Some, None, Ok, Err, append_assoc, length, map, arith, ap, refl, sym, inl, inr, lit≤}
 use Rattle.std.proofs.lemmas.Bool.{and_parts, cases_Bool, eq-eqb, eqb-false, eqb-true, leb-true}
 use Rattle.std.proofs.lemmas.List.{map_push, nil_from_length}
-use Rattle.star_program.specs.{Code.Stop, Code.Then, Code.code_size, Private.Followed.followed, Limits.IsSmall, Limits.IsWithinLimits, Text.Lines.is_blank_line, Text.Lines.lines_of, Text.Lines.words_of, Private.Within.IsWithinLargest, Text.Said.said, Text.Said.said_in, Text.Spelling.Spells}
-use Rattle.star_program.specs.Private.Drafts.{Counts, IsAdded, IsAt, IsClosed, IsInOrder, IsLineRefused, IsPassed, begun, closed, finished, nothing_read, told, whole_draft}
+use Rattle.star_program.specs.{Code.Stop, Code.Then, Limits.IsSmall, Limits.IsWithinLimits, Text.Lines.is_blank_line, Text.Lines.lines_of, Text.Lines.words_of, Private.Within.IsWithinLargest, Text.Said.said, Text.Said.said_in, Text.Spelling.Spells}
+use Rattle.star_program.specs.Private.Drafts.{Counts, IsAdded, IsAt, IsClosed, IsInOrder, IsLineRefused, IsPassed, begun, finished, nothing_read, told, whole_draft}
 use Rattle.star_program.specs.Text.FirstFaults.{advance, after_in, begins_report, end_in, is_small, is_within, place_after, place_after_step, place_reached, start}
 use Rattle.star_program.specs.declared.{group.GroupDecl.GroupDecl, op.Op.Op, spelling.draft.Draft.Draft, spelling.fault.TextFault.TextFault, spelling.place.Place.Place, spelling.place.Stage.Stage, spelling.statement.Statement.Statement}
 use Rattle.star_program.specs.declared.spelling.fault.TextFault.TheVariants as fault
@@ -13,7 +13,8 @@ use Rattle.star_program.specs.declared.spelling.statement.Statement.TheVariants 
 use Rattle.star_schema.specs.declared.table.TableId.{TableId}
 use Rattle.star_program.proofs.Text.FaultLemmas.{advanced, blank_line, place, refused, start_within, within_from}
 use Rattle.star_program.proofs.Text.OneProgram.{program_said}
-use Rattle.star_program.proofs.Text.AddedStatements.{begun_group, begun_body, begun_scan, begun_end, whole_report, whole_show, whole_sort, counts_registers, counts_group, counts_step, counts_scan, counts_end, counts_show, counts_sort}
+use Rattle.star_program.proofs.Text.AddedStatements.{begun_group, begun_body, begun_scan, begun_end, whole_show, whole_sort, counts_registers, counts_group, counts_step, counts_scan, counts_end, counts_show, counts_sort}
+use Rattle.std.proofs.lemmas.Grind.{common_steps}
 
 -- ---- a statement that may stand there
 
@@ -23,10 +24,7 @@ no_end true line h = cc
 no_end false line h = cc
 
 some_depth : (p q : Place) → place_after_step p says.End ≡ Some q → 0 < p.depth
-some_depth p q h = elim (cases_Bool (p.depth == 0)) [
-  | inl none ↦ let bad : ⊥ = let no = rw none at h in cc in absurd bad
-  | inr some ↦ let other = eqb-false p.depth 0 some in omega (arith, other)
-]
+some_depth p q h = grind (arith, cases_Bool, eqb-false)
 
 pub ends_some : (st : Stage) (p q : Place) → after_in st p says.End ≡ Some q → 0 < p.depth
 ends_some stage.Groups p q h = some_depth p q h
@@ -40,10 +38,7 @@ small_registers n h = leb-true n 4096 h
 small_group : (place : ℕ) (group : GroupDecl) → is_small (says.Group place group) ≡ true
     → IsSmall group
 unfolding is_small
-small_group place group h =
-    let parts : (nat_le (length group.keys) 6 ≡ true)
-    × (nat_le (length group.aggregates) 8 ≡ true) = and_parts _ _ h in
-    record { keys = leb-true _ _ parts.0; aggregates = leb-true _ _ parts.1 }
+small_group place group h = grind (arith, and_parts, leb-true)
 
 abbrev Goes : Place → Draft → Statement → Place → Draft → Type 0
 Goes p d s q e = IsAt q e × (told q.stage e ≡ told p.stage d ++ s ∷ [])
@@ -56,10 +51,7 @@ Steps d s q e = IsAt q e × (told q.stage e ≡ begun d ++ s ∷ [])
 arrives : (r q : Place) (d e : Draft) (ss : List Statement) → r ≡ q → IsWithinLargest q → e ≡ d
     → Counts r.groups r.instructions r.depth r.shows r.sorts d → IsInOrder r.stage d
     → told r.stage d ≡ ss → IsAt q e × (told q.stage e ≡ ss)
-arrives r q d e ss is within added counts order says = rw (← is, added) (
-  record { within = subst IsWithinLargest (sym is) within; counts = counts; order = order },
-  says,
-)
+arrives r q d e ss is within added counts order says = grind arith
 
 -- a step of the body, from the groups on
 module _ (g i dp sh so : ℕ) (d : Draft) (q : Place) (e : Draft) (counts : Counts g i dp sh so d)
@@ -72,11 +64,7 @@ module _ (g i dp sh so : ℕ) (d : Draft) (q : Place) (e : Draft) (counts : Coun
 
   scan_goes : (t : TableId) (r : ℕ) → place stage.Body g (i + 1) (dp + 1) sh so ≡ q
       → IsAdded d (says.Scan t r) e → Steps d (says.Scan t r) q e
-  scan_goes t r is added =
-      let there : IsWithinLargest (place stage.Body g (i + 1) (dp + 1) sh so) =
-      subst IsWithinLargest (sym is) within in
-      arrives _ q _ e _ is within added (counts_scan g i dp sh so t r d there.depth counts) order
-      (begun_scan d t r)
+  scan_goes t r is added = grind (arith, common_steps, place, arrives, counts_scan, begun_scan)
 
   end_goes : place stage.Body g i (dp - 1) sh so ≡ q → IsClosed d e → Steps d says.End q e
   end_goes is added = arrives _ q e e _ is within refl (counts_end g i dp sh so d e added counts)
@@ -85,16 +73,8 @@ module _ (g i dp sh so : ℕ) (d : Draft) (q : Place) (e : Draft) (counts : Coun
 
   report_goes : (n : ℕ) → after_in stage.Body (place stage.Body g i dp sh so) (says.Report n) ≡ Some q
       → IsAdded d (says.Report n) e → Steps d (says.Report n) q e
-  report_goes n may added = elim (cases_Bool (dp == 0)) [
-    | inl none ↦
-        let there = rw none at may in
-        let is : place stage.Shows g i dp sh so ≡ q = cc in
-        let closed_all : d.scans ≡ [] =
-        nil_from_length d.scans (counts.2.open_scans ∙ eqb-true dp 0 none) in
-        arrives _ q _ e _ is within added counts (closed_all, order.1)
-        (whole_report d n closed_all order.0 order.1)
-    | inr some ↦ let bad : ⊥ = let nowhere = rw some at may in cc in absurd bad
-  ]
+  report_goes n may added =
+      grind (arith, common_steps, cases_Bool, place, nil_from_length, eqb-true, arrives)
 
 -- a statement after its like, by the part of the program
 goes : (st : Stage) (g i dp sh so : ℕ) (d : Draft) (s : Statement) (q : Place) (e : Draft)
@@ -104,23 +84,9 @@ goes stage.Header g i dp sh so d says.Header q e at may within small added =
     let is : place stage.Registers g i dp sh so ≡ q = cc in
     arrives _ q _ e _ is within added at.counts at.order refl
 goes stage.Registers g i dp sh so d (says.Registers n) q e at may within small added =
-    let is : place stage.Groups g i dp sh so ≡ q = cc in
-    let order = at.order in
-    arrives _ q _ e _ is within added
-    (counts_registers g i dp sh so n d (small_registers n small) at.counts)
-    (order.1, order.2, order.3, order.4) (rw (order.0, order.1, order.2) refl)
+    grind (arith, place, arrives, counts_registers, small_registers)
 goes stage.Groups g i dp sh so d (says.Group n group) q e at may within small added =
-    elim (cases_Bool (n == g)) [
-      | inl same ↦
-          let there = rw same at may in
-          let is : place stage.Groups (g + 1) i dp sh so ≡ q = cc in
-          arrives _ q _ e _ is within added
-          (counts_group g i dp sh so group d (small_group n group small) at.counts) at.order
-          (begun_group d group at.order.0 at.order.1
-          ∙ ap (λ k. begun d ++ says.Group k group ∷ [])
-          (at.counts.1.many ∙ sym (eqb-true n g same)))
-      | inr other ↦ let bad : ⊥ = let none = rw other at may in cc in absurd bad
-    ]
+    grind (arith, common_steps, cases_Bool, place, arrives, counts_group, small_group, begun_group)
 goes stage.Groups g i dp sh so d (says.Act op) q e at may within small added =
     act_goes g i dp sh so d q e at.counts (at.order.2, at.order.3) within op (cc) added
     at.within.depth
@@ -149,10 +115,7 @@ goes stage.Shows g i dp sh so d (says.Show show) q e at may within small added =
     arrives _ q _ e _ is within added (counts_show g i dp sh so show d at.counts) at.order
     (whole_show d show at.order.1)
 goes stage.Shows g i dp sh so d (says.Sort key) q e at may within small added =
-    let is : place stage.Sorts g i dp sh 1 ≡ q = cc in
-    let none : so ≡ 0 = sym at.counts.4 ∙ ap length at.order.1 in
-    arrives _ q _ e _ is within added
-    (counts_sort g i dp sh 0 key d (rw none at at.counts)) at.order.0 (whole_sort d key)
+    grind (arith, place, arrives, counts_sort, whole_sort)
 goes stage.Sorts g i dp sh so d (says.Sort key) q e at may within small added =
     let is : place stage.Sorts g i dp sh (so + 1) ≡ q = cc in
     arrives _ q _ e _ is within added (counts_sort g i dp sh so key d at.counts) at.order
@@ -174,15 +137,7 @@ goes_on p d s q e at may within small added =
 
 pub reached_ok : (p : Place) (line : ℕ) (s : Statement) (o : Option Place) (q : Place)
     → place_reached p line s o ≡ Ok q → (o ≡ Some q) × (is_within q ≡ true) × (is_small s ≡ true)
-reached_ok p line s None q h = let bad : ⊥ = cc in absurd bad
-reached_ok p line s (Some r) q h = elim (cases_Bool (is_within r && is_small s)) [
-  | inl small ↦
-      let parts = and_parts (is_within r) (is_small s) small in
-      let is = rw small at h in
-      let same : r ≡ q = cc in
-      (ap Some same, rw (← same) parts.0, parts.1)
-  | inr large ↦ let bad : ⊥ = let no = rw large at h in cc in absurd bad
-]
+reached_ok p line s it q h = grind (arith, cases_Bool, and_parts)
 
 abbrev pub opens_report : Place → List ℕ → Bool
 opens_report p text = nat_lt 0 p.depth && begins_report (words_of text)
@@ -191,21 +146,14 @@ pub advance_ok : (p : Place) (line : ℕ) (text : List ℕ) (s : Statement) (q :
     → said text ≡ Some s → advance p line text ≡ Ok q
     → place_reached p line s (place_after p s) ≡ Ok q
 unfolding advance
-advance_ok p line text s q is h = elim (cases_Bool (opens_report p text)) [
-  | inl report ↦ let bad : ⊥ = let no = rw report at h in cc in absurd bad
-  | inr other ↦ rw (other, is) at h
-]
+advance_ok p line text s q is h = grind (arith, cases_Bool)
 
 said_more : (p : Place) (d : Draft) (s : Statement) (q : Place) (e : Draft) (text : List ℕ)
     (texts : List (List ℕ)) → is_blank_line text ≡ false → said text ≡ Some s
     → told q.stage e ≡ told p.stage d ++ s ∷ []
     → map Some (told p.stage d) ++ said_in (text ∷ texts)
     ≡ map Some (told q.stage e) ++ said_in texts
-said_more p d s q e text texts filled is more =
-    let all : map Some (told q.stage e) ≡ map Some (told p.stage d) ++ Some s ∷ [] =
-    ap (map Some) more ∙ map_push Some (told p.stage d) s in
-    rw (filled, is, all) (sym
-    (append_assoc (map Some (told p.stage d)) (Some s ∷ []) (said_in texts)))
+said_more p d s q e text texts filled is more = grind (arith, map_push, append_assoc)
 
 -- a line whose statement was added
 pub line_passed : (p : Place) (d : Draft) (line : ℕ) (text : List ℕ) (s : Statement) (q : Place)
@@ -223,11 +171,7 @@ line_passed p d line text s q e filled at is goes_there added =
 
 pub blank_passed : (p : Place) (d : Draft) (line : ℕ) (text : List ℕ) → is_blank_line text ≡ true
     → IsAt p d → IsPassed p d line text p d
-blank_passed p d line text blank at = record {
-  at = at;
-  faults = λ texts. blank_line p line text texts blank;
-  says = λ texts. rw blank refl;
-}
+blank_passed p d line text blank at = grind (arith, blank_line)
 
 -- the end of a scan is reached in one alone
 pub end_opened : (p : Place) (d : Draft) (line : ℕ) (text : List ℕ) (s : Statement) (q : Place)
@@ -244,17 +188,7 @@ end_opened p d line text s q at is goes_there end =
 
 pub nothing_at_start : IsAt start nothing_read
 unfolding start nothing_read
-nothing_at_start = record {
-  within = start_within;
-  counts = (
-    lit≤ tt,
-    record { many = refl; each = λ k d h. absurd (omega arith) },
-    record { open_scans = refl; many = refl; nested = lit≤ tt },
-    refl,
-    refl,
-  );
-  order = (refl, refl, refl, refl, refl);
-}
+nothing_at_start = grind (arith, start_within, lit≤)
 
 pub nothing_told : told start.stage nothing_read ≡ []
 unfolding start
@@ -263,29 +197,11 @@ nothing_told = refl
 -- only the parts below the report end a text
 ended_in : (st : Stage) (depth line : ℕ) (d : Draft) → IsInOrder st d → end_in st depth line ≡ None
     → (d.scans ≡ []) × (told st d ≡ whole_draft d)
-ended_in stage.Header depth line d order h = let bad : ⊥ = cc in absurd bad
-ended_in stage.Registers depth line d order h = let bad : ⊥ = cc in absurd bad
-ended_in stage.Groups depth line d order h = let bad : ⊥ = no_end (depth == 0) line h in absurd bad
-ended_in stage.Body depth line d order h = let bad : ⊥ = no_end (depth == 0) line h in absurd bad
-ended_in stage.Shows depth line d order h = (order.0, refl)
-ended_in stage.Sorts depth line d order h = (order, refl)
+ended_in it depth line d order h = grind (arith, no_end)
 
 pub end_within : (p : Place) (d : Draft) (line : ℕ) → IsAt p d → end_in p.stage p.depth line ≡ None
     → IsWithinLimits (finished d)
-end_within p d line at h =
-    let last = ended_in p.stage p.depth line d at.order h in
-    let counts = at.counts in
-    let body : closed d.scans d.body ≡ d.body = ap (λ os. closed os d.body) last.0 in
-    let size : code_size d.body ≡ p.instructions = sym (ap code_size body) ∙ counts.2.many in
-    record {
-      registers = counts.0;
-      groups = omega (arith, counts.1.many, at.within.groups);
-      each_group = counts.1.each;
-      instructions = omega (arith, size, at.within.instructions);
-      scans = rw body at counts.2.nested;
-      shows = omega (arith, counts.3, at.within.shows);
-      sorts = omega (arith, counts.4, at.within.sorts);
-    }
+end_within p d line at h = grind (arith, ended_in)
 
 pub end_spelled : (p : Place) (d : Draft) (line : ℕ) (text : List ℕ) → IsAt p d
     → end_in p.stage p.depth line ≡ None → said_in (lines_of text) ≡ map Some (told p.stage d)

@@ -1,21 +1,20 @@
 -- What a line says can be said: its numbers are short, its names and texts have the right bytes.
 use Rattle.std.specs.Prelude.{codes, filter, nat_le, not, ℤ, pos, neg_ℤ, if◌then◌else◌}
-use Rattle.std.proofs.Common.{◌≡◌, ◌==◌, ◌&&◌, ◌<◌, ◌≤◌, ◌^◌, ◌∷◌, [], ℕ, zero, suc, Bool, true, false, List, Option, Some, None, All, drop, map, arith, ap, refl, subst, inl, inr}
+use Rattle.std.proofs.Common.{◌≡◌, ◌==◌, ◌&&◌, ◌≤◌, ◌^◌, ◌∷◌, [], ℕ, zero, suc, Bool, true, false, List, Option, Some, None, All, drop, map, arith, refl, subst, inl, inr}
 use Rattle.std.specs.{List.list_all, Option.option_and_then, Option.option_map, Str.Parse.starts_with_minus}
 use Rattle.std.proofs.lemmas.{Bool.and_parts, Bool.cases_Bool, Bool.leb-true, Bool.lt-ltb, List.Elements.All-cons, List.Elements.All-nil}
 use Rattle.star_interval.specs.Range.{is_i64}
 use Rattle.star_schema.specs.Records.{is_filled, with_first}
 use Rattle.star_common.specs.{Printable.is_printable, Numerals.numeral_of}
-use Rattle.star_schema.specs.declared.{column.ColumnId.ColumnId, group.GroupColumn.GroupColumn, group.SortKey.SortKey}
 use Rattle.star_schema.specs.declared.group.GroupColumn.TheVariants as column
 use Rattle.star_program.specs.Text.Keywords.{aggregate_of_word, column_of_word, direction_of, keyword_of, mnemonic_of, same, shape_of_word, table_of_word}
 use Rattle.star_program.specs.Text.Lines.{begins_with, is_blank_line, lines_of, pieces_of, words_of}
 use Rattle.star_program.specs.Text.Numerals.{constant_of, count_of, is_show_name, register_of, up_to}
-use Rattle.star_program.specs.Text.Said.{assigned, both, by_first, by_keyword, by_words, each, end_of, from_one_word, from_three_words, from_two_words, group_column_of, group_head, group_key_of, group_of, header_of, lists, name_of, only_word, operation_of, put_head, put_of, quoted_text_of, said, show_of, sort_of, text_key, unquoted, until_colon}
+use Rattle.star_program.specs.Text.Said.{assigned, both, by_first, by_keyword, by_words, each, end_of, from_one_word, from_three_words, from_two_words, group_column_of, group_key_of, group_of, header_of, lists, name_of, operation_of, put_of, quoted_text_of, said, show_of, sort_of, text_key, unquoted, until_colon}
 use Rattle.star_program.specs.Text.Spellable.{IsKey, IsPrinted, IsSayable, HasFourDigits, IsShortColumn, IsSpellableOp, IsSpellableOperation, OnlySpellable}
 use Rattle.star_program.specs.{Text.Spelling.Spells, Text.Spelling.program_statements, World.is_text}
 use Rattle.star_program.specs.declared.group.GroupKey.TheVariants as key
-use Rattle.star_program.specs.declared.{op.Op.Op, op.Operation.Operation, program.Show.Show, spelling.keyword.Keyword.Keyword, spelling.keyword.Mnemonic.Mnemonic, spelling.statement.Statement.Statement}
+use Rattle.star_program.specs.declared.{program.Show.Show, spelling.keyword.Keyword.Keyword, spelling.keyword.Mnemonic.Mnemonic, spelling.statement.Statement.Statement}
 use Rattle.star_program.specs.declared.op.Op.TheVariants as op
 use Rattle.star_program.specs.declared.op.Operation.TheVariants as operation
 use Rattle.star_program.specs.declared.spelling.keyword.Keyword.TheVariants as keyword
@@ -117,10 +116,7 @@ lists_gives {g = g} P Q first second ws =
 
 count_short : Gives count_of HasFourDigits
 unfolding count_of
-count_short w = if_some (numeral_of 4 w) (λ n h.
-    let below : n < 10 ^ 4 = numeral_below 4 w n h in
-    let big : 10 ^ 4 ≡ 10000 = refl in
-    omega (arith, below, big))
+count_short w = grind (arith, if_some, numeral_below)
 
 register_short : Gives register_of HasFourDigits
 unfolding register_of

@@ -1,6 +1,6 @@
 -- The text of a program that can be spelled spells it.
 use Rattle.std.specs.Prelude.{codes, decimal, filter, nat_le, not}
-use Rattle.std.proofs.Common.{◌≡◌, ◌==◌, ◌&&◌, ◌≤◌, ◌*◌, ◌∙◌, ◌∷◌, ◌++◌, [], ℕ, zero, suc, true, false, List, Option, Some, None, All, append_assoc, append-nil, map, arith, ap, refl, sym, replicate, slice_index_or}
+use Rattle.std.proofs.Common.{◌≡◌, ◌==◌, ◌≤◌, ◌*◌, ◌∙◌, ◌∷◌, ◌++◌, [], ℕ, zero, suc, true, false, List, Option, Some, None, All, append_assoc, append-nil, map, arith, ap, refl, sym, replicate, slice_index_or}
 use Rattle.std.specs.{Fmt.signed_decimal, List.flat_map, List.list_all}
 use Rattle.std.proofs.lemmas.{Bool.and_parts, Bool.leb-true, Bool.ne_eqb, List.Concat.flat_map-append, List.Elements.All-head, List.Elements.All-tail, List.Folds.list_all-append}
 use Rattle.star_schema.specs.{Records.with_first, Schema.column_name, Schema.column_of as schema_column, Schema.table_name, Words.aggregate_name, Words.direction_name, Words.shape_name}
@@ -19,7 +19,7 @@ use Rattle.star_program.specs.declared.op.Operation.TheVariants as operation
 use Rattle.star_program.specs.declared.spelling.keyword.Mnemonic.TheVariants as mnemonic
 use Rattle.star_program.specs.declared.spelling.statement.Statement.TheVariants as says
 use Rattle.star_program.proofs.Text.{LineLemmas.goes_on, LineLemmas.no_lines, WordLemmas.space_first, WrittenLemmas.flat_map_map}
-use Rattle.star_program.proofs.Text.SpelledWords.{aggregate_read, aggregate_word, behind, column_apart, column_read, column_word, constant_decimal, constant_word, count_decimal, count_word, direction_read, direction_word, is_word, is_word_byte, name_word, mnemonic_read, mnemonic_word, quote_printable, quoted_printable, quoted_read, register_is_word, register_no_keyword, register_read, register_word, shape_read, shape_word, table_read, table_word, words_before_quote, words_behind, words_printable}
+use Rattle.star_program.proofs.Text.SpelledWords.{aggregate_read, aggregate_word, behind, column_apart, column_read, column_word, constant_decimal, constant_word, count_decimal, count_word, direction_read, direction_word, is_word, name_word, mnemonic_read, mnemonic_word, quote_printable, quoted_printable, quoted_read, register_is_word, register_no_keyword, register_read, register_word, shape_read, shape_word, table_read, table_word, words_before_quote, words_behind, words_printable}
 
 -- ---- a statement and its text
 
@@ -30,31 +30,18 @@ record IsSpoken (s : Statement) : Type 0 where
   means : by_words (words_of (statement_text s)) ≡ Some s
 
 word_starts : (w t : List ℕ) → is_word w ≡ true → is_blank_line (w ++ t) ≡ false
-word_starts [] t h = let bad : ⊥ = cc in absurd bad
-word_starts (b ∷ w) t h =
-    let bytes = and_parts (is_word_byte b) (list_all is_word_byte w) h in
-    let low : 33 ≤ b = leb-true 33 b
-    (and_parts (nat_le 33 b) (nat_le b 126)
-    (and_parts (nat_le 33 b && nat_le b 126) (not (b == 39)) bytes.0).0).0 in
-    rw (ne_eqb b 32 (λ e. absurd (omega arith))) refl
+word_starts it t h = grind (arith, and_parts, leb-true, ne_eqb)
 
 spoken : (s : Statement) (w : List ℕ) (ws : List (List ℕ)) → statement_text s ≡ w ++ behind ws
     → is_word w ≡ true → list_all is_word ws ≡ true → by_words (w ∷ ws) ≡ Some s → IsSpoken s
-spoken s w ws is h all means = record {
-  printable = rw is (words_printable w ws h all);
-  starts = rw is (word_starts w (behind ws) h);
-  means = rw (is, words_behind w ws h all) means;
-}
+spoken s w ws is h all means = grind (arith, words_printable, word_starts, behind, words_behind)
 
 spoken_quote : (s : Statement) (w : List ℕ) (ws : List (List ℕ)) (q : List ℕ)
     → statement_text s ≡ w ++ (behind ws ++ 32 ∷ 39 ∷ q) → is_word w ≡ true
     → list_all is_word ws ≡ true → IsPrinted (39 ∷ q)
     → by_words (w ∷ (ws ++ (39 ∷ q) ∷ [])) ≡ Some s → IsSpoken s
-spoken_quote s w ws q is h all printed means = record {
-  printable = rw is (quote_printable w ws (39 ∷ q) h all printed);
-  starts = rw is (word_starts w (behind ws ++ 32 ∷ 39 ∷ q) h);
-  means = rw (is, words_before_quote w ws q h all) means;
-}
+spoken_quote s w ws q is h all printed means =
+    grind (arith, quote_printable, word_starts, behind, words_before_quote)
 
 -- one, two or three words after the first
 one_behind : (w : List ℕ) → 32 ∷ w ≡ behind (w ∷ [])
@@ -80,11 +67,7 @@ target_words : (t : ℕ) (m : Mnemonic) (rest : List ℕ)
     → target_text t m ++ rest
     ≡ register_word t ++ (behind (codes "=" ∷ mnemonic_name m ∷ []) ++ rest)
 unfolding target_text
-target_words t m rest =
-    let end : mnemonic_name m ++ rest ≡ (mnemonic_name m ++ []) ++ rest =
-    ap (λ x. x ++ rest) (sym (append-nil (mnemonic_name m))) in
-    ap (λ x. 114 ∷ x) (append_assoc (decimal t) (32 ∷ 61 ∷ 32 ∷ mnemonic_name m) rest)
-    ∙ ap (λ x. 114 ∷ (decimal t ++ 32 ∷ 61 ∷ 32 ∷ x)) end
+target_words t m rest = grind (arith, append-nil, append_assoc)
 
 spoken_target : (t : ℕ) (m : Mnemonic) (operands : List (List ℕ)) (o : Operation) (text : List ℕ)
     → HasFourDigits t → assigned_text t o ≡ target_text t m ++ text → text ≡ behind operands
@@ -159,11 +142,7 @@ lists_read : {A B : Type 0} (f : List ℕ → Option A) (g : List ℕ → Option
     (w : B → List ℕ) (xs : List A) (ys : List B) → All (IsItem f v) xs
     → All (λ y. g (w y) ≡ Some y) ys
     → lists f g (map v xs ++ codes ":" ∷ map w ys) ≡ Some (xs, ys)
-lists_read f g v w xs ys front back =
-    let first : until_colon f (map v xs ++ codes ":" ∷ map w ys) ≡ Some (xs, map w ys) =
-    until_colon_read f v xs (map w ys) front in
-    let second : each g (map w ys) ≡ Some ys = each_read g w ys back in
-    rw (first, second) refl
+lists_read f g v w xs ys front back = grind (arith, until_colon_read, each_read)
 
 words_all : {A : Type 0} (word : A → List ℕ) (xs : List A) → All (λ x. is_word (word x) ≡ true) xs
     → list_all is_word (map word xs) ≡ true
@@ -177,21 +156,13 @@ words_all word (x ∷ xs) h =
 lists_are_words : {A B : Type 0} (v : A → List ℕ) (w : B → List ℕ) (xs : List A) (ys : List B)
     → All (λ x. is_word (v x) ≡ true) xs → All (λ y. is_word (w y) ≡ true) ys
     → list_all is_word (map v xs ++ codes ":" ∷ map w ys) ≡ true
-lists_are_words v w xs ys front back =
-    rw (
-      list_all-append is_word (map v xs) (codes ":" ∷ map w ys),
-      words_all v xs front,
-      words_all w ys back,
-    ) refl
+lists_are_words v w xs ys front back = grind (arith, list_all-append, is_word, words_all)
 
 -- both lists as they are written
 lists_text : {A B : Type 0} (v : A → List ℕ) (w : B → List ℕ) (xs : List A) (ys : List B)
     → flat_map (λ x. 32 ∷ v x) xs ++ (32 ∷ 58 ∷ flat_map (λ y. 32 ∷ w y) ys)
     ≡ behind (map v xs ++ codes ":" ∷ map w ys)
-lists_text v w xs ys =
-    sym (flat_map-append (λ u. 32 ∷ u) (map v xs) (codes ":" ∷ map w ys)
-    ∙ ap (λ t. t ++ (32 ∷ 58 ∷ behind (map w ys))) (flat_map_map (λ u. 32 ∷ u) v xs)
-    ∙ ap (λ t. flat_map (λ x. 32 ∷ v x) xs ++ (32 ∷ 58 ∷ t)) (flat_map_map (λ u. 32 ∷ u) w ys))
+lists_text v w xs ys = grind (arith, flat_map-append, behind, flat_map_map)
 
 register_items : (rs : List ℕ) → All HasFourDigits rs → All (IsItem register_of register_word) rs
 register_items rs h k d small = (register_read (slice_index_or rs k d) (h k d small), refl)
@@ -291,11 +262,7 @@ colon_no_column = refl
 
 key_item : (k : GroupKey) → IsKey k → IsItem group_key_of key_word k
 unfolding group_key_of key_word
-key_item key.Number h = (refl, refl)
-key_item (key.Text c) h = (
-  rw (column_apart c (codes "number") number_no_column, column_read c, h) refl,
-  column_apart c (codes ":") colon_no_column,
-)
+key_item it h = grind (arith, column_apart, number_no_column, column_read, colon_no_column)
 
 key_is_word : (k : GroupKey) → is_word (key_word k) ≡ true
 unfolding key_word
@@ -435,21 +402,12 @@ indented_printable k t h =
 
 said_line : (l : Line) → IsSpoken l.says → said (content_of l) ≡ Some l.says
 unfolding said
-said_line l h = rw (
-  indented_printable (2 * l.depth) (statement_text l.says) h.printable,
-  spaces_words (2 * l.depth) (statement_text l.says),
-) h.means
+said_line l h = grind (arith, indented_printable, spaces_words)
 
 line_first : (l : Line) (rest : List ℕ) → IsSpoken l.says
     → lines_of (written_line l ++ rest) ≡ content_of l ∷ lines_of rest
 unfolding written_line
-line_first l rest h =
-    let spaces : List ℕ = replicate (2 * l.depth) 32 in
-    let text : List ℕ = statement_text l.says in
-    let regrouped : (spaces ++ (text ++ 10 ∷ [])) ++ rest ≡ (spaces ++ text) ++ 10 ∷ rest =
-    simp append_assoc in
-    ap lines_of regrouped ∙ line_cut (spaces ++ text) rest
-    (indented_printable (2 * l.depth) text h.printable)
+line_first l rest h = grind (arith, append_assoc, line_cut, indented_printable)
 
 lines_said : (ls : List Line) → All IsSayable (map (λ l. l.says) ls)
     → map said (filter (λ line. not (is_blank_line line)) (lines_of (flat_map written_line ls)))

@@ -1,9 +1,9 @@
 -- The words of a written line, and what each is read as.
 use Rattle.std.specs.Prelude.{decimal, filter, nat_le, nat_lt, not, ℤ, pos, negsuc}
-use Rattle.std.specs.{Cmp.Lexicographic.bytes_decides, Char.is_ascii_digit, Fmt.signed_decimal, List.flat_map, List.list_all, Option.option_map, Str.Parse.AllDigits, Str.Parse.starts_with_minus}
-use Rattle.std.proofs.Common.{◌≡◌, ◌==◌, ◌&&◌, ◌||◌, ◌<◌, ◌≤◌, ◌^◌, ◌∙◌, ◌∷◌, ◌++◌, [], ℕ, suc, Bool, true, false, List, Some, None, append_assoc, append-nil, length, arith, ap, refl, sym, inl, inr, lit<, lit≤}
-use Rattle.std.proofs.lemmas.Bool.{and_parts, cases_Bool, eqb-false, eqb-true, le-leb, leb-true, ltb-true, ne_eqb}
-use Rattle.std.proofs.{lemmas.Fmt.decimal_is_IsNumeral, lemmas.Fmt.length-decimal-le, lemmas.List.Folds.list_all-append, lemmas.Str.Parse.digit_at}
+use Rattle.std.specs.{Cmp.Lexicographic.bytes_decides, Char.is_ascii_digit, Fmt.signed_decimal, List.flat_map, List.list_all, Str.Parse.AllDigits, Str.Parse.starts_with_minus}
+use Rattle.std.proofs.Common.{◌≡◌, ◌==◌, ◌&&◌, ◌||◌, ◌<◌, ◌≤◌, ◌^◌, ◌∙◌, ◌∷◌, ◌++◌, [], ℕ, suc, Bool, true, false, List, Some, None, append_assoc, append-nil, arith, ap, refl, inl, inr, lit<, lit≤}
+use Rattle.std.proofs.lemmas.Bool.{and_parts, cases_Bool, eqb-true, le-leb, leb-true, ltb-true, ne_eqb}
+use Rattle.std.proofs.{lemmas.Fmt.decimal_is_IsNumeral, lemmas.Fmt.length-decimal-le, lemmas.List.Folds.list_all-append, lemmas.Str.Parse.digit_at, lemmas.Grind.common_steps}
 use Rattle.star_interval.specs.Range.{is_i64}
 use Rattle.star_schema.specs.{Records.is_filled, Records.with_first, Schema.column_name, Schema.column_of as schema_column, Schema.table_name, Words.aggregate_name, Words.direction_name, Words.shape_name, declared.column.ColumnId.ColumnId, declared.column.ColumnId.TheVariants.DDatekey}
 use Rattle.star_schema.specs.{declared.table.TableId.TableId, declared.table.TableId.TheVariants.Date, declared.group.Aggregate.Aggregate, declared.group.Direction.Direction, declared.group.Shape.Shape}
@@ -20,6 +20,7 @@ use Rattle.star_schema.specs.declared.group.Shape.TheVariants as shape
 use Rattle.star_program.specs.declared.op.Edge.TheVariants as edge
 use Rattle.star_program.specs.declared.op.Operator.TheVariants as operator
 use Rattle.star_program.specs.declared.spelling.keyword.Mnemonic.TheVariants as mnemonic
+use Rattle.std.proofs.lemmas.Int.{ints}
 
 -- ---- words
 
@@ -35,22 +36,10 @@ abbrev pub behind : List (List ℕ) → List ℕ
 behind ws = flat_map (λ w. 32 ∷ w) ws
 
 word_byte_plain : (b : ℕ) → is_word_byte b ≡ true → ((b == 32) || (b == 39)) ≡ false
-word_byte_plain b h =
-    let parts = and_parts (nat_le 33 b && nat_le b 126) (not (b == 39)) h in
-    let low : 33 ≤ b = leb-true 33 b (and_parts (nat_le 33 b) (nat_le b 126) parts.0).0 in
-    let space : (b == 32) ≡ false = ne_eqb b 32 (λ e. absurd (omega arith)) in
-    rw space (not_true (b == 39) parts.1)
-  where
-    not_true : (x : Bool) → not x ≡ true → x ≡ false
-    not_true true e = let bad : ⊥ = cc in absurd bad
-    not_true false e = refl
+word_byte_plain b h = grind (arith, and_parts, leb-true, ne_eqb)
 
 word_byte_printable : (b : ℕ) → is_word_byte b ≡ true → is_printable b ≡ true
-word_byte_printable b h =
-    let parts = and_parts (nat_le 33 b) (nat_le b 126)
-    (and_parts (nat_le 33 b && nat_le b 126) (not (b == 39)) h).0 in
-    let low : 33 ≤ b = leb-true 33 b parts.0 in
-    rw (le-leb 32 b (omega arith), parts.1) refl
+word_byte_printable b h = grind (arith, and_parts, leb-true, le-leb)
 
 bytes_printable : (w : List ℕ) → list_all is_word_byte w ≡ true → list_all is_printable w ≡ true
 bytes_printable [] h = refl
@@ -77,10 +66,7 @@ piece_whole (b ∷ w) h =
     piece_on b w (word_byte_plain b parts.0) ∙ ap (with_first b) (piece_whole w parts.1)
 
 word_cut : (w rest : List ℕ) → is_word w ≡ true → words_of (w ++ 32 ∷ rest) ≡ w ∷ words_of rest
-word_cut w rest h =
-    let parts = word_parts w h in
-    words_are (w ++ 32 ∷ rest) ∙ ap (filter is_filled) (piece_cut w rest parts.1)
-    ∙ filtered_first w (pieces_of rest) parts.0 ∙ ap (λ ws. w ∷ ws) (sym (words_are rest))
+word_cut w rest h = grind (arith, word_parts, words_are, piece_cut, filtered_first)
 
 word_whole : (w : List ℕ) → is_word w ≡ true → words_of w ≡ w ∷ []
 word_whole w h =
@@ -133,15 +119,7 @@ digits_all (d ∷ ds) h =
     rw (le-leb 48 d at.0, le-leb d 57 at.1) (digits_all ds h.1)
 
 digit_word_byte : (d : ℕ) → is_ascii_digit d ≡ true → is_word_byte d ≡ true
-digit_word_byte d h =
-    let parts = and_parts (nat_le 48 d) (nat_le d 57) h in
-    let low : 48 ≤ d = leb-true 48 d parts.0 in
-    let high : d ≤ 57 = leb-true d 57 parts.1 in
-    rw (
-      le-leb 33 d (omega arith),
-      le-leb d 126 (omega arith),
-      ne_eqb d 39 (λ e. absurd (omega arith)),
-    ) refl
+digit_word_byte d h = grind (arith, and_parts, leb-true, le-leb, ne_eqb)
 
 digits_word_bytes : (ds : List ℕ) → list_all is_ascii_digit ds ≡ true
     → list_all is_word_byte ds ≡ true
@@ -162,13 +140,7 @@ decimal_word n small = rw (
 numeral_decimal : (places n : ℕ) → 0 < places → n < 10 ^ places → n < 2 ^ 64
     → numeral_of places (decimal n) ≡ Some n
 numeral_decimal places n some short small =
-    let numeral = decimal_is_IsNumeral n small in
-    let least : nat_le 1 (length (decimal n)) ≡ true =
-    le-leb 1 (length (decimal n)) (omega (arith, numeral.0.0)) in
-    let most : nat_le (length (decimal n)) places ≡ true =
-    le-leb (length (decimal n)) places (length-decimal-le places n some short small) in
-    let digits : list_all is_ascii_digit (decimal n) ≡ true = decimal_digits n small in
-    rw (least, most, digits) (ap Some numeral.1)
+    grind (arith, decimal_is_IsNumeral, le-leb, length-decimal-le, decimal_digits)
 
 short_below : (n : ℕ) → HasFourDigits n → n < 2 ^ 64
 short_below n h = let big : 9999 < 2 ^ 64 = lit< tt in omega arith
@@ -195,30 +167,16 @@ register_is_word r h = digits_word_bytes (decimal r) (decimal_digits r (short_be
 -- no keyword is a register
 keyword_none : (ds : List ℕ) → list_all is_ascii_digit ds ≡ true → keyword_of (114 ∷ ds) ≡ None
 unfolding keyword_of keyword_name
-keyword_none [] h = refl
-keyword_none (d ∷ ds) h =
-    let high : d ≤ 57 = leb-true d 57
-    (and_parts (nat_le 48 d) (nat_le d 57)
-    (and_parts (is_ascii_digit d) (list_all is_ascii_digit ds) h).0).1 in
-    let other : (101 == d) ≡ false = ne_eqb 101 d (λ e. absurd (omega arith)) in
-    rw other refl
+keyword_none it h = grind (arith, leb-true, and_parts, ne_eqb)
 
 pub register_no_keyword : (r : ℕ) → HasFourDigits r → keyword_of (register_word r) ≡ None
 register_no_keyword r h = keyword_none (decimal r) (decimal_digits r (short_below r h))
 
 first_digit : (ds : List ℕ) → list_all is_ascii_digit ds ≡ true → starts_with_minus ds ≡ false
-first_digit [] h = refl
-first_digit (d ∷ ds) h =
-    let low : 48 ≤ d = leb-true 48 d
-    (and_parts (nat_le 48 d) (nat_le d 57)
-    (and_parts (is_ascii_digit d) (list_all is_ascii_digit ds) h).0).0 in
-    ne_eqb d 45 (λ e. absurd (omega arith))
+first_digit it h = grind (arith, common_steps, leb-true, and_parts, ne_eqb)
 
 constant_below : (n : ℕ) → n ≤ 9223372036854775808 → (n < 10 ^ 19) × (n < 2 ^ 64)
-constant_below n h =
-    let a : 9223372036854775808 < 10 ^ 19 = lit< tt in
-    let b : 9223372036854775808 < 2 ^ 64 = lit< tt in
-    (omega (arith, a), omega (arith, b))
+constant_below n h = grind (arith, lit<)
 
 -- how far a number of 64 bits lies from zero
 below_i64 : (n : ℕ) → nat_lt n (2 ^ 63) ≡ true → n ≤ 9223372036854775807
@@ -237,15 +195,7 @@ constant_decimal (pos n) i =
     let fits : nat_le n 9223372036854775807 ≡ true = le-leb n 9223372036854775807 h in
     rw (plain, number, fits) refl
 constant_decimal (negsuc n) i =
-    let h : n ≤ 9223372036854775807 = below_i64 n i in
-    let top : 9223372036854775808 ≡ suc 9223372036854775807 = refl in
-    let within : suc n ≤ 9223372036854775808 = omega (arith, h) in
-    let small = constant_below (suc n) within in
-    let number : numeral_of 19 (decimal (suc n)) ≡ Some (suc n) =
-    numeral_decimal 19 (suc n) (lit< tt) small.0 small.1 in
-    let fits : nat_le (suc n) 9223372036854775808 ≡ true =
-    le-leb (suc n) 9223372036854775808 within in
-    rw (number, fits) refl
+    grind (arith, ints, below_i64, constant_below, numeral_decimal, lit<, le-leb)
 
 pub constant_word : (z : ℤ) → is_i64 z ≡ true → is_word (signed_decimal z) ≡ true
 unfolding is_i64
@@ -291,19 +241,11 @@ table_word _ = refl
 
 pub mnemonic_read : (m : Mnemonic) → mnemonic_of (mnemonic_name m) ≡ Some m
 unfolding mnemonic_of mnemonic_name
-mnemonic_read (mnemonic.Edge edge.Low) = refl
-mnemonic_read (mnemonic.Edge edge.High) = refl
-mnemonic_read (mnemonic.Binary operator.Add) = refl
-mnemonic_read (mnemonic.Binary _) = refl
-mnemonic_read _ = refl
+mnemonic_read it = grind arith
 
 pub mnemonic_word : (m : Mnemonic) → is_word (mnemonic_name m) ≡ true
 unfolding mnemonic_name
-mnemonic_word (mnemonic.Edge edge.Low) = refl
-mnemonic_word (mnemonic.Edge edge.High) = refl
-mnemonic_word (mnemonic.Binary operator.Add) = refl
-mnemonic_word (mnemonic.Binary _) = refl
-mnemonic_word _ = refl
+mnemonic_word it = grind arith
 
 pub shape_read : (s : Shape) → shape_of_word (shape_name s) ≡ Some s
 unfolding shape_of_word shape_name
@@ -350,10 +292,7 @@ name_bytes (b ∷ w) h =
 
 pub name_word : (w : List ℕ) → is_show_name w ≡ true → is_word w ≡ true
 unfolding is_show_name
-name_word w h =
-    let all = and_parts (nat_le 1 (length w) && nat_le (length w) 64) (list_all is_name_byte w) h in
-    let some = and_parts (nat_le 1 (length w)) (nat_le (length w) 64) all.0 in
-    rw (filled_whole w (leb-true 1 (length w) some.0), name_bytes w all.1) refl
+name_word w h = grind (arith, and_parts, filled_whole, leb-true, name_bytes)
 
 -- ---- texts in quotes
 
@@ -363,19 +302,8 @@ last_quote_read = refl
 
 doubled_read : (text : List ℕ) → unquoted (flat_map doubled text ++ 39 ∷ []) ≡ Some text
 doubled_read [] = last_quote_read
-doubled_read (b ∷ text) = elim (cases_Bool (b == 39)) [
-  | inl quote ↦
-      let is : b ≡ 39 = eqb-true b 39 quote in
-      let rest : unquoted (39 ∷ 39 ∷ (flat_map doubled text ++ 39 ∷ [])) ≡ Some (39 ∷ text) =
-      two_quotes (flat_map doubled text ++ 39 ∷ [])
-      ∙ ap (option_map (λ t. 39 ∷ t)) (doubled_read text) in
-      rw is rest
-  | inr plain ↦
-      let rest : unquoted (b ∷ (flat_map doubled text ++ 39 ∷ [])) ≡ Some (b ∷ text) =
-      plain_byte b (flat_map doubled text ++ 39 ∷ []) (eqb-false b 39 plain)
-      ∙ ap (option_map (λ t. b ∷ t)) (doubled_read text) in
-      rw plain rest
-]
+doubled_read (b ∷ text) =
+    grind (arith, common_steps, doubled_read text, cases_Bool, eqb-true, two_quotes, plain_byte)
 
 pub quoted_read : (text : List ℕ) → quoted_text_of (quoted text) ≡ Some text
 unfolding quoted
@@ -400,9 +328,4 @@ pub quote_printable : (w : List ℕ) (ws : List (List ℕ)) (q : List ℕ) → i
     → list_all is_word ws ≡ true → list_all is_printable q ≡ true
     → list_all is_printable (w ++ (behind ws ++ 32 ∷ q)) ≡ true
 quote_printable w ws q h all printable =
-    rw (
-      list_all-append is_printable w (behind ws ++ 32 ∷ q),
-      list_all-append is_printable (behind ws) (32 ∷ q),
-      bytes_printable w (word_parts w h).1,
-      behind_printable ws all,
-    ) printable
+    grind (arith, list_all-append, bytes_printable, word_parts, behind_printable)

@@ -17,14 +17,7 @@ takes d says.Header may = (d, refl)
 takes d (says.Registers n) may = (record d { registers = n }, refl)
 takes d (says.Group place group) may = (record d { groups = d.groups ++ group ∷ [] }, refl)
 takes d (says.Act op) may = (record d { body = followed d.body (Then op Stop) }, refl)
-takes d (says.Scan t r) may = (
-  record d {
-    scans = d.scans ++ record { before = d.body; table = t; target = r } ∷ [];
-    body =
-        Stop;
-  },
-  refl,
-)
+takes d (says.Scan t r) may = grind arith
 takes d says.End may =
     let split = last_split d.scans (may refl) in
     let o : OpenScan = split.1 in (

@@ -107,10 +107,7 @@ pub cut_word : (line : List ℕ) (k : ℕ) → 0 < k → k < length line → (ge
     → ((j : ℕ) → j < k → ((get_or line j 0 == 32) || (get_or line j 0 == 39)) ≡ false)
     → words_of line ≡ take k line ∷ words_of (drop (suc k) line)
 cut_word line k some within at before =
-    words_are line ∙ ap (filter is_filled) (cut_piece line k within at before)
-    ∙ filtered_first (take k line) (pieces_of (drop (suc k) line))
-    (filled_front line k some within)
-    ∙ ap (λ ws. take k line ∷ ws) (sym (words_are (drop (suc k) line)))
+    grind (arith, words_are, cut_piece, filtered_first, filled_front)
 
 -- a word that has a quote
 pub quoted_word : (line : List ℕ) (k : ℕ) → k < length line → (get_or line k 0 == 39) ≡ true
@@ -163,22 +160,12 @@ pub first_cut : (line : List ℕ) (start : ℕ) (rest : List ℕ) (end : ℕ)
     → position starts_word line ≡ Some start → rest ≡ drop start line
     → position stops_word rest ≡ Some end
     → get_or rest end 0 ≡ 32 → words_of line ≡ take end rest ∷ words_of (drop (suc end) rest)
-first_cut line start rest zero found is stop space =
-    absurd (eqb-false (get_or rest 0 0) 32 (first_byte line start rest found is).2 space)
-first_cut line start rest (suc end) found is stop space =
-    let first = first_byte line start rest found is in
-    let at = position-Some stops_word rest (suc end) 0 stop in
-    first.0 ∙ cut_word rest (suc end) (omega arith) at.0 (eq-eqb (get_or rest (suc end) 0) 32 space)
-    at.2
+first_cut line start rest it found is stop space =
+    grind (arith, eqb-false, first_byte, position-Some, cut_word, eq-eqb)
 
 pub first_quoted : (line : List ℕ) (start : ℕ) (rest : List ℕ) (end : ℕ)
     → position starts_word line ≡ Some start → rest ≡ drop start line
     → position stops_word rest ≡ Some end
     → get_or rest end 0 ≢ 32 → words_of line ≡ rest ∷ words_of []
 first_quoted line start rest end found is stop other =
-    let first = first_byte line start rest found is in
-    let at = position-Some stops_word rest end 0 stop in
-    let quote : (get_or rest end 0 == 39) ≡ true =
-    second (get_or rest end 0 == 32) (get_or rest end 0 == 39)
-    (ne_eqb (get_or rest end 0) 32 other) at.1 in
-    first.0 ∙ quoted_word rest end at.0 quote at.2 ∙ ap (λ ws. rest ∷ ws) (sym no_words)
+    grind (arith, first_byte, position-Some, second, ne_eqb, quoted_word, no_words)

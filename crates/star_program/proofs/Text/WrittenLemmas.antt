@@ -1,5 +1,5 @@
 -- The text of a program, part by part.
-use Rattle.std.proofs.Common.{◌≡◌, ◌≤◌, ◌∙◌, ◌+◌, ◌∷◌, ◌++◌, [], ℕ, List, Some, append_assoc, append-nil, drop, length, map, sym, ap, refl}
+use Rattle.std.proofs.Common.{◌≡◌, ◌≤◌, ◌∙◌, ◌+◌, ◌∷◌, ◌++◌, [], ℕ, List, Some, append_assoc, append-nil, drop, length, map, sym, ap, refl, arith}
 use Rattle.std.specs.List.{flat_map, slice_get}
 use Rattle.std.proofs.lemmas.List.{drop_all, Concat.flat_map-append}
 use Rattle.star_common.proofs.Lists.{drop_at_place}
@@ -20,21 +20,14 @@ pub group_more : (groups : List GroupDecl) (i : ℕ) (group : GroupDecl) (old te
     → slice_get groups i ≡ Some group → text ++ texts (group_lines i (drop i groups)) ≡ old
     → (text ++ written_line (line 0 (says.Group i group)))
     ++ texts (group_lines (i + 1) (drop (i + 1) groups)) ≡ old
-group_more groups i group old text at h =
-    append_assoc text (written_line (line 0 (says.Group i group)))
-    (texts (group_lines (i + 1) (drop (i + 1) groups)))
-    ∙ rw (drop_at_place groups i group at) at h
+group_more groups i group old text at h = grind (arith, append_assoc, drop_at_place)
 
 -- a step and the code after it
 step_lines : (depth : ℕ) (step : Step) (rest : Code)
     → lines_of_code depth (before step rest)
     ≡ lines_of_code depth (code_of_step step) ++ lines_of_code depth rest
 unfolding lines_of_code
-step_lines depth (Act op) rest = refl
-step_lines depth (Scan table target body) rest =
-    ap (λ ls. line depth (says.Scan table target) ∷ ls)
-    (sym (append_assoc (lines_of_code (depth + 1) body) (line depth says.End ∷ [])
-    (lines_of_code depth rest)))
+step_lines depth it rest = grind (arith, append_assoc)
 
 pub step_more : (depth : ℕ) (steps : List Step) (i : ℕ) (step : Step) (old text : List ℕ)
     → slice_get steps i ≡ Some step → text ++ code_text depth (code_of_steps (drop i steps)) ≡ old
@@ -65,17 +58,7 @@ pub scan_text : (depth : ℕ) (table : TableId) (target : ℕ) (body : Code) (ol
     ++ written_line (line depth says.End)
     ≡ old ++ code_text depth (code_of_step (Scan table target body))
 unfolding lines_of_code
-scan_text depth table target body old =
-    let end : flat_map written_line (lines_of_code (depth + 1) body ++ line depth says.End ∷ [])
-    ≡ code_text (depth + 1) body ++ written_line (line depth says.End) =
-    flat_map-append written_line (lines_of_code (depth + 1) body) (line depth says.End ∷ [])
-    ∙ ap (λ t. code_text (depth + 1) body ++ t)
-    (append-nil (written_line (line depth says.End))) in
-    append_assoc (old ++ written_line (line depth (says.Scan table target)))
-    (code_text (depth + 1) body) (written_line (line depth says.End))
-    ∙ append_assoc old (written_line (line depth (says.Scan table target)))
-    (code_text (depth + 1) body ++ written_line (line depth says.End))
-    ∙ ap (λ t. old ++ (written_line (line depth (says.Scan table target)) ++ t)) (sym end)
+scan_text depth table target body old = grind (arith, flat_map-append, append-nil, append_assoc)
 
 pub flat_map_map : {X Y : Type 0} (f : Y → List ℕ) (g : X → Y) (xs : List X)
     → flat_map f (map g xs) ≡ flat_map (λ x. f (g x)) xs
@@ -91,30 +74,7 @@ pub parts_text : (p : Parts)
     ++ (flat_map (λ show. written_line (show_line show)) p.shows
     ++ flat_map (λ key. written_line (sort_line key)) p.sorts))))
 unfolding program_text
-parts_text p =
-    let tail : texts (map show_line p.shows ++ map sort_line p.sorts)
-    ≡ flat_map (λ show. written_line (show_line show)) p.shows
-    ++ flat_map (λ key. written_line (sort_line key)) p.sorts =
-    flat_map-append written_line (map show_line p.shows) (map sort_line p.sorts)
-    ∙ ap (λ t. t ++ texts (map sort_line p.sorts)) (flat_map_map written_line show_line p.shows)
-    ∙ ap (λ t. flat_map (λ show. written_line (show_line show)) p.shows ++ t)
-    (flat_map_map written_line sort_line p.sorts) in
-    let report : List Line =
-    line 0 (says.Report p.report) ∷ (map show_line p.shows ++ map sort_line p.sorts) in
-    let middle : texts (lines_of_code 0 p.body ++ report)
-    ≡ code_text 0 p.body ++ (written_line (line 0 (says.Report p.report))
-    ++ texts (map show_line p.shows ++ map sort_line p.sorts)) =
-    flat_map-append written_line (lines_of_code 0 p.body) report in
-    let groups : texts (group_lines 0 p.groups ++ (lines_of_code 0 p.body ++ report))
-    ≡ texts (group_lines 0 p.groups) ++ texts (lines_of_code 0 p.body ++ report) =
-    flat_map-append written_line (group_lines 0 p.groups) (lines_of_code 0 p.body ++ report) in
-    let head : List ℕ = written_line (line 0 says.Header) in
-    let second : List ℕ = written_line (line 0 (says.Registers p.registers)) in
-    ap (λ t. head ++ (second ++ t))
-    (groups ∙ ap (λ t. texts (group_lines 0 p.groups) ++ t)
-    (middle ∙ ap (λ t. code_text 0 p.body
-    ++ (written_line (line 0 (says.Report p.report)) ++ t)) tail))
-    ∙ sym (append_assoc head second _)
+parts_text p = grind (arith, flat_map-append, flat_map_map, append_assoc)
 
 pub chained : (n1 n2 n3 n4 n5 n6 a b c d e f : List ℕ) → n1 ≡ a → n2 ≡ n1 ++ b → n3 ≡ n2 ++ c
     → n4 ≡ n3 ++ d → n5 ≡ n4 ++ e → n6 ≡ n5 ++ f

@@ -1,24 +1,19 @@
-use Rattle.std.proofs.Common.{◌≡◌, Some, arith, get_or, map, set}
-use Rattle.std.proofs.{lemmas.List.length-map, lemmas.Option.slice_get-get_or}
-use Rattle.std.specs.List.{slice_get}
-use Rattle.star_reader.specs.{declared.column.RawColumn.RawColumn, Columns.raw_kind}
-use Rattle.star_reader.proofs.line.push_line.Goals.{After-index-columns-place}
+use Rattle.std.proofs.Common.{◌≡◌, ◌<◌, ◌≤◌, ◌+◌, ◌∙◌, Some, ℕ, ap, refl, arith, drop, get_or, inl, inr, length, length-drop, length-set, map, set}
+use Rattle.std.proofs.{lemmas.Bool.cases_Bool, lemmas.Bool.eqb-false, lemmas.Bool.eqb-true, lemmas.List.drop-drop, lemmas.List.length-map, lemmas.Option.slice_get-get_or}
+use Rattle.std.specs.{List.slice_get, Prelude.◌==◌, Prelude.nat_eq}
+use Rattle.star_reader.specs.{declared.column.RawColumn.RawColumn, Columns.raw_kind, Private.Steps.HasPushedTo}
+use Rattle.star_reader.proofs.line.push_line.Goals.{After-index-columns-place, In-Some}
 use Rattle.star_reader.proofs.LineSteps as steps
 use Rattle.star_reader.proofs.Pushes as pushes
 use Rattle.star_reader.proofs.line.push_line.Goals as goal
 
 pub loop-place-init : goal.loop-place-init
-loop-place-init c = steps.start c.args.line.now (map raw_kind c.args.columns.now) c.args.columns.now
-
-pub returns-then-at-line-clause-pushed : goal.returns-then-at-line-clause-pushed
-returns-then-at-line-clause-pushed c = λ at_row.
-    steps.short_line c.args.line.now (map raw_kind c.args.columns.now) c.loop-place.place
-    c.loop-place.at at_row c.args.columns.now c.loop-place.columns c.loop-place.invariant
-    (omega (arith, c.loop-place-test.true, length-map c.args.columns.now raw_kind))
-    c.if-at-line.true
-
-pub returns-then-at-line-clause-kinds : goal.returns-then-at-line-clause-kinds
-returns-then-at-line-clause-kinds c = (c.loop-place.invariant.pushed 0).kinds
+loop-place-init c = (
+  0,
+  omega arith,
+  refl,
+  steps.start c.args.line.now (map raw_kind c.args.columns.now) c.args.columns.now,
+)
 
 -- the column at the loop's place, its kind, and the kinds once it has another value
 abbrev column : After-index-columns-place → RawColumn
@@ -33,16 +28,18 @@ column_there c =
 kind_there : (c : After-index-columns-place)
     → slice_get (map raw_kind c.args.columns.now) c.loop-place.place ≡ Some (raw_kind (column c))
 kind_there c =
+    let (at, within, rest, so_far) = c.loop-place.invariant in
     pushes.kind_there c.args.columns.now c.loop-place.columns c.loop-place.place (column c)
-    (c.loop-place.invariant.pushed 0).kinds (column_there c)
+    (so_far.pushed 0).kinds (column_there c)
 
 kinds_kept : (c : After-index-columns-place) (next : RawColumn)
     → raw_kind next ≡ raw_kind (column c)
     → map raw_kind (set c.loop-place.columns c.loop-place.place next)
     ≡ map raw_kind c.args.columns.now
 kinds_kept c next kind =
+    let (at, within, rest, so_far) = c.loop-place.invariant in
     pushes.kinds_kept c.args.columns.now c.loop-place.columns c.loop-place.place (column c) next
-    (c.loop-place.invariant.pushed 0).kinds (column_there c) kind
+    (so_far.pushed 0).kinds (column_there c) kind
 
 pub returns-in_err-count-clause-kinds : goal.returns-in_err-count-clause-kinds
 returns-in_err-count-clause-kinds c =
@@ -51,50 +48,106 @@ returns-in_err-count-clause-kinds c =
 
 pub returns-in-None-clause-pushed : goal.returns-in-None-clause-pushed
 returns-in-None-clause-pushed c = λ at_row.
-    let at = (goal.at.returns-in-None-clause-pushed c).After-index-columns-place in
-    steps.no_cell c.args.line.now (map raw_kind c.args.columns.now) c.loop-place.place
-    c.loop-place.at at_row c.args.columns.now c.loop-place.columns
-    (raw_kind (column at)) c.loop-place.invariant
+    let (at, within, rest, so_far) = c.loop-place.invariant in
+    let here = (goal.at.returns-in-None-clause-pushed c).After-index-columns-place in
+    steps.no_cell c.args.line.now (map raw_kind c.args.columns.now) c.loop-place.place at at_row
+    c.args.columns.now c.loop-place.columns (raw_kind (column here)) so_far
     (omega (arith, c.loop-place-test.true, length-map c.args.columns.now raw_kind))
-    c.if-at-line.false (kind_there at)
-    (rw (c.in-None.is, c.from.ensures) at c.in_ok-count.ensures.pushed)
+    within (kind_there here) (rw (c.in-None.is, rest) at c.in_ok-count.ensures.pushed)
 
 pub returns-in-None-clause-kinds : goal.returns-in-None-clause-kinds
 returns-in-None-clause-kinds c =
     kinds_kept (goal.at.returns-in-None-clause-kinds c).After-index-columns-place
     c.push_front.new.self c.push_front.ensures.kind
 
+-- where the next field begins, and the column of the one before
+abbrev next_at : In-Some → ℕ
+next_at c = c.loop-place.invariant.0 + (c.in-Some.count + 1)
+
+abbrev filled : In-Some → RawColumn
+filled c = get_or c.loop-place.columns c.loop-place.place c.index-columns-place.result
+
+-- one more field
+next : (c : In-Some)
+    → slice_get (map raw_kind c.args.columns.now) c.loop-place.place ≡ Some (raw_kind (filled c))
+    → slice_get c.loop-place.columns c.loop-place.place ≡ Some (filled c)
+    → HasPushedTo c.args.line.now (map raw_kind c.args.columns.now) (c.loop-place.place + 1)
+    (next_at c) c.args.columns.now
+    (set c.loop-place.columns c.loop-place.place c.push_front.new.self)
+next c at_kind at_column =
+    let (at, within, rest, so_far) = c.loop-place.invariant in
+    let pushed = rw (c.in-Some.is, rest) at c.in_ok-count.ensures.pushed in
+    steps.more c.args.line.now (map raw_kind c.args.columns.now) c.loop-place.place at
+    c.in-Some.count c.args.columns.now c.loop-place.columns (raw_kind (filled c)) (filled c)
+    c.push_front.new.self so_far
+    (omega (arith, c.loop-place-test.true, length-map c.args.columns.now raw_kind)) within
+    pushed.0 at_kind pushed.1 at_column pushed.2 c.push_front.ensures.kind
+
+pub returns-then-count-rest-clause-pushed : goal.returns-then-count-rest-clause-pushed
+returns-then-count-rest-clause-pushed c = λ at_row.
+    let (at, within, rest, so_far) = c.loop-place.invariant in
+    let some = (goal.at.returns-then-count-rest-clause-pushed c).In-Some in
+    let here = (goal.at.returns-then-count-rest-clause-pushed c).After-index-columns-place in
+    let more = next some (kind_there here) (column_there here) in
+    let line = c.args.line.now in
+    let old = c.args.columns.now in
+    let place = c.loop-place.place in
+    let new = set c.loop-place.columns place c.push_front.new.self in
+    let long : length new ≡ length old =
+    length-set c.loop-place.columns place c.push_front.new.self ∙ c.loop-place.auto.columns in
+    let end : length (drop at line) ≤ c.in-Some.count = rw rest at c.if-count-rest.true in
+    let past : length line < next_at some = omega (arith, within, length-drop at line, end) in
+    elim (cases_Bool (nat_eq (place + 1) (length new))) [
+      | inl last ↦
+          rw last (steps.whole line (place + 1) (next_at some) at_row old new more
+          (eqb-true (place + 1) (length new) last ∙ long) (omega (arith, past)))
+      | inr early ↦
+          let other = eqb-false (place + 1) (length new) early in
+          rw early (steps.short_line line (map raw_kind old) (place + 1) (next_at some) at_row old new
+          more
+          (omega (arith, c.loop-place-test.true, long, other, length-map old raw_kind)) past)
+    ]
+
+pub returns-then-count-rest-clause-kinds : goal.returns-then-count-rest-clause-kinds
+returns-then-count-rest-clause-kinds c =
+    kinds_kept (goal.at.returns-then-count-rest-clause-kinds c).After-index-columns-place
+    c.push_front.new.self c.push_front.ensures.kind
+
 pub loop-place-preserved : goal.loop-place-preserved
 loop-place-preserved c =
-    let at = (goal.at.loop-place-preserved c).After-index-columns-place in
-    let pushed = rw (c.in-Some.is, c.from.ensures) at c.in_ok-count.ensures.pushed in
-    steps.more c.args.line.now (map raw_kind c.args.columns.now) c.loop-place.place
-    c.loop-place.at c.in-Some.count c.args.columns.now c.loop-place.columns
-    (raw_kind (column at)) (column at) c.push_front.new.self
-    c.loop-place.invariant
-    (omega (arith, c.loop-place-test.true, length-map c.args.columns.now raw_kind))
-    c.if-at-line.false pushed.0 (kind_there at) pushed.1 (column_there at) pushed.2
-    c.push_front.ensures.kind
+    let (at, within, rest, so_far) = c.loop-place.invariant in
+    let here = (goal.at.loop-place-preserved c).After-index-columns-place in
+    let line = c.args.line.now in
+    let more : c.in-Some.count < length c.loop-place.rest.now =
+    omega (arith, c.if-count-rest.false) in
+    let inside : c.in-Some.count < length (drop at line) = rw rest at more in (
+      at + (c.in-Some.count + 1),
+      omega (arith, within, length-drop at line, inside),
+      c.from-rest.ensures ∙ ap (drop (c.in-Some.count + 1)) rest
+          ∙ drop-drop (c.in-Some.count + 1) at line,
+      next (goal.at.loop-place-preserved c).In-Some (kind_there here) (column_there here),
+    )
 
-pub returns-then-at-line-2-clause-pushed : goal.returns-then-at-line-2-clause-pushed
-returns-then-at-line-2-clause-pushed c = λ at_row.
-    steps.long_line c.args.line.now (map raw_kind c.args.columns.now) c.loop-place.place
-    c.loop-place.at at_row c.args.columns.now c.loop-place.columns c.loop-place.invariant
-    (omega (
-      arith,
-      c.loop-place-test.false,
-      c.loop-place.auto.place-end,
-      length-map c.args.columns.now raw_kind,
-    ))
-    c.if-at-line-2.true
+pub returns-clause-pushed : goal.returns-clause-pushed
+returns-clause-pushed c = λ at_row.
+    let (at, within, rest, so_far) = c.loop-place.invariant in
+    let line = c.args.line.now in
+    let old = c.args.columns.now in
+    let left = length-drop at line in
+    let same : length c.loop-place.rest.now ≡ length (drop at line) = ap length rest in
+    let all : c.loop-place.place ≡ length old =
+    omega (arith, c.loop-place-test.false, c.loop-place.auto.place-end) in
+    elim (cases_Bool (length c.loop-place.rest.now == 0)) [
+      | inl none ↦
+          let zero = eqb-true (length c.loop-place.rest.now) 0 none in
+          rw (c.is_empty.ensures, none) (steps.whole line c.loop-place.place at at_row old
+          c.loop-place.columns so_far all (omega (arith, zero, same, left)))
+      | inr some ↦
+          let other = eqb-false (length c.loop-place.rest.now) 0 some in
+          rw (c.is_empty.ensures, some) (steps.long_line line (map raw_kind old)
+          c.loop-place.place at at_row old c.loop-place.columns so_far
+          (omega (arith, all, length-map old raw_kind)) (omega (arith, other, same, left)))
+    ]
 
-pub returns-then-at-line-2-clause-kinds : goal.returns-then-at-line-2-clause-kinds
-returns-then-at-line-2-clause-kinds c = (c.loop-place.invariant.pushed 0).kinds
-
-pub returns : goal.returns
-returns c = record {
-  pushed = λ at_row. steps.whole c.args.line.now c.loop-place.place c.loop-place.at at_row
-      c.args.columns.now c.loop-place.columns c.loop-place.invariant
-      (omega (arith, c.loop-place-test.false, c.loop-place.auto.place-end)) c.if-at-line-2.false;
-  kinds = (c.loop-place.invariant.pushed 0).kinds;
-}
+pub returns-clause-kinds : goal.returns-clause-kinds
+returns-clause-kinds c = (c.loop-place.invariant.3.pushed 0).kinds
