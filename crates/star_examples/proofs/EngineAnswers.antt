@@ -1,7 +1,7 @@
 -- What a call of the engine leaves in its sinks, clause by clause, over sinks whose bytes are known;
 -- and why it answers a fault: each type is the one on the right.
-use Rattle.std.proofs.Common.{◌≡◌, ◌<◌, ◌≤◌, ◌⊎◌, ◌++◌, ◌+◌, ℕ, Bool, true, false, List, [], ◌∷◌, Some, Result, Ok, Err, arith, refl, true≢false}
-use Rattle.std.specs.{Prelude.codes, Option.option_map}
+use Rattle.std.proofs.Common.{◌≡◌, ◌<◌, ◌≤◌, ◌⊎◌, ◌++◌, ◌+◌, ℕ, Bool, true, false, List, [], ◌∷◌, Some, Result, Ok, Err, arith, refl, sym, true≢false}
+use Rattle.std.specs.{Prelude.codes, Fmt.digits, Option.option_map}
 use Rattle.star_common.proofs.Tables.{Gives}
 use Rattle.star_schema.specs.{declared.table.TableId.TheVariants.Lineorder, Columns.bounds_in, Database.Database, Database.TableTexts, Database.rows_in}
 use Rattle.star_catalogue.specs.{declared.fault.LoadFault.LoadFault, declared.fault.LoadFault.TheVariants.DuplicateKey}
@@ -9,17 +9,17 @@ use Rattle.star_query.specs.declared.fault.QueryFault.{QueryFault}
 use Rattle.star_plan.specs.declared.fault.PlanFault.{PlanFault}
 use Rattle.star_program.specs.{declared.program.Parts.Parts, declared.spelling.fault.TextFault.TextFault, Text.FirstFaults.FirstTextFault}
 use Rattle.star_safety.specs.Admissible.{Refused as Reason, TooCostly as Costly}
-use Rattle.star_verify.specs.{declared.refusal.Refusal.Refusal, Views.refusal_view}
+use Rattle.star_verify.specs.{declared.refusal.Refusal.Refusal, declared.refusal.Refusal.TheVariants.TooCostly, RefusalTexts.refusal_text, Views.refusal_view}
 use Rattle.star_query_meaning.specs.Reports.{IsReport}
 use Rattle.star_compile_laws.specs.{Judged.IsOverflow, Wide.turn_wide}
 use Rattle.star_engine.specs.declared.fault.EngineFault.TheVariants.{OutOfMemory, Load, Plan as Names, Program, Query, Refused, Write}
 use Rattle.star_engine.specs.Answered.{Change, HasGained, HasGainedPart, HasWritten, IsAnswered, IsBrokenOff, IsRefused, IsWritten, OrMemory, change}
-use Rattle.star_engine.specs.Executions.{IsAcceptedWithin, IsQuoteOver, IsToldOver, IsUntoldOver, quote_over}
+use Rattle.star_engine.specs.Executions.{IsAcceptedWithin, IsProgramTold, IsQuoteOver, IsToldOver, IsUntoldOver, quote_over}
 use Rattle.star_engine.specs.Loads.{HoldsOfFile, IsLoadFault, IsNoProgram, IsProgram, IsProgramOf, IsUnloaded, IsUnread}
 use Rattle.star_engine.specs.Noted.{HasTold, IsNoted, IsQuoteNoted, IsTellingBrokenOff, IsTellingRefused, IsTellingUntold, Telling}
 use Rattle.star_engine.specs.Queries.{FitsRows, IsNoQuery, IsPlanFault, IsQuery, IsQueryFault, IsQueryQuoteOver, IsQueryToldOver, IsUnansweredOver, IsUnasked, IsUnfit, fact_rows}
 use Rattle.star_engine.specs.Tellings.{IsFileToldOver, IsJudgedOver, IsProgramForecast, IsQueryForecast, IsUnjudgedOver}
-use Rattle.star_engine.specs.{declared.fault.EngineFault.EngineFault, declared.input.Input.Input, declared.thirteen.BenchmarkQuery.BenchmarkQuery, Bench.AreSections, Bench.IsFinding, Bench.IsSection, Bench.refusal_line, Questions.IsProgramOfKind, Questions.IsProgramOfQuery}
+use Rattle.star_engine.specs.{declared.fault.EngineFault.EngineFault, declared.input.Input.Input, declared.thirteen.BenchmarkQuery.BenchmarkQuery, declared.thirteen.BenchmarkQuery.TheVariants.Q11, Bench.AreSections, Bench.IsFinding, Bench.IsSection, Bench.named_quote, Bench.refusal_line, Notes.counts_line, Notes.quote_line, Thirteen.query_name, Questions.IsProgramOfKind, Questions.IsProgramOfQuery}
 use Rattle.star_engine.specs.{QuoteTexts.IsQuoteTextOver, QuoteTexts.IsUnquoted, QuoteTexts.IsUnquotedOver, QuoteTexts.is_program_file, Reading.IsFresh, Reading.came_of, Reading.has_failed, Reading.reads_of}
 
 -- ---- sinks: the bytes, and whether a write has failed
@@ -48,6 +48,10 @@ of_load = Load (DuplicateKey Lineorder 5)
 
 no_whole_text_in_a_failed_sink : HasGained (grown ([], false) (report, true)) report → ⊥
 no_whole_text_in_a_failed_sink all = true≢false all.not_failed
+
+no_part_in_a_sink_that_is_well : HasGainedPart (grown ([], false) (codes "n\n", false)) report 2 → ⊥
+no_part_in_a_sink_that_is_well part = let failed : false ≡ true = part.failed in
+    true≢false (sym failed)
 
 no_part_has_all_bytes : HasGainedPart (grown ([], false) (report, true)) report 4 → ⊥
 no_part_has_all_bytes all = let less : 4 < 4 = all.part in omega arith
@@ -151,9 +155,8 @@ module _ (most : ℕ) (d : Database) (query : List ℕ) (refusal : Refusal)
       × (refusal_view refusal ≡ option_map Reason (turn_wide (bounds_in (rows_in d)) unfit.p))
   a_range_is_too_wide many = (unfit.wide (omega arith), unfit.first (omega arith))
 
-  one_row_more_is_too_many : fact_rows d ≡ most + 1
-      → refusal_view refusal ≡ Some (Costly (fact_rows d))
-  one_row_more_is_too_many many = unfit.costly (omega arith)
+  too_many_rows : most < fact_rows d → refusal_view refusal ≡ Some (Costly (fact_rows d))
+  too_many_rows = unfit.costly
 
   no_query_that_fits : FitsRows most d query → ⊥
   no_query_that_fits fits = unfit.unfit fits
@@ -163,6 +166,11 @@ module _ (d : Database) (program : Parts) where
       → IsAcceptedWithin d most program → ⊥
   one_visit_too_many most many accepted = let cheap : quote_over d program ≤ most =
       accepted.cheap in omega arith
+
+  counted : (most : ℕ) (telling : Telling) (told : IsProgramTold d most program telling)
+      → (telling.done ≡ counts_line told.outcome.visits told.outcome.lookups told.outcome.updates)
+      × (told.outcome.visits ≤ quote_over d program)
+  counted most telling told = (told.done, told.within)
 
 -- ---- what `bench` prints of a query: its quote under its name, and its report or its refusal
 
@@ -174,3 +182,8 @@ module _ (most : ℕ) (d : Database) (q : BenchmarkQuery) (qs : List BenchmarkQu
       × (AreSections most d (q ∷ qs) text ≡ ((section : List ℕ) × (rest : List ℕ)
       × IsSection most d q section × AreSections most d qs rest × (text ≡ section ++ rest)))
   findings = (refl, refl, refl)
+
+bench_lines : (named_quote Q11 5 ≡ codes "Q1.1 quote 5\n")
+    × (refusal_line (TooCostly 10) ≡ codes "refused 71 TooCostly visits 10\n")
+unfolding digits query_name quote_line refusal_text
+bench_lines = (refl, refl)

@@ -6,3 +6,4 @@ pub mod Whole
 pub mod Usable
 pub mod Results
 pub mod Told
+pub mod TextsApart

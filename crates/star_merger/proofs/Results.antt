@@ -1,6 +1,6 @@
 -- What a merge returns is what a query's call returns over all parts.
 use Rattle.std.proofs.Common.{◌≡◌, ◌∙◌, ◌↔◌, ◌<◌, ◌≤◌, ℕ, Bool, List, None, Option, Some, ap, inl, inr, refl, subst, sym}
-use Rattle.std.specs.{List.All, Option.option_map, Prelude.Err, Prelude.Ok, Prelude.Result}
+use Rattle.std.specs.{List.All, Option.option_map, Prelude.Err, Prelude.IfErr, Prelude.Ok, Prelude.Result}
 use Rattle.star_common.specs.Memory.{UnlessMemory}
 use Rattle.star_schema.specs.{declared.table.TableId.TheVariants.Lineorder, Columns.bounds_in, Database.Database, Database.TableTexts, Database.rows_in, Loadable.IsLoadable, Loadable.database_of}
 use Rattle.star_schema.proofs.Typed.{rows_typed}
@@ -19,7 +19,7 @@ use Rattle.star_engine.specs.Queries.{FitsRows, IsPlanOf, IsUnfit, fact_rows}
 use Rattle.star_engine.proofs.NotedAs.{noted_as}
 use Rattle.star_engine.proofs.Noting.{note_broken}
 use Rattle.star_merger.specs.declared.fault.{PartialFault.PartialFault, PartialsFault.PartialsFault}
-use Rattle.star_merger.specs.{Merged.IsMerged, Merged.IsOverlap, Private.Checked.IsUnchecked, Private.Outcomes.IsUnmerged, Private.Shown.IsUsable, Private.Written.IsRefusedAfter, Private.Written.as_merge}
+use Rattle.star_merger.specs.{Merged.IsMerged, Merged.IsOverlap, Merged.IsUnprinted, Private.Checked.IsUnchecked, Private.Outcomes.IsUnmerged, Private.Shown.IsUsable, Private.Written.IsRefusedAfter, Private.Written.as_merge}
 use Rattle.star_safety.specs.Admissible as admissible
 use Rattle.star_engine.specs.declared.fault.EngineFault.TheVariants as engine
 use Rattle.star_verify.specs.declared.refusal.Refusal.TheVariants as why
@@ -120,6 +120,27 @@ module _ {S N : Type 0} (out : Change S) (notes : Change N) where
         | inr part ↦ note_broken out notes IsQuote IsTold IsDue note (Err fault) (ap Err part.0) quote
             part.1 same
       ]
+
+module _ {S : Type 0} (out : Change S) where
+  pub unprinted_same : (fault : PartialsFault) → IsUntouched out → IsUnprinted out fault
+  unprinted_same (merging.Engine (engine.Write sent)) same = tt
+  unprinted_same (merging.Engine _) same = same
+  unprinted_same (merging.Partial place fault other) same = same
+
+  pub unprinted : {A : Type 0} (result : Result A PartialsFault) → IsUntouched out
+      → IfErr result (IsUnprinted out)
+  unprinted (Ok value) same = tt
+  unprinted (Err fault) same = unprinted_same fault same
+
+pub noted_unprinted : {S N : Type 0} (out : Change S) (notes : Change N)
+    (IsQuote : List ℕ → Type 0) (IsTold : Telling → Type 0) (result : Result (Unit {0}) EngineFault)
+    → IsNoted out notes IsQuote IsTold (λ fault. ⊥) result
+    → IfErr (as_merge result) (IsUnprinted out)
+noted_unprinted out notes IsQuote IsTold (Ok answer) noted = tt
+noted_unprinted out notes IsQuote IsTold (Err engine.OutOfMemory) noted = noted.0
+noted_unprinted out notes IsQuote IsTold (Err (engine.Write sent)) noted = tt
+noted_unprinted out notes IsQuote IsTold (Err (engine.Refused refusal)) noted = noted.1
+noted_unprinted out notes IsQuote IsTold (Err _) noted = noted.1
 
 -- of usable parts, an outcome is only missing because a total leaves its range
 pub only_overflow : (all : List Contents) (is_distinct : Bool) (spans : List (Option Span))

@@ -2,7 +2,7 @@
 use Rattle.std.specs.Prelude.{◌≡◌, ◌<◌, ℕ, Bool, false, List, None, Option, Some, Result, Ok, Err, map, slice_index_or}
 use Rattle.star_partial.specs.Contents.{Contents}
 use Rattle.star_merge_laws.specs.Parts.{Span, are_disjoint}
-use Rattle.star_engine.specs.{declared.fault.EngineFault.EngineFault, Answered.Change, Answered.IsUntouched, Noted.IsNoted, Noted.Telling, Partials.span_view}
+use Rattle.star_engine.specs.{declared.fault.EngineFault.EngineFault, declared.fault.EngineFault.TheVariants.Write, Answered.Change, Answered.IsUntouched, Noted.IsNoted, Noted.Telling, Partials.span_view}
 use Rattle.star_merger.specs.declared.fault.{PartialFault.TheVariants.Overflow, PartialFault.TheVariants.Overlap, PartialsFault.PartialsFault, PartialsFault.TheVariants.Engine, PartialsFault.TheVariants.Partial}
 
 -- the spans of partials
@@ -33,3 +33,8 @@ IsMerged out notes IsQuote IsTold IsDue IsBad (Err (Engine fault)) =
     IsNoted out notes IsQuote IsTold IsDue (Err fault)
 IsMerged out notes IsQuote IsTold IsDue IsBad (Err fault) =
     IsBad fault × IsUntouched out × IsUntouched notes
+
+-- after any error but a failed write the report's sink is unchanged
+abbrev pub IsUnprinted : {S : Type 0} → Change S → PartialsFault → Type 0
+IsUnprinted out (Engine (Write sent)) = Unit {0}
+IsUnprinted out fault = IsUntouched out

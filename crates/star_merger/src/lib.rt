@@ -6,6 +6,7 @@ mod dimensions;
 mod facts;
 mod fault;
 mod fields;
+pub mod law;
 mod merger;
 mod merges;
 mod order;

@@ -1,10 +1,10 @@
 // The report of a query over all parts, from its partials.
 
-ghost use Rattle.std.specs.Prelude.{◌≡◌, ◌<◌, ◌∷◌, All, ℕ, List, length, map, true};
+ghost use Rattle.std.specs.Prelude.{◌≡◌, ◌<◌, ◌∷◌, All, IfErr, ℕ, List, length, map, true};
 ghost use Rattle.star_schema.specs.Database.{TableTexts};
 ghost use Rattle.star_partial.specs.Contents.{contents_of};
 ghost use Rattle.star_engine.specs.{Answered.change, Queries.IsQueryQuote, Queries.IsQueryTold, Queries.IsUnanswered};
-ghost use Rattle.star_merger.specs.{Merged.IsMerged, Merged.IsOverlap, Merged.spans_of, Mergers.IsMergerOf};
+ghost use Rattle.star_merger.specs.{Merged.IsMerged, Merged.IsOverlap, Merged.IsUnprinted, Merged.spans_of, Mergers.IsMergerOf};
 ghost use Rattle.star_merger.specs.TextShares.{AreDistinct, IsTextShare, TextShare, all_contents, whole_texts};
 ghost use Rattle.star_merger.specs.{Private.Outcomes.IsUnmerged, Private.Written.IsMergedTelling, Private.Written.as_merge};
 
@@ -42,11 +42,13 @@ fn write_merged<S: Sink, N: Sink>(
     notes: &mut N,
 ) -> Result<(), PartialsFault>
     requires { 0 < length note.now }
-    ensures { (query : List ℕ) (is : IsMergerOf query merger.now)
+    ensures merged { (query : List ℕ) (is : IsMergerOf query merger.now)
         → IsMerged (change S.contents S.is_failed out.old out.new)
         (change N.contents N.is_failed notes.old notes.new) (λ quoted. quoted ≡ note.now)
         (IsMergedTelling is.p (map contents_of partials.now) rows note.now) (λ fault. ⊥)
         (IsUnmerged (map contents_of partials.now)) result }
+    ensures unprinted { IfErr result
+        (IsUnprinted (change S.contents S.is_failed out.old out.new)) }
 {
     match outcome_of(alloc, merger, partials, rows) {
         Ok(outcome) => as_merge(write_outcome(alloc, &outcome, note, out, notes)),
@@ -69,7 +71,8 @@ impl Merger {
         out: &mut S,
         notes: &mut N,
     ) -> Result<(), PartialsFault>
-        ensures { (query hash : List ℕ) (texts : TableTexts) (share : TextShare)
+        // Of partials of parts with the same dimensions, and of any partials.
+        ensures merged { (query hash : List ℕ) (texts : TableTexts) (share : TextShare)
             (shares : List TextShare) → IsMergerOf query self.now
             → All (IsTextShare limits.rows limits.visits texts query hash) (share ∷ shares)
             → map contents_of partials.now ≡ all_contents (share ∷ shares)
@@ -81,6 +84,8 @@ impl Merger {
             (IsQueryTold limits.rows limits.visits whole query)
             (IsUnanswered limits.rows limits.visits whole query)
             (IsOverlap is_distinct (spans_of (map contents_of partials.now))) result }
+        ensures unprinted { IfErr result
+            (IsUnprinted (change S.contents S.is_failed out.old out.new)) }
     {
         queries_that_fit_are_answered();
         admissible_programs_within_the_limit_are_not_refused();

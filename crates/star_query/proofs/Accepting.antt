@@ -1,5 +1,5 @@
 -- The machine goes through what is written.
-use Rattle.std.proofs.Common.{◌≡◌, ℕ, ◌+◌, Bool, true, false, List, [], ◌∷◌, Option, Some, None, refl}
+use Rattle.std.proofs.Common.{◌≡◌, ℕ, ◌+◌, Bool, true, false, List, [], ◌∷◌, Option, Some, None, refl, arith}
 use Rattle.star_query.specs.declared.token.Keyword.TheVariants as k
 use Rattle.star_query.specs.declared.token.Sign.TheVariants as s
 use Rattle.star_query.specs.{declared.token.Additive.Additive, declared.token.Relation.Relation, Symbols.keyword, Symbols.sign, Symbols.additive, Tree.Name, Grammar.Mark}
@@ -235,10 +235,7 @@ tables_goes (more ts t) is rest q g =
 
 cond_acts : (a : Cond) (is : Several Item) (ts : Several Name)
     → ActsFiltered (cond_had a (in_where is ts)) (filtered_by is ts (Some a))
-cond_acts (lone_conj c) is ts =
-    record { groups = refl; order = refl; semicolon = refl; whole = refl }
-cond_acts (or_conj a c) is ts =
-    record { groups = refl; order = refl; semicolon = refl; whole = refl }
+cond_acts it is ts = grind arith
 
 where_goes : (c : Option Cond) (is : Several Item) (ts : Several Name) (rest : List Mark)
     (q : Query) → ((from : ParserState) → ActsFiltered from (filtered_by is ts c)

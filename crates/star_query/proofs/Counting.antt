@@ -64,10 +64,7 @@ not_over_at n (q ∷ ps) p e some =
 
 pub fits_after : (n : Counts) (ps : List Part) → ((p : Part) → count_of_part n p ≤ limit p)
     → is_over (plus n ps) ps ≡ false → (p : Part) → count_of_part (plus n ps) p ≤ limit p
-fits_after n ps fits e p =
-    by_bool (nat_lt 0 (among p ps)) (λ some. not_over_at (plus n ps) ps p e (ltb-true _ _ some))
-    (λ none. let h : among p ps ≤ 0 = ltb-false _ _ none in
-    omega (arith, number-plus ps n p, fits p))
+fits_after n ps fits e p = grind (arith, by_bool, not_over_at, ltb-true, ltb-false, number-plus)
 
 pub short_name : (x : Symbol) → is_long x ≡ false → IsShortName x
 short_name (name t p) e = ltb-false _ _ e
@@ -88,10 +85,7 @@ number-bump-self _ n = refl
 
 pub one_too_many : (p : Part) (n : Counts) → limit p ≤ count_of_part n p
     → is_over (plus n (p ∷ [])) (p ∷ []) ≡ true
-one_too_many p n e =
-    let more : limit p < count_of_part (bump p n) p = omega (arith, number-bump-self p n) in
-    let over : nat_lt (limit p) (count_of_part (bump p n) p) ≡ true = grind (arith, more) in
-    rw over refl
+one_too_many p n e = grind (arith, number-bump-self)
 
 pub one_allowed : (p : Part) (n : Counts) → count_of_part n p < limit p
     → is_over (plus n (p ∷ [])) (p ∷ []) ≡ false

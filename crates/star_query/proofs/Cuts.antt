@@ -1,11 +1,11 @@
 -- The cut of a text by the function is its tokens, up to what stops it.
-use Rattle.std.proofs.Common.{◌≡◌, ◌∙◌, ◌↔◌, refl, sym, ap, subst, ℕ, zero, suc, ◌+◌, ◌<◌, ◌≤◌, ◌⊎◌, inl, inr, Bool, true, false, List, [], ◌∷◌, ◌++◌, length, take, drop, arith, Option, Some, None, Result, Ok, Err, length-append, append-nil}
+use Rattle.std.proofs.Common.{◌≡◌, ◌∙◌, ◌↔◌, refl, sym, ap, subst, ℕ, zero, suc, ◌+◌, ◌<◌, ◌≤◌, ◌⊎◌, Bool, true, false, List, [], ◌∷◌, ◌++◌, length, take, drop, arith, Option, Some, None, Result, Ok, Err, length-append, append-nil}
 use Rattle.std.proofs.lemmas.Bool.{and_parts, eqb-true, leb-true, ltb-true, or_from, or_parts}
-use Rattle.std.proofs.{Math.Seq.take-append_seam, Math.Seq.drop-append_seam}
-use Rattle.std.specs.Prelude.{◌≢◌, ◌==◌, ◌||◌, ◌&&◌, nat_lt, Contains, if◌then◌else◌, nat_le}
-use Rattle.std.specs.{Char.is_ascii_digit, Str.Parse.digits_value, List.flat_map, List.list_all, List.prefix_len}
+use Rattle.std.proofs.{Math.Seq.take-append_seam, Math.Seq.drop-append_seam, lemmas.Grind.common_steps}
+use Rattle.std.specs.Prelude.{◌≢◌, ◌==◌, ◌||◌, nat_lt, Contains, if◌then◌else◌}
+use Rattle.std.specs.{Char.is_ascii_digit, Str.Parse.digits_value, List.list_all, List.prefix_len}
 use Rattle.star_common.proofs.NumeralLemmas.{digit_bounds}
-use Rattle.star_common.specs.{Numerals.is_numeral, Numerals.numeral_of, Quotes.doubled, Quotes.quoted, Printable.is_printable, WhiteSpace.is_blank}
+use Rattle.star_common.specs.{Numerals.numeral_of, Quotes.quoted, Printable.is_printable, WhiteSpace.is_blank}
 use Rattle.star_query.specs.Symbols.{Symbol, Placed, relation, name, number, text, spelling, lowered}
 use Rattle.star_query.specs.Private.Cut.{Piece, blank, token, bad, put_in_front, reserved, word_of, word_piece, number_piece, piece_at, cut_from, cut_of}
 use Rattle.star_query.specs.Tokens.{is_letter, is_word_byte, begins_with_letter, is_word, signs, IsToken, a_word, a_name, a_number, a_text, a_sign, continues, is_whole, AreTokens, no_more, white_space, a_token, Stops, bad_number, open_text, bad_byte, stray, IsStopped}
@@ -66,26 +66,10 @@ clash b n p e passes fails = let h : p b ≡ false = rw (eqb-true b n e) fails i
 
 no_blank_by : (p : ℕ → Bool) (b : ℕ) → p b ≡ true → p 32 ≡ false → p 9 ≡ false → p 13 ≡ false
     → p 10 ≡ false → is_blank b ≡ false
-no_blank_by p b passes e32 e9 e13 e10 =
-    by_bool (b == 32) (λ e. absurd (clash b 32 p e passes e32)) (λ f32.
-    by_bool (b == 9) (λ e. absurd (clash b 9 p e passes e9)) (λ f9.
-    by_bool (b == 13) (λ e. absurd (clash b 13 p e passes e13)) (λ f13.
-    by_bool (b == 10) (λ e. absurd (clash b 10 p e passes e10))
-    (λ f10. rw (f32, f9, f13, f10) refl))))
+no_blank_by p b passes e32 e9 e13 e10 = grind (arith, by_bool, clash)
 
 digit_no_letter : (b : ℕ) → is_ascii_digit b ≡ true → is_letter b ≡ false
-digit_no_letter b digit =
-    let bounds = digit_bounds b digit in
-    let low : nat_le 65 b ≡ false =
-    by_bool (nat_le 65 b) (λ e.
-    absurd (let h : 65 ≤ b = leb-true 65 b e in omega (arith, bounds.1, h))) (λ e. e) in
-    let high : nat_le 97 b ≡ false =
-    by_bool (nat_le 97 b) (λ e.
-    absurd (let h : 97 ≤ b = leb-true 97 b e in omega (arith, bounds.1, h))) (λ e. e) in
-    let line : (b == 95) ≡ false =
-    by_bool (b == 95) (λ e. absurd
-    (let h : b ≡ 95 = eqb-true b 95 e in omega (arith, bounds.1, h))) (λ e. e) in
-    rw (low, high, line) refl
+digit_no_letter b digit = grind (arith, digit_bounds, by_bool, leb-true, eqb-true)
 
 -- words
 word_front : (place : ℕ) (word rest : List ℕ) → is_word word ≡ true
@@ -107,35 +91,18 @@ word_front place (b ∷ bs) rest is over =
 -- numbers
 digit_piece : (place b : ℕ) (bs : List ℕ) → is_ascii_digit b ≡ true
     → front_piece place (b ∷ bs) ≡ number_piece place (b ∷ bs)
-digit_piece place b bs digit =
-    let no_blank = no_blank_by is_ascii_digit b digit refl refl refl refl in
-    if_else (is_blank b) _ _ no_blank ∙ if_else (is_letter b) _ _ (digit_no_letter b digit)
-    ∙ if_then (is_ascii_digit b) _ _ digit
+digit_piece place b bs digit = grind (arith, no_blank_by, if_else, digit_no_letter, if_then)
 
 pub numeral_parts : (places : ℕ) (digits : List ℕ) (n : ℕ) → numeral_of places digits ≡ Some n
     → (1 ≤ length digits) × (length digits ≤ places) × (list_all is_ascii_digit digits ≡ true)
     × (digits_value 10 digits ≡ n)
-numeral_parts places digits n e =
-    by_bool (is_numeral places digits)
-    (λ is. let all = and_parts (nat_le 1 (length digits) && nat_le (length digits) places)
-    (list_all is_ascii_digit digits) is in
-    let ends' = and_parts (nat_le 1 (length digits)) (nat_le (length digits) places) all.0 in (
-      leb-true 1 (length digits) ends'.0,
-      leb-true (length digits) places ends'.1,
-      all.1,
-      let h =
-          rw is at e in cc,
-    ))
-    (λ no'. absurd (let h = rw no' at e in cc))
+numeral_parts places digits n e = grind (arith, by_bool, and_parts, leb-true)
 
 -- digits end where a number is over, and no letter follows
 number_over : (n : ℕ) (rest : List ℕ) → is_whole (number n) rest ≡ true
     → (ends is_ascii_digit rest ≡ true) × (begins_with_letter rest ≡ false)
 unfolding ends
-number_over n [] over = (refl, refl)
-number_over n (b ∷ bs) over =
-    by_bool (is_word_byte b) (λ wrong. absurd (let h = rw wrong at over in cc))
-    (λ none. let both = or_parts (is_letter b) (is_ascii_digit b) none in (rw both.1 refl, both.0))
+number_over n it over = grind (arith, by_bool, or_parts)
 
 abbrev number_by : ℕ → List ℕ → ℕ → Piece
 number_by place bytes width =
@@ -148,16 +115,7 @@ number_is : (place : ℕ) (digits rest : List ℕ) (n : ℕ)
     → digits_value 10 digits ≡ n
     → number_piece place (digits ++ rest) ≡ token (number n) (length digits)
 number_is place digits rest n run few none value =
-    let short : nat_lt 18 (length digits) ≡ false =
-    by_bool (nat_lt 18 (length digits))
-    (λ e. absurd (let h : 18 < length digits = ltb-true 18 (length digits) e in
-    omega (arith, few, h))) (λ e. e) in
-    ap (number_by place (digits ++ rest)) run
-    ∙ if_else (nat_lt most_digits (length digits)
-    || begins_with_letter (drop (length digits) (digits ++ rest))) _ _
-    (or_from _ _ short (ap begins_with_letter (drop-append_seam digits rest) ∙ none))
-    ∙ ap (λ m. token (number m) (length digits))
-    (ap (digits_value 10) (take-append_seam digits rest) ∙ value)
+    grind (arith, common_steps, by_bool, ltb-true, if_else, or_from, drop-append_seam)
 
 number_front : (place : ℕ) (digits rest : List ℕ) (n : ℕ) → numeral_of most_digits digits ≡ Some n
     → is_whole (number n) rest ≡ true
@@ -187,10 +145,7 @@ text_front place t rest printed over =
 -- signs
 less_front : (place : ℕ) (rest : List ℕ) → is_whole (relation r.Less) rest ≡ true
     → front_piece place (60 ∷ rest) ≡ token (relation r.Less) 1
-less_front place [] over = refl
-less_front place (c ∷ cs) over =
-    by_bool ((c == 61) || (c == 62)) (λ wrong. absurd (let h = rw wrong at over in cc))
-    (λ none. let both = or_parts (c == 61) (c == 62) none in rw (both.0, both.1) refl)
+less_front place it over = grind (arith, by_bool, or_parts)
 
 greater_front : (place : ℕ) (rest : List ℕ) → is_whole (relation r.Greater) rest ≡ true
     → front_piece place (62 ∷ rest) ≡ token (relation r.Greater) 1
@@ -201,12 +156,7 @@ greater_front place (c ∷ cs) over =
 sign_front : (place : ℕ) (word : List ℕ) (x : Symbol) (rest : List ℕ) → Contains signs (word, x)
     → is_whole x rest ≡ true
     → front_piece place (word ++ rest) ≡ token x (length word)
-sign_front place word x rest there over =
-    each_sign (λ (w, y). is_whole y rest ≡ true
-    → front_piece place (w ++ rest) ≡ token y (length w)) word x
-    (λ o. refl) (λ o. refl) (λ o. refl) (less_front place rest) (greater_front place rest)
-    (λ o. refl) (λ o. refl) (λ o. refl) (λ o. refl) (λ o. refl) (λ o. refl) (λ o. refl) (λ o. refl)
-    there over
+sign_front place word x rest there over = grind (arith, each_sign, less_front, greater_front)
 
 token_front : (place : ℕ) (word rest : List ℕ) (x : Symbol) → IsToken place word x
     → is_whole x rest ≡ true
@@ -215,41 +165,24 @@ token_front place word rest x (a_word is w e same) over =
     let found : word_of place word ≡ x = rw ((spelled_alone w word).1 e) (sym same) in
     word_front place word rest is (subst (λ y. is_whole y rest ≡ true) (sym found) over)
     ∙ ap (λ y. token y (length word)) found
-token_front place word rest x (a_name is none same) over =
-    let found : word_of place word ≡ x = name_of place word none ∙ sym same in
-    word_front place word rest is (subst (λ y. is_whole y rest ≡ true) (sym found) over)
-    ∙ ap (λ y. token y (length word)) found
+token_front place word rest x (a_name is none same) over = grind (arith, name_of, word_front)
 token_front place word rest x (a_number n e same) over =
     let o : is_whole (number n) rest ≡ true = rw (← same) over in
     number_front place word rest n e o ∙ ap (λ y. token y (length word)) (sym same)
-token_front place word rest x (a_text t printed cut same) over =
-    let o : is_whole (text t) rest ≡ true = rw (← same) over in
-    let e = text_front place t rest printed o in
-    ap (λ w. front_piece place (w ++ rest)) cut ∙ e ∙ ap (λ w. token (text t) (length w)) (sym cut)
-    ∙ ap (λ y. token y (length word)) (sym same)
+token_front place word rest x (a_text t printed cut same) over = grind (arith, text_front)
 token_front place word rest x (a_sign there) over = sign_front place word x rest there over
 
 -- ---- what stops the cut
 
 letter_no_digit : (rest : List ℕ) → begins_with_letter rest ≡ true → ends is_ascii_digit rest ≡ true
 unfolding ends
-letter_no_digit [] e = refl
-letter_no_digit (b ∷ bs) letter =
-    by_bool (is_ascii_digit b) (λ digit. absurd (let h = digit_no_letter b digit in cc))
-    (λ none. rw none refl)
+letter_no_digit it e = grind (arith, by_bool, digit_no_letter)
 
 bad_number_piece : (place : ℕ) (digits rest : List ℕ) → list_all is_ascii_digit digits ≡ true
     → (most_digits < length digits) ⊎ (begins_with_letter rest ≡ true)
     → number_piece place (digits ++ rest) ≡ bad (BadNumber place)
-bad_number_piece place digits rest all (inl long) =
-    let more = run_within is_ascii_digit digits rest all in
-    number_long place (digits ++ rest) (omega (arith, long, more))
-bad_number_piece place digits rest all (inr letter) =
-    let run : prefix_len is_ascii_digit (digits ++ rest) ≡ length digits =
-    run_is is_ascii_digit digits rest all (letter_no_digit rest letter) in
-    number_followed place (digits ++ rest)
-    (ap (λ n. begins_with_letter (drop n (digits ++ rest))) run
-    ∙ ap begins_with_letter (drop-append_seam digits rest) ∙ letter)
+bad_number_piece place digits rest all it =
+    grind (arith, common_steps, run_within, number_long, run_is, letter_no_digit, number_followed)
 
 stop_front : (place : ℕ) (bytes : List ℕ) (fault : QueryFault) → Stops place bytes fault
     → front_piece place bytes ≡ bad fault
@@ -319,19 +252,7 @@ behind_token place word bytes x (Err fault) is over (tokens, end, left, are, sto
 
 token_some : (place : ℕ) (word : List ℕ) (x : Symbol) → IsToken place word x → 1 ≤ length word
 unfolding quoted
-token_some place [] x (a_word is w e same) = absurd (cc)
-token_some place (b ∷ bs) x (a_word is w e same) = omega arith
-token_some place [] x (a_name is none same) = absurd (cc)
-token_some place (b ∷ bs) x (a_name is none same) = omega arith
-token_some place word x (a_number n e same) = (numeral_parts most_digits word n e).0
-token_some place word x (a_text t printed cut same) =
-    omega (arith, ap length cut, length-append (flat_map doubled t) (39 ∷ []))
-token_some place word x (a_sign there) =
-    let some : (n : ℕ) → 1 ≤ suc n = λ n. omega arith in
-    let one : 1 ≤ 1 = some 0 in
-    let two : 1 ≤ 2 = some 1 in
-    each_sign (λ (w, y). 1 ≤ length w) word x two two two one one one one one one one one one one
-    there
+token_some place word x it = grind (arith, numeral_parts, length-append, each_sign)
 
 -- a token, and then the rest
 cut_word : (place : ℕ) (word rest : List ℕ) (x : Symbol) → IsToken place word x
@@ -417,19 +338,8 @@ tokens_make_text bytes tokens = (
 -- no bytes have two lists of tokens
 pub one_cut : (bytes : List ℕ) (a b : List Placed) → AreTokens (length bytes) [] 0 bytes a
     → AreTokens (length bytes) [] 0 bytes b → a ≡ b
-one_cut bytes a b s t =
-    let same : the_ok a ≡ the_ok b =
-    sym ((tokens_make_text bytes a).1 s) ∙ (tokens_make_text bytes b).1 t in cc
-  where
-    the_ok : List Placed → Result (List Placed) QueryFault
-    the_ok ts = Ok ts
+one_cut bytes a b s t = grind (arith, tokens_make_text)
 
 pub stop_cuts : (bytes : List ℕ) (fault : QueryFault)
     → (cut_of bytes ≡ Err fault) ↔ IsStopped bytes fault
-stop_cuts bytes fault = (
-  λ e. let (tokens, end, left, are, stops) = subst (Cut 0 bytes) e (cut_all bytes) in
-      record { tokens = tokens; end = end; left = left; before = are; stops = stops },
-  λ is. tokens_cut is.end is.left 0 bytes is.tokens is.before
-      ∙ ap (with_tokens is.tokens)
-      (cut_bad is.end is.left fault (stop_front is.end is.left fault is.stops)),
-)
+stop_cuts bytes fault = grind (arith, common_steps, cut_all, tokens_cut, cut_bad, stop_front)

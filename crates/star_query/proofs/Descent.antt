@@ -9,7 +9,7 @@ use Rattle.star_query.specs.declared.tree.Expression.TheVariants as expressions
 use Rattle.star_query.specs.{Symbols.Symbol, Symbols.sign, Symbols.additive, Symbols.name, Symbols.number, Views.name_view, Views.expression_view, Private.Lists.bad_along}
 use Rattle.star_query.specs.Tree as tree
 use Rattle.star_query.specs.Private.Phrases.{Expr, plus_or_minus, Term, times, column, constant, negative, parens, first, ident, sum_or_difference, expr_tree, term_tree, factor_tree}
-use Rattle.star_query.specs.Private.Machine.{ExprHole, in_parens, TermHole, first_term, next_term, FactorHole, first_factor, next_factor, expr_depth, term_depth, factor_depth, ParserState, factor_wanted, factor_negative, term_had, expr_had, give_factor, to, next_step, query_at_end, Verdict, Bad, plus, checked, verdict_after, ends, run}
+use Rattle.star_query.specs.Private.Machine.{ExprHole, in_parens, TermHole, first_term, next_term, FactorHole, first_factor, next_factor, expr_depth, term_depth, factor_depth, ParserState, factor_wanted, factor_negative, term_had, expr_had, give_factor, to, next_step, query_at_end, Verdict, Bad, checked, verdict_after, ends, run}
 use Rattle.star_query.specs.Private.Reads.{Spot, head_of, No, verdict, EndsBad, Takes, NoName, NoNumber, IsName, IsNumber, IsBeyond, ReadsToken, ReadsName, ReadsNumber, Nests, ReadsPhrase, ReadsOperand, ReadsFactor, ReadsTerm, ReadsExpr}
 use Rattle.star_query.proofs.{Counting.not_below, Accepting.expr_joins, Accepting.parens_close, Tokens.no_name_there}
 
@@ -17,13 +17,7 @@ use Rattle.star_query.proofs.{Counting.not_below, Accepting.expr_joins, Acceptin
 pub takes : (old new : Spot) (x : Symbol) (ps : List Part) (d : ℕ) (from next : ParserState)
     → Takes old new x ps → d ≤ 32 → next_step from x ≡ to next (first ps d x)
     → verdict old from ≡ verdict new next
-takes old new x ps d from next t deep e =
-    let shallow : nat_lt 32 d ≡ false = not_below 32 d deep in
-    let now : checked old.counts (first ps d x) (x ∷ new.left) (run new.left next)
-    ≡ run new.left next (plus old.counts ps) = rw (shallow, t.few, t.short) refl in
-    ap (λ l. run l from old.counts) t.next
-    ∙ ap (λ o. verdict_after o old.counts (x ∷ new.left) (run new.left)) e ∙ now
-    ∙ ap (run new.left next) (sym t.counts)
+takes old new x ps d from next t deep e = grind (arith, not_below)
 
 -- where no step goes on, and no query ends
 pub stuck : (old : Spot) (from : ParserState) → (old.left ≡ [] → query_at_end from ≡ None)
@@ -69,19 +63,11 @@ bad_here f old new v same b = b ∙ ap (Bad f) (sym same)
 
 pub head_no_name : (left : List Symbol) (x : Symbol) → head_of left ≡ Some x → NoName left
     → NoName (x ∷ [])
-head_no_name left x e none = let l = head_is left x e in one_only x l.0 (subst NoName l.1 none)
-  where
-    one_only : (y : Symbol) (ys : List Symbol) → NoName (y ∷ ys) → NoName (y ∷ [])
-    one_only (name t p) ys none = none
-    one_only _ ys none = tt
+head_no_name left x e none = grind (arith, head_is)
 
 pub head_no_number : (left : List Symbol) (x : Symbol) → head_of left ≡ Some x → NoNumber left
     → NoNumber (x ∷ [])
-head_no_number left x e none = let l = head_is left x e in one_only x l.0 (subst NoNumber l.1 none)
-  where
-    one_only : (y : Symbol) (ys : List Symbol) → NoNumber (y ∷ ys) → NoNumber (y ∷ [])
-    one_only (number n) ys none = none
-    one_only _ ys none = tt
+head_no_number left x e none = grind (arith, head_is)
 
 -- a token of a kind that can't be read
 bad_token : {A : Type 0} (symbol : A → Symbol) (NoMemory : Type 0) (Is IsNo : List Symbol → Type 0)
@@ -176,40 +162,22 @@ only_number h _ none = refl
 
 no_factor : (h : FactorHole) (x : Symbol) → NoName (x ∷ []) → NoNumber (x ∷ [])
     → (x ≡ additive Minus → ⊥) → (x ≡ sign s.Open → ⊥) → next_step (factor_wanted h) x ≡ None
-no_factor h (name t p) a b c d = absurd a
-no_factor h (number n) a b c d = absurd b
-no_factor h (additive Minus) a b c d = absurd (c refl)
-no_factor h (sign s.Open) a b c d = absurd (d refl)
-no_factor h _ a b c d = refl
+no_factor h it a b c d = grind arith
 
 pub bad_column : (old new : Spot) (e : ParseError) → IsName old.left
     → ReadsName (part.Operand ∷ []) old new (Err e) → ReadsOperand old new (Err e)
-bad_column old new e is b =
-    λ h deep. bad_name (part.Operand ∷ []) (factor_depth h) (factor_wanted h) old new e deep
-    (λ t p. (give_factor (column (record { text = t; place = p })) h, refl))
-    (λ none. absurd (no_name_there old.left is none)) b
+bad_column old new e is b h deep = grind (arith, bad_name, no_name_there)
 
 pub bad_negative : (old mid new : Spot) (e : ParseError) → Takes old mid (additive Minus) []
     → ReadsNumber (part.Operand ∷ []) mid new (Err e) → ReadsOperand old new (Err e)
-bad_negative old mid new e t b =
-    λ h deep. bad_along e new _ _
-    (takes old mid _ [] (factor_depth h) (factor_wanted h) (factor_negative h) t deep refl)
-    (bad_number (part.Operand ∷ []) (factor_depth h) (factor_negative h) mid new e deep
-    (λ n. (give_factor (negative n) h, refl))
-    (λ none. stuck mid (factor_negative h) (λ e. refl)
-    (λ x head. only_number h x (head_no_number mid.left x head none))) b)
+bad_negative old mid new e t b h deep =
+    grind (arith, takes, bad_number, stuck, only_number, head_no_number)
 
 pub bad_constant : (old mid new : Spot) (e : ParseError) → mid ≡ old → NoName old.left
     → No (additive Minus) old → No (sign s.Open) old
     → ReadsNumber (part.Operand ∷ []) mid new (Err e) → ReadsOperand old new (Err e)
-bad_constant old mid new e here no_name no_minus no_open b =
-    λ h deep. bad_number (part.Operand ∷ []) (factor_depth h) (factor_wanted h) old new e deep
-    (λ n. (give_factor (constant n) h, refl))
-    (λ none. stuck old (factor_wanted h) (λ e. refl)
-    (λ x head. no_factor h x (head_no_name old.left x head no_name)
-    (head_no_number old.left x head none) (λ q. no_minus (head ∙ ap Some q))
-    (λ q. no_open (head ∙ ap Some q))))
-    (subst (λ s. ReadsNumber (part.Operand ∷ []) s new (Err e)) here b)
+bad_constant old mid new e here no_name no_minus no_open b h deep =
+    grind (arith, bad_number, stuck, no_factor, head_no_name, head_no_number)
 
 -- expressions
 pub read_parens : (old a b new : Spot) (d : ℕ) (x : Expression Name) → Takes old a (sign s.Open) []

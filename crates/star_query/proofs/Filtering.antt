@@ -1,5 +1,5 @@
 -- The parser's functions on conditions go with the machine.
-use Rattle.std.proofs.Common.{◌≡◌, ◌∙◌, ℕ, pos, ◌+◌, ◌<◌, ◌≤◌, [], ◌∷◌, Some, None, Result, Ok, Err, refl, sym, ap, arith}
+use Rattle.std.proofs.Common.{◌≡◌, ◌∙◌, ℕ, pos, ◌+◌, ◌<◌, ◌≤◌, [], ◌∷◌, None, Result, Ok, Err, refl, sym, ap, arith}
 use Rattle.std.specs.{Prelude.neg_ℤ, declared.alloc.Global.Global, declared.vec.Vec.Vec}
 use Rattle.star_query.specs.declared.token.Keyword.TheVariants as k
 use Rattle.star_query.specs.declared.token.Sign.TheVariants as s
@@ -15,7 +15,7 @@ use Rattle.star_schema.specs.Tables.{Value, Number}
 use Rattle.star_query.specs.Tree as tree
 use Rattle.star_query.specs.Private.Phrases.{unsigned_literal, negative_literal, string_literal, Cond, or_conj, Conj, and_unit, Unary, not_unit, group, pair, compare, between, ident, lit_tree, cond_tree, conj_tree, unit_tree}
 use Rattle.star_query.specs.Private.Machine.{compared, low, high, UnitHole, first_unit, next_unit, under_not, ConjHole, first_conj, next_conj, CondHole, in_group, lit_depth, unit_depth, conj_depth, cond_depth, lit_wanted, lit_negative, low_had, unit_wanted, unit_named, equal_had, conj_had, cond_had, give_lit, give_unit, behind_relation, next_step, Verdict}
-use Rattle.star_query.specs.{Views.name_view, Views.literal_view, Views.condition_view, Private.Lists.bad_along}
+use Rattle.star_query.specs.{Views.name_view, Views.literal_view, Views.condition_view}
 use Rattle.star_query.specs.Private.Reads.{Spot, No, verdict, Takes, NoName, ReadsName, ReadsLit, ReadsNamed, ReadsUnit, ReadsConj, ReadsCond}
 use Rattle.star_query.proofs.{Accepting.cond_joins, Accepting.group_closes, Descent.takes, Descent.stuck, Descent.bad_name, Descent.along, Descent.same_from, Descent.head_no_name}
 
@@ -96,12 +96,7 @@ equal_step h i _ none = refl
 pub read_equal : (old new : Spot) (i : Name) (answer : Result (Condition Test) ParseError)
     → NoName old.left → ReadsNamed (λ h. lit_wanted (compared h (name_view i) r.Equal)) old new
     answer → ReadsNamed (λ h. equal_had h (name_view i)) old new answer
-read_equal old new i answer none reads =
-    along condition_view unit_tree (λ h. unit_depth h ≤ 32) (λ h. equal_had h (name_view i))
-    (λ h. lit_wanted (compared h (name_view i) r.Equal)) give_unit old old new answer
-    (λ h deep. same_from old (equal_had h (name_view i))
-    (lit_wanted (compared h (name_view i) r.Equal)) refl
-    (λ x head. equal_step h (name_view i) x (head_no_name old.left x head none))) reads
+read_equal old new i answer none reads = grind (arith, along, same_from, equal_step, head_no_name)
 
 pub read_compare_between :
     (old mid new : Spot) (i : Name) (answer : Result (Condition Test) ParseError)
@@ -130,28 +125,17 @@ pub read_comparison : (old mid new : Spot) (i : Name) (answer : Result (Conditio
     → Takes old mid (ident (name_view i)) (part.Comparison ∷ [])
     → ReadsNamed (λ h. unit_named h (name_view i)) mid new answer
     → ReadsNamed unit_wanted old new answer
-read_comparison old mid new i answer t reads =
-    along condition_view unit_tree (λ h. unit_depth h ≤ 32) unit_wanted
-    (λ h. unit_named h (name_view i)) give_unit old mid new answer
-    (λ h deep. takes old mid _ (part.Comparison ∷ []) (unit_depth h) (unit_wanted h)
-    (unit_named h (name_view i)) t deep refl) reads
+read_comparison old mid new i answer t reads = grind (arith, along, takes)
 
 no_unit : (h : UnitHole) (x : Symbol) → NoName (x ∷ []) → (x ≡ keyword k.Not → ⊥)
     → (x ≡ sign s.Open → ⊥) → next_step (unit_wanted h) x ≡ None
-no_unit h (name t p) a b c = absurd a
-no_unit h (keyword k.Not) a b c = absurd (b refl)
-no_unit h (sign s.Open) a b c = absurd (c refl)
-no_unit h _ a b c = refl
+no_unit h it a b c = grind arith
 
 pub bad_comparison : (old new : Spot) (e : ParseError) → No (keyword k.Not) old
     → No (sign s.Open) old → ReadsName (part.Comparison ∷ []) old new (Err e)
     → ReadsNamed unit_wanted old new (Err e)
-bad_comparison old new e no_not no_open b =
-    λ h deep. bad_name (part.Comparison ∷ []) (unit_depth h) (unit_wanted h) old new e deep
-    (λ t p. (unit_named h (record { text = t; place = p }), refl))
-    (λ none. stuck old (unit_wanted h) (λ e. refl)
-    (λ x head. no_unit h x (head_no_name old.left x head none) (λ q. no_not (head ∙ ap Some q))
-    (λ q. no_open (head ∙ ap Some q)))) b
+bad_comparison old new e no_not no_open b h deep =
+    grind (arith, bad_name, stuck, no_unit, head_no_name)
 
 -- conditions
 pub read_not : (old mid new : Spot) (d : ℕ) (x y : Condition Test)
@@ -184,15 +168,7 @@ read_group old here a b new d x same opened deep reads closed = (
 
 pub named_unit : (old here new : Spot) (d : ℕ) (answer : Result (Condition Test) ParseError)
     → here ≡ old → d ≤ 32 → ReadsNamed unit_wanted here new answer → ReadsUnit d old new answer
-named_unit old here new d (Ok x) same deep reads = (
-  reads.0,
-  reads.1,
-  λ h q.
-      ap (λ s. verdict s (unit_wanted h)) (sym same) ∙ reads.2 h (omega (arith, q)),
-)
-named_unit old here new d (Err e) same deep b =
-    λ h q. bad_along e new _ _ (ap (λ s. verdict s (unit_wanted h)) (sym same))
-    (b h (omega (arith, q)))
+named_unit old here new d it same deep reads = grind arith
 
 pub one_more_unit : (before : ConjHole → Verdict) (old mid new : Spot) (d : ℕ)
     (a x z : Condition Test)

@@ -1,13 +1,14 @@
 -- A query begins with what was read on the way to any state, and is what was read where it ends.
-use Rattle.std.proofs.Common.{◌≡◌, ◌∙◌, ◌+◌, true, false, List, [], ◌∷◌, Option, Some, None, refl, sym, ap}
+use Rattle.std.proofs.Common.{◌≡◌, ◌∙◌, ◌+◌, true, false, List, [], ◌∷◌, Option, Some, None, refl, ap, arith}
 use Rattle.star_query.specs.declared.token.Keyword.TheVariants as k
 use Rattle.star_query.specs.declared.token.Sign.TheVariants as s
 use Rattle.star_query.specs.declared.token.Relation.TheVariants as r
 use Rattle.star_query.specs.declared.counts.Part.TheVariants as part
 use Rattle.star_query.specs.{Symbols.keyword, Symbols.relation, Symbols.sign, Symbols.number, Tree.Name, Grammar.Mark}
 use Rattle.star_query.specs.Private.Phrases.{Several, one, Expr, lone_term, plus_or_minus, Term, lone_factor, times, Factor, constant, negative, parens, Lit, unsigned_literal, negative_literal, Cond, lone_conj, or_conj, Conj, lone_unit, and_unit, Unary, not_unit, group, pair, compare, between, folded, counted, Item, plain, aggregate, Key, unmarked, ungrouped, grouped, hiding, Query, at, first, ident, expr_marks, term_marks, factor_marks, lit_marks, cond_marks, conj_marks, unit_marks, item_marks, table_marks, column_marks, key_marks, several_marks, keys_marks, query_marks, Hiding}
-use Rattle.star_query.specs.Private.Machine.{extended, ExprHole, in_fold, in_parens, TermHole, first_term, next_term, FactorHole, first_factor, next_factor, CondHole, in_where, in_group, ConjHole, first_conj, next_conj, UnitHole, first_unit, next_unit, under_not, LitHole, compared, low, high, Filtered, Grouped, filtered_by, grouped_by, query_of, expr_depth, term_depth, factor_depth, cond_depth, conj_depth, unit_depth, lit_depth, ParserState, begin, item_wanted, fold_named, count_named, count_opened, count_starred, factor_wanted, factor_negative, term_had, agg_had, alias_wanted, items_had, table_wanted, tables_had, unit_wanted, unit_named, equal_had, lit_wanted, lit_negative, low_had, conj_had, filtered_had, group_had, by_had, hiding_had, column_wanted, columns_had, grouped_had, order_had, key_wanted, key_named, keys_had, done, ended, joined_cond, around_conj, cond_end, query_at_end}
+use Rattle.star_query.specs.Private.Machine.{extended, ExprHole, in_fold, in_parens, TermHole, first_term, next_term, FactorHole, first_factor, next_factor, CondHole, in_where, in_group, ConjHole, first_conj, next_conj, UnitHole, first_unit, next_unit, under_not, LitHole, compared, low, high, Filtered, Grouped, filtered_by, grouped_by, query_of, expr_depth, term_depth, factor_depth, cond_depth, conj_depth, unit_depth, lit_depth, ParserState, begin, item_wanted, fold_named, count_named, count_opened, count_starred, factor_wanted, factor_negative, term_had, agg_had, alias_wanted, items_had, table_wanted, tables_had, unit_wanted, unit_named, equal_had, lit_wanted, lit_negative, low_had, conj_had, filtered_had, group_had, by_had, hiding_had, column_wanted, columns_had, grouped_had, order_had, key_wanted, key_named, keys_had, done, ended, cond_end, query_at_end}
 use Rattle.star_query.proofs.Passed.{before_marks, select_passed, items_passed, by_passed, hiding_passed, grouped_passed, order_passed, expr_passed, term_passed, factor_passed, cond_passed, conj_passed, unit_passed, between_passed, lit_passed, passed, several-extended, joined_cond_passed}
+use Rattle.std.proofs.lemmas.Grind.{common_steps}
 
 -- some query is written so, with more behind
 abbrev pub Finishes : (List Mark → List Mark) → Type 0
@@ -199,19 +200,5 @@ columns_end_passed f (Some h) is q e = cc
 -- what was read where a query ends
 pub end_passed : (from : ParserState) (q : Query) → query_at_end from ≡ Some q
     → passed from [] ≡ query_marks q
-end_passed (tables_had is ts) q e = let same : with_filter is ts None ≡ q = cc in
-    ap query_marks same
-end_passed (conj_had c h) q e =
-    sym (joined_cond_passed h c []) ∙ cond_end_passed (joined_cond c h) (around_conj h) q e
-end_passed (filtered_had f) q e = let same : query_of (grouped_by f ungrouped) None false ≡ q =
-    cc in ap query_marks same
-end_passed (columns_had f h is) q e = columns_end_passed f h is q e
-end_passed (grouped_had g) q e = let same : query_of g None false ≡ q = cc in ap query_marks same
-end_passed (key_named g b i) q e =
-    let same : query_of g (Some (extended b (unmarked i))) false ≡ q = cc in
-    sym (ap (order_passed g) (several-extended key_marks b (unmarked i) [])) ∙ ap query_marks same
-end_passed (keys_had g ks) q e = let same : query_of g (Some ks) false ≡ q = cc in
-    ap query_marks same
-end_passed (done g ks) q e = let same : query_of g ks false ≡ q = cc in ap query_marks same
-end_passed (ended g ks) q e = let same : query_of g ks true ≡ q = cc in ap query_marks same
-end_passed _ q e = cc
+end_passed it q e =
+    grind (arith, common_steps, joined_cond_passed, cond_end_passed, columns_end_passed)

@@ -3,18 +3,16 @@ use Rattle.std.proofs.Common.{None, ◌≡◌, ◌∙◌, ◌↔◌, ℕ, Bool, 
 use Rattle.std.specs.Prelude.{nat_lt, ◌==◌}
 use Rattle.std.specs.{Cmp.Lexicographic.bytes_decides, Cmp.Lexicographic.pointwise, Cmp.Lexicographic.same_text, Char.is_ascii_digit, List.list_all, List.prefix_len, List.slice_get}
 use Rattle.std.proofs.lemmas.Bool.{and_from, le-leb, lt-ltb, ltb-false, ltb-true, or_right}
-use Rattle.star_query.specs.declared.{token.Word.Word, token.Word.TheVariants.Keyword, token.Word.TheVariants.Fold, token.Word.TheVariants.Count, token.Keyword.TheVariants.Select, token.Fold.TheVariants.Sum, fault.QueryFault.TheVariants.BadNumber, fault.QueryFault.TheVariants.OutOfMemory, fault.QueryFault.TheVariants.TooLong, fault.QueryFault.QueryFault}
+use Rattle.star_query.specs.declared.{token.Word.Word, fault.QueryFault.TheVariants.BadNumber, fault.QueryFault.TheVariants.OutOfMemory, fault.QueryFault.TheVariants.TooLong, fault.QueryFault.QueryFault}
 use Rattle.star_query.specs.{Symbols.Symbol, Symbols.Placed, Symbols.spelling, Symbols.lowered, Tokens.begins_with_letter, Tokens.is_letter, Tokens.is_word_byte, Private.Lexed.front_piece, Private.Lexed.with_tokens, Private.Lexed.begins_with_digit, Private.Lexed.IsCutFault}
 use Rattle.star_query.specs.Private.Cut.{Piece, is_spelled, blank, token, bad, cut_from, cut_of, put_in_front, number_piece, sign_piece}
 use Rattle.std.proofs.lemmas.List.{drop_all, Sums.prefix_len-le-length, Folds.length-prefix_len}
 use Rattle.star_common.specs.{Numerals.is_numeral, Numerals.numeral_of, WhiteSpace.is_blank}
+use Rattle.std.proofs.lemmas.Grind.{common_steps}
 
 lowered-spelling : (w : Word) → lowered (spelling w) ≡ spelling w
 unfolding spelling
-lowered-spelling (Keyword Select) = refl
-lowered-spelling (Fold Sum) = refl
-lowered-spelling Count = refl
-lowered-spelling _ = refl
+lowered-spelling it = grind arith
 
 -- a test of equal texts is the test by bytes
 by_bytes : (b : Bool) (xs ys : List ℕ) → (IsTrue b ↔ (xs ≡ ys)) → b ≡ pointwise nat_eq xs ys
@@ -60,14 +58,7 @@ pub cut_token : (place : ℕ) (bytes : List ℕ) (x : Symbol) (width : ℕ)
     ≡ put_in_front (record { symbol = x; place = place })
     (cut_from (place + width) 0 (drop width bytes))
 unfolding cut_from
-cut_token place [] x width e some = cc
-cut_token place (b ∷ bs) x zero e some = absurd (omega arith)
-cut_token place (b ∷ bs) x (suc w) e some =
-    let one_less : suc w - 1 ≡ w = omega arith in
-    rw (e, one_less) (ap (put_in_front (record { symbol = x; place = place }))
-    (skipped (place + 1) w bs
-    ∙ ap (λ p. cut_from p 0 (drop w bs))
-    (let e : place + 1 + w ≡ place + suc w = omega arith in e)))
+cut_token place it x width e some = grind (arith, common_steps, skipped)
 
 pub cut_blank : (place : ℕ) (bytes : List ℕ) → front_piece place bytes ≡ blank
     → cut_from place 0 bytes ≡ cut_from (place + 1) 0 (drop 1 bytes)
@@ -136,12 +127,7 @@ pub numeral_front : (places : ℕ) (bytes : List ℕ) → 1 ≤ prefix_len is_as
     → prefix_len is_ascii_digit bytes ≤ places
     → is_numeral places (take (prefix_len is_ascii_digit bytes) bytes) ≡ true
 numeral_front places bytes some few =
-    let digits = take (prefix_len is_ascii_digit bytes) bytes in
-    let many : length digits ≡ prefix_len is_ascii_digit bytes =
-    length-prefix_len is_ascii_digit bytes in
-    and_from _ _ (and_from _ _ (le-leb 1 (length digits) (omega (arith, many, some)))
-    (le-leb (length digits) places (omega (arith, many, few))))
-    (prefix_passes is_ascii_digit bytes)
+    grind (arith, length-prefix_len, and_from, le-leb, prefix_passes)
 
 pub number_long : (place : ℕ) (bytes : List ℕ) → 18 < prefix_len is_ascii_digit bytes
     → number_piece place bytes ≡ bad (BadNumber place)
@@ -157,15 +143,8 @@ number_followed place bytes letter =
 pub number_too_long : (place : ℕ) (bytes : List ℕ) → begins_with_digit bytes ≡ true
     → numeral_of 19 (take (prefix_len is_ascii_digit bytes) bytes) ≡ None
     → number_piece place bytes ≡ bad (BadNumber place)
-number_too_long place bytes begins none = go (nat_lt 18 (prefix_len is_ascii_digit bytes)) refl
-  where
-    go : (b : Bool) → nat_lt 18 (prefix_len is_ascii_digit bytes) ≡ b
-        → number_piece place bytes ≡ bad (BadNumber place)
-    go true long = number_long place bytes (ltb-true 18 (prefix_len is_ascii_digit bytes) long)
-    go false short =
-        let few = ltb-false 18 (prefix_len is_ascii_digit bytes) short in
-        absurd (let wrong = rw (numeral_front 19 bytes (number_some bytes begins) (omega (arith, few)))
-        at none in cc)
+number_too_long place bytes begins none =
+    grind (arith, common_steps, number_long, ltb-true, ltb-false, numeral_front, number_some)
 
 -- what begins with a byte that is none of the others begins with a sign
 pub sign_at : (place b : ℕ) (bs text : List ℕ) (found : Piece)

@@ -5,7 +5,7 @@ use Rattle.std.proofs.{Math.Seq.drop-append_seam, lemmas.List.length-map, lemmas
 use Rattle.star_query.specs.declared.{token.Token.Token, fault.Fault.Fault, fault.Fault.TheVariants.Unexpected, fault.Fault.TheVariants.TooDeep, fault.Fault.TheVariants.TooMany, fault.ParseError.ParseError, fault.QueryFault.QueryFault, tree.Tree.Tree, counts.Counts.Counts}
 use Rattle.star_query.specs.declared.fault.ParseError.TheVariants as errors
 use Rattle.star_query.specs.declared.fault.QueryFault.TheVariants as faults
-use Rattle.star_query.specs.{Symbols.Symbol, Symbols.Placed, Symbols.symbols, Private.Lexed.placed, Private.Lexed.symbol_of, Private.Lexed.IsCutFault, Private.Lexed.IsLexical, Private.Cut.cut_of, Tokens.AreTokens, Private.Machine.Bad, Private.Machine.begin, Private.Machine.nothing_counted, Private.Machine.run, Views.tree_view, Private.Reads.Spot, Private.Reads.EndsBad, Private.Clauses.ReadsQuery}
+use Rattle.star_query.specs.{Symbols.Symbol, Symbols.Placed, Symbols.symbols, Private.Lexed.placed, Private.Lexed.symbol_of, Private.Lexed.IsCutFault, Private.Lexed.IsLexical, Private.Cut.cut_of, Private.Machine.Bad, Private.Machine.begin, Private.Machine.nothing_counted, Private.Machine.run, Views.tree_view, Private.Reads.Spot, Private.Reads.EndsBad, Private.Clauses.ReadsQuery}
 use Rattle.star_query.specs.Tree as tree
 use Rattle.star_query.specs.Derives.{symbols_at, Derives, FirstQueryFault, Means, StopsAt, IsFirstQueryFault, first_place}
 use Rattle.star_query.specs.Private.TokenFaults.{TokensStopAt, IsTokenFault, refusal_of, query_fault, IsTreeRead}
@@ -43,12 +43,7 @@ pub token_fault : (tokens : List Placed) (f : Fault) (left : List Symbol) (place
     → verdict_of (symbols tokens) ≡ Bad f left
     → place ≡ first_place (drop (length tokens - length left) tokens) end
     → IsTokenFault tokens end (refusal_of f place)
-token_fault tokens Unexpected left place end e at =
-    (drop (length tokens - length left) tokens, stops_at tokens Unexpected left e, at)
-token_fault tokens TooDeep left place end e at =
-    (drop (length tokens - length left) tokens, stops_at tokens TooDeep left e)
-token_fault tokens TooMany left place end e at =
-    (drop (length tokens - length left) tokens, stops_at tokens TooMany left e)
+token_fault tokens it left place end e at = grind (arith, stops_at)
 
 pub no_tree : (xs : List Symbol) (f : Fault) (left : List Symbol) (place : ℕ) (t : tree.Tree)
     → verdict_of xs ≡ Bad f left → Derives xs t → IsTreeRead t (Err (refusal_of f place))
@@ -92,10 +87,7 @@ pub tokens_fault : (ts left : List Token) (n : Counts) (f : Fault) (place end pa
     → place ≡ first_place (drop passed (map placed ts)) end
     → IsTokenFault (map placed ts) end (refusal_of f place)
 tokens_fault ts left n f place end passed e bad behind at =
-    let same : passed ≡ length (map placed ts) - length (map (λ t. symbol_of t.kind t.place) left) =
-    omega (arith, length-map ts placed, left_length left) in
-    token_fault (map placed ts) f (map (λ t. symbol_of t.kind t.place) left) place end
-    (sym (fresh ts n e) ∙ bad) (at ∙ ap (λ k. first_place (drop k (map placed ts)) end) same)
+    grind (arith, length-map, left_length, token_fault, fresh)
 
 pub tokens_no_tree : (ts left : List Token) (n : Counts) (f : Fault) (place : ℕ) (u : tree.Tree)
     → n ≡ nothing_counted → run (map (λ t. symbol_of t.kind t.place) ts) begin n
@@ -108,13 +100,7 @@ tokens_no_tree ts left n f place u e bad d =
 -- a query and its text
 pub means_tokens : (bytes : List ℕ) (tokens : List Placed) (t : tree.Tree) → length bytes ≤ 65536
     → cut_of bytes ≡ Ok tokens → Derives (symbols tokens) t → Means bytes t
-means_tokens bytes tokens t short cut d =
-    record {
-      short = short;
-      tokens = tokens;
-      cut = (tokens_make_text bytes tokens).0 cut;
-      derives = d;
-    }
+means_tokens bytes tokens t short cut d = grind (arith, tokens_make_text, derives)
 
 -- the parser's answer of an error
 pub error_fault : (ts left : List Token) (n m : Counts) (error : ParseError) (place end passed : ℕ)
@@ -139,12 +125,7 @@ error_no_tree ts left n m (errors.Fault f) place u e bad d =
 -- the first fault of the tokens is the text's
 pub stopped : (bytes : List ℕ) (tokens left : List Placed) (fault : Fault) → length bytes ≤ 65536
     → cut_of bytes ≡ Ok tokens → TokensStopAt tokens fault left → StopsAt bytes fault left
-stopped bytes tokens left fault short cut s = record {
-  short = short;
-  front = s.front;
-  cut = subst (AreTokens (length bytes) [] 0 bytes) s.cut ((tokens_make_text bytes tokens).0 cut);
-  first = subst (λ ts. FirstQueryFault (symbols ts) fault (symbols left)) s.cut s.first;
-}
+stopped bytes tokens left fault short cut s = grind (arith, tokens_make_text)
 
 pub fault_of_tokens : (bytes : List ℕ) (tokens : List Placed) (fault : QueryFault)
     → length bytes ≤ 65536 → cut_of bytes ≡ Ok tokens → IsTokenFault tokens (length bytes) fault
@@ -165,26 +146,12 @@ not_cut bytes tokens fault e f = cc
 
 pub cut_is_memory : (bytes : List ℕ) (t : tree.Tree) (fault : QueryFault) → Means bytes t
     → IsCutFault bytes fault → IsLexical fault → fault ≡ faults.OutOfMemory
-cut_is_memory bytes t faults.OutOfMemory m e lexical = refl
-cut_is_memory bytes t (faults.BadCharacter n) m e lexical =
-    absurd (not_cut bytes m.tokens _ ((tokens_make_text bytes m.tokens).1 m.cut) e)
-cut_is_memory bytes t (faults.BadNumber n) m e lexical =
-    absurd (not_cut bytes m.tokens _ ((tokens_make_text bytes m.tokens).1 m.cut) e)
-cut_is_memory bytes t (faults.OpenText n) m e lexical =
-    absurd (not_cut bytes m.tokens _ ((tokens_make_text bytes m.tokens).1 m.cut) e)
-cut_is_memory bytes t _ m e lexical = absurd lexical
+cut_is_memory bytes t it m e lexical = grind (arith, not_cut, tokens_make_text)
 
 -- the faults of the cut are faults of the text
 pub fault_of_text : (bytes : List ℕ) (fault : QueryFault) → length bytes ≤ 65536
     → IsCutFault bytes fault → IsLexical fault → IsFirstQueryFault bytes fault
-fault_of_text bytes faults.OutOfMemory short e lexical = tt
-fault_of_text bytes (faults.BadCharacter n) short e lexical =
-    (short, (stop_cuts bytes (faults.BadCharacter n)).0 e)
-fault_of_text bytes (faults.BadNumber n) short e lexical =
-    (short, (stop_cuts bytes (faults.BadNumber n)).0 e)
-fault_of_text bytes (faults.OpenText n) short e lexical =
-    (short, (stop_cuts bytes (faults.OpenText n)).0 e)
-fault_of_text bytes _ short e lexical = absurd lexical
+fault_of_text bytes it short e lexical = grind (arith, stop_cuts)
 
 -- what a tree isn't read for is want of memory
 pub not_read : (t : tree.Tree) (fault : QueryFault) → IsTreeRead t (Err fault)

@@ -1,12 +1,12 @@
 -- What was read on the way to a state, and that each step reads one symbol more.
-use Rattle.std.proofs.Common.{◌≡◌, ◌∙◌, ◌+◌, List, [], ◌∷◌, Option, Some, None, refl, ap, subst}
+use Rattle.std.proofs.Common.{◌≡◌, ◌∙◌, ◌+◌, List, [], ◌∷◌, Option, Some, None, refl, ap, subst, arith}
 use Rattle.star_query.specs.declared.token.Keyword.TheVariants as k
 use Rattle.star_query.specs.declared.token.Sign.TheVariants as s
 use Rattle.star_query.specs.{declared.token.Additive.TheVariants.Minus, declared.token.Relation.Relation, Tree.Name, Grammar.Mark}
 use Rattle.star_query.specs.declared.token.Relation.TheVariants as r
 use Rattle.star_query.specs.declared.counts.Part.TheVariants as part
-use Rattle.star_query.specs.Symbols.{Symbol, keyword, fold, count, relation, sign, additive, name, number, text}
-use Rattle.star_query.specs.Private.Phrases.{Several, Expr, Term, Factor, parens, Lit, Cond, Conj, Unary, not_unit, group, compare, between, Item, aggregate, Key, unmarked, ascending, descending, ungrouped, grouped, at, first, ident, function, expr_marks, term_marks, factor_marks, lit_marks, cond_marks, conj_marks, unit_marks, agg_marks, item_marks, table_marks, column_marks, key_marks, several_marks, where_marks, groups_marks, keys_marks, Hiding, hiding_word}
+use Rattle.star_query.specs.Symbols.{Symbol, keyword, fold, count, relation, sign, additive, name, number}
+use Rattle.star_query.specs.Private.Phrases.{Several, Expr, Term, Factor, Lit, Cond, Conj, Unary, not_unit, compare, between, Item, Key, ascending, descending, grouped, at, first, ident, function, expr_marks, term_marks, factor_marks, lit_marks, cond_marks, conj_marks, unit_marks, agg_marks, item_marks, table_marks, column_marks, key_marks, several_marks, where_marks, groups_marks, keys_marks, Hiding, hiding_word}
 use Rattle.star_query.specs.Private.Machine.{extended, ExprHole, in_fold, in_parens, TermHole, first_term, next_term, FactorHole, first_factor, next_factor, CondHole, in_where, in_group, ConjHole, first_conj, next_conj, UnitHole, first_unit, next_unit, under_not, LitHole, compared, low, high, Filtered, Grouped, filtered_by, grouped_by, expr_depth, term_depth, factor_depth, cond_depth, conj_depth, unit_depth, lit_depth, ParserState, begin, item_wanted, fold_named, count_named, count_opened, count_starred, factor_wanted, factor_negative, term_had, agg_had, alias_wanted, items_had, table_wanted, tables_had, unit_wanted, unit_named, equal_had, lit_wanted, lit_negative, low_had, conj_had, filtered_had, group_had, by_had, hiding_had, column_wanted, columns_had, grouped_had, order_had, key_wanted, key_named, keys_had, done, ended, Step, give_factor, joined_expr, around_term, give_unit, joined_cond, around_conj, give_lit, behind_relation, closed_expr, on_items, on_done, on_grouped, on_filtered, on_lit, closed_cond, on_cond, on_column, on_keys, next_step}
 
 abbrev pub before_marks : {A : Type 0} → (A → List Mark → List Mark) → Option (Several A)
@@ -191,11 +191,7 @@ close_moves : (t : Term) (h : TermHole) (e : Expr) (o : ExprHole)
     → ((rest : List Mark) → expr_passed o (expr_marks (expr_depth o) e rest)
     ≡ term_passed h (term_marks (term_depth h) t rest))
     → IfStep (closed_expr e o) (Moves (term_had t h) (sign s.Close))
-close_moves t h e (in_fold b f p) same =
-    moves _ _ _ _ refl (λ rest. same (at 0 (sign s.Close) ∷ rest))
-close_moves t h e (in_parens o) same =
-    moves _ _ _ _ refl (λ rest.
-    give_factor_passed o (parens e) rest ∙ same (at (factor_depth o + 1) (sign s.Close) ∷ rest))
+close_moves t h e it same = grind (arith, moves, give_factor_passed)
 
 items_moves : (is : Several Item) (x : Symbol) → IfStep (on_items is x) (Moves (items_had is) x)
 items_moves is (sign s.Comma) = moves _ _ _ _ refl (λ rest. refl)
@@ -213,10 +209,7 @@ grouped_moves g x = moves_along (grouped_had g) (done g None) x (on_grouped g x)
     (done_moves g None x)
 
 filtered_moves : (f : Filtered) (x : Symbol) → IfStep (on_filtered f x) (Moves (filtered_had f) x)
-filtered_moves f (keyword k.Group) = moves _ _ _ _ refl (λ rest. refl)
-filtered_moves f x =
-    moves_along (filtered_had f) (grouped_had (grouped_by f ungrouped)) x (on_filtered f x)
-    (λ rest. refl) (grouped_moves (grouped_by f ungrouped) x)
+filtered_moves f x = grind (arith, moves, moves_along, grouped_moves)
 
 relation_passed : (h : UnitHole) (i : Name) (q : Relation) (rest : List Mark)
     → passed (behind_relation h i q) rest ≡ lit_passed (compared h i q) rest
@@ -224,27 +217,17 @@ relation_passed h i r.Equal rest = refl
 relation_passed h i _ rest = refl
 
 lit_moves : (h : LitHole) (x : Symbol) → IfStep (on_lit h x) (Moves (lit_wanted h) x)
-lit_moves h (number n) = moves _ _ _ _ refl (give_lit_passed h _)
-lit_moves h (text t) = moves _ _ _ _ refl (give_lit_passed h _)
-lit_moves h (additive Minus) = moves _ _ _ _ refl (λ rest. refl)
-lit_moves h _ = tt
+lit_moves h it = grind (arith, moves, give_lit_passed)
 
 closed_moves : (from : ParserState) (a : Cond) (h : UnitHole) (x : Symbol)
     → ((rest : List Mark) → cond_passed (in_group h) (cond_marks (unit_depth h + 1) a rest)
     ≡ passed from rest) → IfStep (closed_cond a h x) (Moves from x)
-closed_moves from a h (sign s.Close) same =
-    moves _ _ _ _ refl (λ rest.
-    give_unit_passed h (group a) rest ∙ same (at (unit_depth h + 1) (sign s.Close) ∷ rest))
-closed_moves from a h _ same = tt
+closed_moves from a h it same = grind (arith, moves, give_unit_passed)
 
 cond_moves : (from : ParserState) (a : Cond) (h : CondHole) (x : Symbol)
     → ((rest : List Mark) → cond_passed h (cond_marks (cond_depth h) a rest) ≡ passed from rest)
     → IfStep (on_cond a h x) (Moves from x)
-cond_moves from a (in_where is ts) x same =
-    moves_along from (filtered_had (filtered_by is ts (Some a))) x
-    (on_filtered (filtered_by is ts (Some a)) x) same
-    (filtered_moves (filtered_by is ts (Some a)) x)
-cond_moves from a (in_group h) x same = closed_moves from a h x same
+cond_moves from a it x same = grind (arith, moves_along, filtered_moves, closed_moves)
 
 conj_depth_around : (h : ConjHole) → cond_depth (around_conj h) ≡ conj_depth h
 conj_depth_around (first_conj h) = refl
@@ -252,10 +235,7 @@ conj_depth_around (next_conj a h) = refl
 
 column_moves : (f : Filtered) (h : Option Hiding) (b : Option (Several Name)) (x : Symbol)
     → IfStep (on_column f h b x) (Moves (column_wanted f h b) x)
-column_moves f h b (name t p) =
-    moves _ _ _ _ refl (λ rest.
-    ap (λ l. by_passed f (hiding_passed h l)) (several-extended column_marks b _ rest))
-column_moves f h b _ = tt
+column_moves f h b it = grind (arith, moves, several-extended)
 
 keys_moves : (g : Grouped) (ks : Several Key) (x : Symbol)
     → IfStep (on_keys g ks x) (Moves (keys_had g ks) x)
@@ -289,19 +269,12 @@ all_moves (factor_negative h) (number n) = moves _ _ _ _ refl (give_factor_passe
 all_moves (factor_negative h) _ = tt
 all_moves (term_had t h) (sign s.Star) = moves _ _ _ _ refl (λ rest. refl)
 all_moves (term_had t h) (additive q) =
-    moves _ _ _ _ refl (λ rest.
-    ap (λ d. expr_passed (around_term h)
-    (expr_marks (expr_depth (around_term h)) (joined_expr t h) (at d (additive q) ∷ rest)))
-    (same_depth h) ∙ joined_expr_passed h t (at (term_depth h) (additive q) ∷ rest))
+    grind (arith, moves, expr_passed, same_depth, joined_expr_passed)
 all_moves (term_had t h) (sign s.Close) =
     close_moves t h (joined_expr t h) (around_term h) (joined_expr_passed h t)
 all_moves (term_had t h) _ = tt
 all_moves (agg_had b a) (keyword k.As) = moves _ _ _ _ refl (λ rest. refl)
-all_moves (agg_had b a) x =
-    moves_along (agg_had b a) (items_had (extended b (aggregate a None))) x
-    (next_step (agg_had b a) x)
-    (λ rest. ap (λ l. at 0 (keyword k.Select) ∷ l) (several-extended item_marks b _ rest))
-    (items_moves (extended b (aggregate a None)) x)
+all_moves (agg_had b a) x = grind (arith, moves_along, several-extended, items_moves)
 all_moves (alias_wanted b a) (name t p) =
     moves _ _ _ _ refl (λ rest.
     ap (λ l. at 0 (keyword k.Select) ∷ l) (several-extended item_marks b _ rest))
@@ -334,10 +307,7 @@ all_moves (low_had h i l) (keyword k.And) = moves _ _ _ _ refl (λ rest. refl)
 all_moves (low_had h i l) _ = tt
 all_moves (conj_had c h) (keyword k.And) = moves _ _ _ _ refl (λ rest. refl)
 all_moves (conj_had c h) (keyword k.Or) =
-    moves _ _ _ _ refl (λ rest.
-    ap (λ d. cond_passed (around_conj h)
-    (cond_marks (cond_depth (around_conj h)) (joined_cond c h) (at d (keyword k.Or) ∷ rest)))
-    (conj_depth_around h) ∙ joined_cond_passed h c (at (conj_depth h) (keyword k.Or) ∷ rest))
+    grind (arith, moves, cond_passed, conj_depth_around, joined_cond_passed)
 all_moves (conj_had c h) x = cond_moves (conj_had c h) (joined_cond c h) (around_conj h) x
     (joined_cond_passed h c)
 all_moves (filtered_had f) x = filtered_moves f x
@@ -367,11 +337,7 @@ all_moves (key_named g b i) (keyword k.Asc) =
 all_moves (key_named g b i) (keyword k.Desc) =
     moves _ _ _ _ refl (λ rest.
     ap (order_passed g) (several-extended key_marks b (descending i) rest))
-all_moves (key_named g b i) x =
-    moves_along (key_named g b i) (keys_had g (extended b (unmarked i))) x
-    (next_step (key_named g b i) x)
-    (λ rest. ap (order_passed g) (several-extended key_marks b (unmarked i) rest))
-    (keys_moves g (extended b (unmarked i)) x)
+all_moves (key_named g b i) x = grind (arith, moves_along, several-extended, keys_moves)
 all_moves (keys_had g ks) x = keys_moves g ks x
 all_moves (done g ks) x = done_moves g ks x
 all_moves (ended g ks) x = tt

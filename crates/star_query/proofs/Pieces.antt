@@ -10,7 +10,7 @@ use Rattle.star_query.specs.declared.token.Word.TheVariants as words
 use Rattle.star_query.specs.declared.token.Relation.TheVariants as r
 use Rattle.star_query.specs.declared.token.Sign.TheVariants as s
 use Rattle.star_query.specs.declared.token.Additive.TheVariants as q
-use Rattle.star_query.specs.Symbols.{Symbol, relation, sign, additive, number, text, word_symbol}
+use Rattle.star_query.specs.Symbols.{Symbol, relation, sign, additive, number, text}
 use Rattle.star_query.specs.Private.Cut.{Piece, blank, token, bad, reserved, word_of, word_piece, number_piece, text_piece, sign_piece, piece_at}
 use Rattle.star_query.specs.Tokens.{is_letter, is_word_byte, begins_with_letter, is_word, signs, IsToken, a_word, a_name, a_number, a_text, a_sign, continues, is_whole, Stops, bad_number, open_text, bad_byte, stray}
 use Rattle.star_query.proofs.{Counting.by_bool, Reserved.spelled_alone, Lexing.number_some, Lexing.numeral_front, Lexing.prefix_passes}
@@ -57,16 +57,7 @@ over_from x p (b ∷ bs) same over = rw (same b) over
 
 pub word_goes_on : (place : ℕ) (word : List ℕ) (b : ℕ)
     → continues (word_of place word) b ≡ is_word_byte b
-word_goes_on place word b = go (reserved word) refl
-  where
-    of_word : (w : Word) → continues (word_symbol w place) b ≡ is_word_byte b
-    of_word (words.Keyword k) = refl
-    of_word (words.Fold f) = refl
-    of_word words.Count = refl
-
-    go : (o : Option Word) → reserved word ≡ o → continues (word_of place word) b ≡ is_word_byte b
-    go None h = rw h refl
-    go (Some w) h = rw h (of_word w)
+word_goes_on place word b = grind arith
 
 -- a word is a reserved word or a name
 word_token : (place : ℕ) (word : List ℕ) → is_word word ≡ true
@@ -104,10 +95,7 @@ word_found place b bs letter =
 no_more_of_it : (n : ℕ) (rest : List ℕ) → ends is_ascii_digit rest ≡ true
     → begins_with_letter rest ≡ false → is_whole (number n) rest ≡ true
 unfolding ends
-no_more_of_it n [] digits letter = refl
-no_more_of_it n (b ∷ bs) digits letter =
-    by_bool (is_ascii_digit b) (λ wrong. absurd (let h = rw wrong at digits in cc))
-    (λ other. rw (letter, other) refl)
+no_more_of_it n it digits letter = grind (arith, by_bool)
 
 number_found : (place b : ℕ) (bs : List ℕ) → is_ascii_digit b ≡ true
     → Found place (b ∷ bs) (number_piece place (b ∷ bs))

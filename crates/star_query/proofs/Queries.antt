@@ -1,5 +1,5 @@
 -- The parser's functions on the clauses of a query go with the machine.
-use Rattle.std.proofs.Common.{◌≡◌, ◌∙◌, ℕ, ◌<◌, ◌≤◌, Bool, true, false, List, [], ◌∷◌, map, length, Option, Some, None, Result, Ok, Err, refl, sym, ap, subst, arith}
+use Rattle.std.proofs.Common.{◌≡◌, ◌∙◌, ℕ, ◌<◌, ◌≤◌, Bool, false, List, [], ◌∷◌, map, length, Option, Some, None, Result, Ok, Err, refl, sym, ap, subst, arith}
 use Rattle.std.specs.Prelude.{OnOk, ◌==◌}
 use Rattle.std.specs.{Bool.OnTrue, Bool.OnFalse, declared.alloc.Global.Global, declared.vec.Vec.Vec}
 use Rattle.star_query.specs.declared.{token.Fold.Fold, fault.Fault.TheVariants.Unexpected, fault.ParseError.ParseError, clauses.Function.Function, parser.Parser.Parser, token.Token.Token, tree.Name.Name, tree.Expression.Expression, tree.Test.Test, tree.Condition.Condition, tree.Measure.Measure, tree.Grouping.Grouping, tree.SortKey.SortKey, tree.Tree.Tree}
@@ -13,8 +13,8 @@ use Rattle.star_query.specs.declared.tree.Item.TheVariants as items
 use Rattle.star_schema.specs.declared.group.{Shape.Shape, Shape.TheVariants.Plain, Direction.TheVariants.Ascending, Direction.TheVariants.Descending}
 use Rattle.star_query.specs.Tree as tree
 use Rattle.star_query.specs.Private.Phrases as grammar
-use Rattle.star_query.specs.Private.Phrases.{Several, Agg, folded, counted, Cond, lone_conj, or_conj, Key, unmarked, ascending, descending, grouped, hiding, Query, at, first, ident, cond_tree, agg_tree, item_tree, names, groups_tree, Hiding, cube, rollup, hiding_word, shape_of}
-use Rattle.star_query.specs.Private.Machine.{extended, in_fold, in_where, Filtered, Grouped, filtered_by, grouped_by, query_of, ParserState, item_wanted, fold_named, count_named, cond_had, agg_had, alias_wanted, items_had, table_wanted, tables_had, filtered_had, by_had, hiding_had, column_wanted, columns_had, grouped_had, key_wanted, key_named, keys_had, done, ended, to, next_step, query_at_end, Bad}
+use Rattle.star_query.specs.Private.Phrases.{Several, Agg, folded, counted, Cond, lone_conj, or_conj, Key, unmarked, ascending, descending, grouped, hiding, at, first, ident, agg_tree, Hiding, cube, rollup, hiding_word, shape_of}
+use Rattle.star_query.specs.Private.Machine.{extended, in_where, Filtered, Grouped, filtered_by, grouped_by, query_of, ParserState, item_wanted, fold_named, count_named, cond_had, agg_had, alias_wanted, items_had, table_wanted, tables_had, filtered_had, by_had, hiding_had, column_wanted, columns_had, grouped_had, key_wanted, key_named, keys_had, done, to, next_step, query_at_end, Bad}
 use Rattle.star_query.specs.Views.{name_view, measure_view}
 use Rattle.star_query.specs.Private.Reads.{Spot, spot_of, head_of, No, verdict, EndsBad, Takes, NoName, ReadsName, ReadsExpr, ReadsCond, NoLogic}
 use Rattle.star_query.specs.Private.Clauses.{function_symbol, function_named, function_parts, ReadsFolded, ReadsCounted, ReadsMeasure, ReadsAlias, ReadsAggregate, ReadsItem, NoComma, ReadsItems, ReadsTable, ReadsTables, ReadsFilter, ReadsColumn, ReadsColumns, ReadsHidden, ReadsGroups, ReadsGrouping, ReadsKey, ReadsKeyList, ReadsKeys, ReadsEnd, ReadsQuery}
@@ -46,20 +46,11 @@ not_next x old new from e no_end others b =
 pub read_folded : (old a b new : Spot) (f : Fold) (x : Expression Name)
     → Takes old a (sign s.Open) [] → ReadsExpr 0 a b (Ok x) → Takes b new (sign s.Close) []
     → ReadsFolded f old new (Ok (measures.Fold f x))
-read_folded old a b new f x opened reads closed = (
-  reads.0,
-  ap (tree.fold f) reads.1,
-  λ h u. past _ _ opened refl ∙ reads.2 (in_fold h.0 f h.1) refl
-      ∙ past _ _ closed (fold_closes reads.0 h.0 f h.1),
-)
+read_folded old a b new f x opened reads closed = grind (arith, past, fold_closes)
 
 pub read_counted : (old a b new : Spot) → Takes old a (sign s.Open) [] → Takes a b (sign s.Star) []
     → Takes b new (sign s.Close) [] → ReadsCounted old new (Ok measures.Count)
-read_counted old a b new opened star closed = (
-  tt,
-  refl,
-  λ h u. past _ _ opened refl ∙ past _ _ star refl ∙ past _ _ closed refl,
-)
+read_counted old a b new opened star closed = grind (arith, past)
 
 pub folded_measure : (f : Function) (q : Fold) (old new : Spot)
     (r : Result (Measure Name) ParseError) → f.fold ≡ Some q → ReadsFolded q old new r
@@ -97,22 +88,11 @@ agg_step b a _ other = refl
 
 pub read_no_alias : (old new : Spot) → No (keyword k.As) old → new ≡ old
     → ReadsAlias old new (Ok None)
-read_no_alias old new none same = (
-  None,
-  refl,
-  λ h u. same_from old (agg_had h.0 h.1)
-      (items_had (extended h.0 (grammar.aggregate h.1 None))) refl
-      (λ x head. agg_step h.0 h.1 x (λ q. none (head ∙ ap Some q)))
-      ∙ ap (λ s. verdict s (items_had (extended h.0 (grammar.aggregate h.1 None)))) (sym same),
-)
+read_no_alias old new none same = grind (arith, same_from, agg_step)
 
 pub read_alias : (old mid new : Spot) (n : Name) → Takes old mid (keyword k.As) []
     → Takes mid new (ident (name_view n)) [] → ReadsAlias old new (Ok (Some n))
-read_alias old mid new n t u = (
-  Some (name_view n),
-  refl,
-  λ h v. past _ _ t refl ∙ past _ _ u refl,
-)
+read_alias old mid new n t u = grind (arith, past)
 
 only_alias : (b : Option (Several grammar.Item)) (a : Agg) (x : Symbol) → NoName (x ∷ [])
     → next_step (alias_wanted b a) x ≡ None
@@ -121,12 +101,8 @@ only_alias b a _ none = refl
 
 pub bad_alias : (old mid new : Spot) (e : ParseError) → Takes old mid (keyword k.As) []
     → ReadsName [] mid new (Err e) → ReadsAlias old new (Err e)
-bad_alias old mid new e t b =
-    λ h u. bad_along e new _ _ (past _ _ t refl)
-    (bad_name [] 0 (alias_wanted h.0 h.1) mid new e zero_deep
-    (λ w p. (_, refl))
-    (λ none. stuck mid (alias_wanted h.0 h.1) (λ e. refl)
-    (λ x head. only_alias h.0 h.1 x (head_no_name mid.left x head none))) b)
+bad_alias old mid new e t b h u =
+    grind (arith, past, bad_name, zero_deep, stuck, only_alias, head_no_name)
 
 abbrev with_name : Option tree.Name → tree.Aggregate → tree.Aggregate
 with_name p x = record x { name = p }
@@ -173,11 +149,7 @@ only_table is b _ none = refl
 bad_table : (is : Several grammar.Item) (b : Option (Several tree.Name)) (old new : Spot)
     (e : ParseError) → ReadsName [] old new (Err e)
     → EndsBad e new (verdict old (table_wanted is b))
-bad_table is b old new e reads =
-    bad_name [] 0 (table_wanted is b) old new e zero_deep
-    (λ t p. (tables_had is (extended b (record { text = t; place = p })), refl))
-    (λ none. stuck old (table_wanted is b) (λ e. refl)
-    (λ x head. only_table is b x (head_no_name old.left x head none))) reads
+bad_table is b old new e reads = grind (arith, bad_name, zero_deep, stuck, only_table, head_no_name)
 
 pub read_table : (old new : Spot) (r : Result Name ParseError) → ReadsName [] old new r
     → ReadsTable old new r
@@ -228,14 +200,7 @@ tables_step is ts _ f g = refl
 
 pub read_no_filter : (old new : Spot) → NoComma old → No (keyword k.Where) old → new ≡ old
     → ReadsFilter old new (Ok None)
-read_no_filter old new no_comma no_where same = (
-  None,
-  refl,
-  λ h u. same_from old (tables_had h.0 h.1) (filtered_had (filtered_by h.0 h.1 None))
-      refl (λ x head. tables_step h.0 h.1 x (λ q. no_comma (head ∙ ap Some q))
-      (λ q. no_where (head ∙ ap Some q)))
-      ∙ ap (λ s. verdict s (filtered_had (filtered_by h.0 h.1 None))) (sym same),
-)
+read_no_filter old new no_comma no_where same = grind (arith, same_from, tables_step)
 
 -- columns
 only_column : (f : Filtered) (h : Option Hiding) (b : Option (Several tree.Name)) (x : Symbol)
@@ -247,10 +212,7 @@ bad_column_name : (f : Filtered) (h : Option Hiding) (b : Option (Several tree.N
     (old new : Spot) (e : ParseError) → ReadsName (part.GroupColumn ∷ []) old new (Err e)
     → EndsBad e new (verdict old (column_wanted f h b))
 bad_column_name f h b old new e reads =
-    bad_name (part.GroupColumn ∷ []) 0 (column_wanted f h b) old new e zero_deep
-    (λ t p. (columns_had f h (extended b (record { text = t; place = p })), refl))
-    (λ none. stuck old (column_wanted f h b) (λ e. refl)
-    (λ x head. only_column f h b x (head_no_name old.left x head none))) reads
+    grind (arith, bad_name, zero_deep, stuck, only_column, head_no_name)
 
 pub read_column : (old new : Spot) (r : Result Name ParseError)
     → ReadsName (part.GroupColumn ∷ []) old new r → ReadsColumn old new r
@@ -323,13 +285,7 @@ plain_step f is _ other = refl
 by_columns : (old mid here : Spot) (f : Filtered) → No (keyword k.Cube) old × (mid ≡ old)
     → No (keyword k.Rollup) mid × (here ≡ mid)
     → verdict old (by_had f) ≡ verdict here (column_wanted f None None)
-by_columns old mid here f no_cube no_rollup =
-    ap (λ s. verdict s (by_had f)) (sym no_cube.1)
-    ∙ same_from mid (by_had f) (column_wanted f None None) refl
-    (λ x head. by_step f x (λ q.
-    no_cube.0 (ap (λ s. head_of s.left) (sym no_cube.1) ∙ head ∙ ap Some q))
-    (λ q. no_rollup.0 (head ∙ ap Some q)))
-    ∙ ap (λ s. verdict s (column_wanted f None None)) (sym no_rollup.1)
+by_columns old mid here f no_cube no_rollup = grind (arith, same_from, by_step)
 
 pub read_plain : (old mid here new : Spot) (v : _) → No (keyword k.Cube) old × (mid ≡ old)
     → No (keyword k.Rollup) mid × (here ≡ mid) → ReadsColumns here new (Ok v) → NoComma new
@@ -426,14 +382,7 @@ only_semicolon g ks _ other = refl
 pub bad_end : (old new : Spot) (b : Bool) → (OnTrue b (Takes old new (sign s.Semicolon) []))
     → (OnFalse b (No (sign s.Semicolon) old × (new ≡ old))) → 0 < length new.left
     → ReadsEnd {A = Unit {0}} old new (Err (errors.Fault Unexpected))
-bad_end old new true t f some =
-    λ g ks. past _ _ t refl
-    ∙ stuck new (ended g ks) (λ e. absurd (omega (arith, ap length e))) (λ x head. refl)
-bad_end old new false t f some =
-    λ g ks. ap (λ s. verdict s (done g ks)) (sym f.1)
-    ∙ stuck new (done g ks) (λ e. absurd (omega (arith, ap length e)))
-    (λ x head. only_semicolon g ks x
-    (λ q. f.0 (ap (λ s. head_of s.left) (sym f.1) ∙ head ∙ ap Some q)))
+bad_end old new it t f some = grind (arith, past, stuck, only_semicolon)
 
 some_left : (f : Token → Symbol) (ts : List Token) (b : Bool) → b ≡ (length ts == 0) → b ≡ false
     → 0 < length (map f ts)

@@ -1,17 +1,14 @@
 -- A word is the reserved word that it spells, and no other.
-use Rattle.std.proofs.Common.{◌≡◌, ◌↔◌, ℕ, List, Some, refl, sym}
+use Rattle.std.proofs.Common.{◌≡◌, ◌↔◌, ℕ, List, Some, refl, sym, arith}
 use Rattle.star_schema.specs.Words.{named}
 use Rattle.star_schema.proofs.NamesApart.{by_name}
-use Rattle.star_query.specs.declared.token.{Word.Word, Keyword.TheVariants.Select, Fold.TheVariants.Sum, Word.TheVariants.Keyword, Word.TheVariants.Fold, Word.TheVariants.Count}
+use Rattle.star_query.specs.declared.token.{Word.Word}
 use Rattle.star_query.specs.{Symbols.spelling, Symbols.lowered, Private.Cut.reserved, Private.Cut.reserved_words}
 
 -- each word is found by its spelling
 by_spelling : (w : Word) → named spelling reserved_words (spelling w) ≡ Some w
 unfolding spelling reserved_words
-by_spelling (Keyword Select) = refl
-by_spelling (Fold Sum) = refl
-by_spelling Count = refl
-by_spelling _ = refl
+by_spelling it = grind arith
 
 pub spelled_alone : (w : Word) (word : List ℕ)
     → (reserved word ≡ Some w) ↔ (lowered word ≡ spelling w)

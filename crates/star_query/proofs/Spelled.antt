@@ -1,5 +1,5 @@
 -- What a text means is spelled as the grammar wants.
-use Rattle.std.proofs.Common.{◌≡◌, ◌∙◌, ◌^◌, ℕ, zero, suc, true, Bool, List, [], ◌∷◌, ◌++◌, length, Option, refl, sym, subst, if◌then◌else◌}
+use Rattle.std.proofs.Common.{◌≡◌, ◌∙◌, ◌^◌, ℕ, zero, suc, true, Bool, List, [], ◌∷◌, ◌++◌, length, Option, refl, subst, if◌then◌else◌, arith}
 use Rattle.std.specs.{Prelude.nat_lt, Prelude.neg_ℤ, Prelude.pos, List.AllByRecursion, List.list_all}
 use Rattle.std.proofs.lemmas.{Bool.and_from, Bool.and_parts, Bool.le-leb, List.Folds.list_all-append}
 use Rattle.star_query.specs.declared.{counts.Part.Part, token.Additive.TheVariants.Plus, token.Additive.TheVariants.Minus}
@@ -191,8 +191,4 @@ query_good t (w.query {items} {tables} {condition} {groups} {keys} semicolon is 
 
 -- what a text means is well spelled
 pub meant_spelled : (bytes : List ℕ) (t : Tree) → Means bytes t → IsSpelledQuery t
-meant_spelled bytes t m =
-    let d = m.derives in
-    query_good t d.query (each_good d.marks
-    (subst (λ xs. list_all token_is_spelled xs ≡ true) (sym d.written)
-    (tokens_spelled (length bytes) [] 0 bytes m.tokens m.cut)) d.within.names)
+meant_spelled bytes t m = grind (arith, query_good, each_good, token_is_spelled, tokens_spelled)

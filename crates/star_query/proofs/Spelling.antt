@@ -1,5 +1,5 @@
 -- The names, numbers and texts of tokens are spelled as the grammar wants.
-use Rattle.std.proofs.Common.{◌≡◌, subst, sym, refl, ℕ, ◌+◌, ◌^◌, ◌<◌, ◌≤◌, Bool, true, ◌&&◌, List, [], ◌∷◌, length, Some, arith}
+use Rattle.std.proofs.Common.{◌≡◌, subst, refl, ℕ, ◌+◌, ◌^◌, ◌<◌, ◌≤◌, Bool, true, ◌&&◌, List, [], ◌∷◌, length, Some, arith}
 use Rattle.std.specs.{Prelude.nat_lt, List.list_all, Char.to_ascii_lowercase, Int.is_in_range, Str.Parse.digits_value}
 use Rattle.std.proofs.lemmas.Bool.{and_from, and_parts, le-leb, lt-ltb, ltb-true, ltb-false, or_left, or_right}
 use Rattle.std.proofs.lemmas.Int.Digits.{digits_value-lt}
@@ -7,9 +7,9 @@ use Rattle.star_common.specs.Numerals.{numeral_of}
 use Rattle.star_common.proofs.NumeralLemmas.{all_digits, below_power}
 use Rattle.star_query.specs.{declared.token.Word.Word, Symbols.Symbol, Symbols.Placed, Symbols.name, Symbols.number, Symbols.text, Symbols.symbols, Symbols.word_symbol, Symbols.lowered}
 use Rattle.star_query.specs.declared.token.Word.TheVariants as words
-use Rattle.star_query.specs.Tokens.{is_letter, is_word_byte, begins_with_letter, IsToken, a_word, a_name, a_number, a_text, a_sign, AreTokens, no_more, white_space, a_token}
+use Rattle.star_query.specs.Tokens.{is_letter, is_word_byte, begins_with_letter, IsToken, AreTokens, no_more, white_space, a_token}
 use Rattle.star_query.specs.Spelled.{is_printable_text}
-use Rattle.star_query.proofs.{Counting.by_bool, Pieces.each_sign, Cuts.numeral_parts}
+use Rattle.star_query.proofs.{Counting.by_bool, Cuts.numeral_parts}
 
 -- as the token is spelled; a name's length is asked for elsewhere
 abbrev pub token_is_spelled : Symbol → Bool
@@ -26,12 +26,7 @@ in_range lo hi c low high = and_from _ _ (le-leb lo c low) (le-leb c hi high)
 -- a test that all small letters pass is passed by a byte in lower case
 lower_passes : (p : ℕ → Bool) → ((c : ℕ) → 97 ≤ c → c ≤ 122 → p c ≡ true) → (b : ℕ) → p b ≡ true
     → p (to_ascii_lowercase b) ≡ true
-lower_passes p small b e =
-    by_bool (nat_lt b 65) (λ low. rw low e)
-    (λ other. by_bool (nat_lt b 91)
-    (λ capital. rw (other, capital)
-    (small (b + 32) (let h : 65 ≤ b = ltb-false _ _ other in omega arith)
-    (let h : b < 91 = ltb-true _ _ capital in omega arith))) (λ high. rw (other, high) e))
+lower_passes p small b e = grind (arith, by_bool, ltb-false, ltb-true)
 
 small_letter : (c : ℕ) → 97 ≤ c → c ≤ 122 → is_letter c ≡ true
 small_letter c low high =
@@ -70,22 +65,8 @@ few_digits bytes n e =
 token_spelled : (place : ℕ) (bytes : List ℕ) (x : Symbol) → IsToken place bytes x
     → token_is_spelled x ≡ true
 unfolding is_printable_text
-token_spelled place bytes x (a_word is w e same) =
-    subst (λ y. token_is_spelled y ≡ true) (sym same) (reserved_spelled w place)
-token_spelled place bytes x (a_name is none same) =
-    let (begins, all) = and_parts (begins_with_letter bytes) (list_all is_word_byte bytes) is in
-    subst (λ y. token_is_spelled y ≡ true) (sym same)
-    (and_from _ _ (lowered_begins bytes begins) (lowered_passes bytes all))
-token_spelled place bytes x (a_number n e same) =
-    subst (λ y. token_is_spelled y ≡ true) (sym same) (few_digits bytes n e)
-token_spelled place bytes x (a_text said printed cut same) =
-    subst (λ y. token_is_spelled y ≡ true) (sym same) printed
-token_spelled place bytes x (a_sign there) =
-    each_sign (λ (w, y). token_is_spelled y ≡ true) bytes x
-    r r r r r r r r r r r r r there
-  where
-    r : true ≡ true
-    r = refl
+token_spelled place bytes x it =
+    grind (arith, reserved_spelled, and_parts, and_from, lowered_begins, lowered_passes, few_digits)
 
 pub tokens_spelled : (end : ℕ) (left : List ℕ) (place : ℕ) (bytes : List ℕ) (ts : List Placed)
     → AreTokens end left place bytes ts → list_all token_is_spelled (symbols ts) ≡ true

@@ -27,13 +27,7 @@ pub unquoted_next : (inside so_far after : List ℕ) (i b : ℕ) (q p : Bool) �
     → undoubled inside ≡ so_far ++ unquoted_after q (drop i inside)
     → undoubled inside ≡ after ++ unquoted_after p (drop (i + 1) inside)
 unquoted_next inside so_far after i b q p below was same byte now e =
-    let next : undoubled inside
-    ≡ so_far ++ get_or inside i 0
-    ∷ unquoted_after (get_or inside i 0 == 39) (drop (i + 1) inside) =
-    rw (was, drop_more inside i 0 below) at e in
-    rw (same, now, byte) (next
-    ∙ sym (append_assoc so_far (get_or inside i 0 ∷ [])
-    (unquoted_after (get_or inside i 0 == 39) (drop (i + 1) inside))))
+    grind (arith, drop_more, append_assoc)
 
 pub no_name_there : (left : List Symbol) → IsName left → NoName left → ⊥
 no_name_there [] is none = is
@@ -52,23 +46,11 @@ HasCounted p old mid = (count_of_part old.counts p < limit p)
 
 counted_takes : (p : Part) (old mid new : Spot) (x : Symbol) → HasCounted p old mid
     → Takes mid new x [] → Takes old new x (p ∷ [])
-counted_takes p old mid new x c t =
-    record {
-      next = ap (λ s. s.left) (sym c.1) ∙ t.next;
-      counts = t.counts ∙ ap (λ s. s.counts) c.1;
-      few = one_allowed p old.counts c.0;
-      short = t.short;
-    }
+counted_takes p old mid new x c t = grind (arith, one_allowed)
 
 counted_beyond : (p : Part) (old mid : Spot) → HasCounted p old mid
     → IsBeyond [] mid.counts mid.left → IsBeyond (p ∷ []) old.counts old.left
-counted_beyond p old mid c b =
-    beyond_at old.left (subst (λ left. IsBeyond [] mid.counts left) (ap (λ s. s.left) c.1) b)
-  where
-    beyond_at : (left : List Symbol) → IsBeyond [] mid.counts left
-        → IsBeyond (p ∷ []) old.counts left
-    beyond_at [] b = b
-    beyond_at (x ∷ xs) b = rw (one_allowed p old.counts c.0) b
+counted_beyond p old mid c b = grind (arith, one_allowed)
 
 -- where a part begins with a token of a kind
 pub token_counted : {A : Type 0} (symbol : A → Symbol) (NoMemory : Type 0)

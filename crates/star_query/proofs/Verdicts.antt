@@ -3,12 +3,12 @@ use Rattle.std.proofs.Common.{◌≡◌, ◌∙◌, ℕ, ◌+◌, ◌<◌, ◌�
 use Rattle.std.specs.{Prelude.nat_lt, List.AllByRecursion}
 use Rattle.std.proofs.lemmas.Bool.{ltb-true, ltb-false}
 use Rattle.star_query.specs.declared.{counts.Part.Part, counts.Counts.Counts, fault.Fault.Fault, fault.Fault.TheVariants.Unexpected, fault.Fault.TheVariants.TooDeep, fault.Fault.TheVariants.TooMany}
-use Rattle.star_query.specs.declared.counts.Part.TheVariants.{Item, Aggregate, GroupColumn, SortKey, Comparison, Operand}
 use Rattle.star_query.specs.{Symbols.Symbol, Symbols.symbols, Tree.Tree, Private.Phrases.Query, Private.Phrases.query_marks, Private.Phrases.query_tree, Maxima.limit, Grammar.Mark, Grammar.IsQuery}
 use Rattle.star_query.specs.Derives.{count_begun, IsShortName, AreWithinLimits, symbols_at, Derives, BeginsQuery, NoQueryGoesOn, QueryFails, unexpected, too_deep, too_many, FirstQueryFault, Means}
 use Rattle.star_query.specs.Private.Machine.{ParserState, begin, Step, to, next_step, query_at_end, Verdict, Whole, Bad, count_of_part, plus, is_over, is_long, checked, verdict_after, ends, run, nothing_counted}
 use Rattle.star_query.proofs.{Cuts.one_cut, Accepting.Accepts, Accepting.query_goes, Passed.passed, Passed.step_moves, Phrased.is_query, Phrased.query_is, Phrased.phrased, Phrased.begun, Finishes.state_finishes, Finishes.end_passed}
 use Rattle.star_query.proofs.Counting.{not_below, number-plus, not_over, over_some, fits_after, short_name, not_long}
+use Rattle.std.proofs.lemmas.Grind.{common_steps}
 
 -- from one state to another through these marks
 abbrev pub Goes : ParserState → List Mark → ParserState → Type 0
@@ -67,16 +67,7 @@ Found from n xs (Bad f left) =
 
 here_already : (from : ParserState) (n : Counts) (xs : List Symbol) → Fits n
     → Reaches from n xs from n [] xs
-here_already from n xs fits =
-    record {
-      cut = refl;
-      goes = refl;
-      depth = tt;
-      names = tt;
-      numbers = λ p. omega arith;
-      fits =
-          fits;
-    }
+here_already from n xs fits = grind arith
 
 one_before : (from : ParserState) (n : Counts) (x : Symbol) (xs : List Symbol) (st : Step)
     (last : ParserState) (n' : Counts) (ms : List Mark) (left : List Symbol)
@@ -84,15 +75,7 @@ one_before : (from : ParserState) (n : Counts) (x : Symbol) (xs : List Symbol) (
     → Reaches st.next (plus n st.at.parts) xs last n' ms left
     → Reaches from n (x ∷ xs) last n' (st.at ∷ ms) left
 one_before from n x xs st last n' ms left e shallow short r =
-    let m = step_moves from x st e in
-    record {
-      cut = ap (λ y. y ∷ xs) (sym m.symbol) ∙ ap (λ l. st.at.symbol ∷ l) r.cut;
-      goes = (st.next, ap (next_step from) m.symbol ∙ e, r.goes);
-      depth = (ltb-false _ _ shallow, r.depth);
-      names = (short_name st.at.symbol short, r.names);
-      numbers = λ p. omega (arith, r.numbers p, number-plus st.at.parts n p);
-      fits = r.fits;
-    }
+    grind (arith, step_moves, ltb-false, short_name, number-plus)
 
 before : (from : ParserState) (n : Counts) (x : Symbol) (xs : List Symbol) (st : Step)
     → next_step from x ≡ Some st → nat_lt 32 st.at.depth ≡ false → is_long st.at.symbol ≡ false
@@ -191,23 +174,10 @@ abbrev pub verdict_of : List Symbol → Verdict
 verdict_of xs = run xs begin nothing_counted
 
 pub fits_at_first : Fits nothing_counted
-fits_at_first p = omega (arith, none p)
-  where
-    none : (p : Part) → count_of_part nothing_counted p ≤ 0
-    none Item = omega arith
-    none Aggregate = omega arith
-    none GroupColumn = omega arith
-    none SortKey = omega arith
-    none Comparison = omega arith
-    none Operand = omega arith
+fits_at_first p = grind arith
 
 pub none_counted : (p : Part) → count_of_part nothing_counted p ≡ 0
-none_counted Item = refl
-none_counted Aggregate = refl
-none_counted GroupColumn = refl
-none_counted SortKey = refl
-none_counted Comparison = refl
-none_counted Operand = refl
+none_counted it = grind arith
 
 pub only : (xs : List Symbol) (t : Tree) → Derives xs t
     → (q : Query) × (verdict_of xs ≡ Whole q) × (query_tree q ≡ t)
@@ -222,13 +192,7 @@ only xs t derived = let d = phrased xs t derived in (
 -- what was reached from the beginning is within the limits
 reached_within : (xs : List Symbol) (last : ParserState) (n : Counts) (ms : List Mark)
     (left : List Symbol) → Reaches begin nothing_counted xs last n ms left → AreWithinLimits ms
-reached_within xs last n ms left r =
-    record {
-      depth = r.depth;
-      counts =
-          λ p. omega (arith, none_counted p, r.numbers p, r.fits p);
-      names = r.names;
-    }
+reached_within xs last n ms left r = grind (arith, none_counted)
 
 derives_found : (xs : List Symbol) (q : Query) → Found begin nothing_counted xs (Whole q)
     → Derives xs (query_tree q)
@@ -275,10 +239,7 @@ no_way : (front ms : List Mark) (from last : ParserState) (x : Symbol) (more : L
     (q : Query) → Accepts from ms q → Goes from front last
     → symbols_at ms ≡ symbols_at front ++ x ∷ more → next_step last x ≡ None → ⊥
 no_way [] [] from last x more q g way same e = cc
-no_way [] (m ∷ ms) from last x more q g way same e =
-    let here : m.symbol ≡ x = cc in
-    let stuck : to g.0 m ≡ None =
-    sym g.1 ∙ ap (next_step from) here ∙ ap (λ s. next_step s x) way ∙ e in cc
+no_way [] (m ∷ ms) from last x more q g way same e = grind arith
 no_way (f ∷ fs) [] from last x more q g way same e = cc
 no_way (f ∷ fs) (m ∷ ms) from last x more q g way same e =
     let here : m.symbol ≡ f.symbol = cc in
@@ -338,27 +299,8 @@ either false b e = inr e
 beyond : (front : List Mark) (n : Counts) → ((p : Part) → count_of_part n p ≡ count_begun p front)
     → (m : Mark) → IsBeyond n m → (m.depth ≤ 32)
     × (((p : Part) × (limit p < count_begun p (front ++ m ∷ []))) ⊎ (IsShortName m.symbol → ⊥))
-beyond front n numbers m over = (
-  ltb-false _ _ over.0,
-  by_cause
-      (either (is_over (plus n m.parts) m.parts) (is_long m.symbol) over.1),
-)
-  where
-    by_cause : (is_over (plus n m.parts) m.parts ≡ true) ⊎ (is_long m.symbol ≡ true)
-        → ((p : Part) × (limit p < count_begun p (front ++ m ∷ []))) ⊎ (IsShortName m.symbol → ⊥)
-    by_cause (inl e) =
-        let r = over_some (plus n m.parts) m.parts e in
-        inl (
-          r.0,
-          omega (
-            arith,
-            r.1,
-            number-plus m.parts n r.0,
-            numbers r.0,
-            count_of-append r.0 front (m ∷ []),
-          ),
-        )
-    by_cause (inr e) = inr (λ short. let h = not_long m.symbol short in cc)
+beyond front n numbers m over =
+    grind (arith, common_steps, ltb-false, either, over_some, number-plus, count_of-append)
 
 -- a query begins with what was read and the next symbol
 begins_there : {Over : Mark → Type 0} (front : List Mark) (last : ParserState) (left : List Symbol)
@@ -380,15 +322,7 @@ fails TooMany front last n left numbers way h =
 
 first_found : (xs : List Symbol) (f : Fault) (left : List Symbol)
     → Found begin nothing_counted xs (Bad f left) → FirstQueryFault xs f left
-first_found xs f left r =
-    record {
-      front = r.2;
-      cut = r.3.cut;
-      begins = begins r.2 r.0 r.3.goes;
-      within = reached_within xs r.0 r.1 r.2 left r.3;
-      fails = fails f r.2 r.0 r.1 left (λ p. omega (arith, none_counted p, r.3.numbers p)) r.3.goes
-          r.4;
-    }
+first_found xs f left r = grind (arith, begins, reached_within, fails, none_counted)
 
 pub first_fault : (xs : List Symbol) (f : Fault) (left : List Symbol) → verdict_of xs ≡ Bad f left
     → FirstQueryFault xs f left

@@ -102,13 +102,7 @@ several_weigh : {A : Type 0} (Is : List Mark → A → Type 0) (weight : A → �
     → sum_by weight xs ≤ count_begun p ms
 several_weigh Is weight p weighs (w.one {ms} {x} is) = omega (arith, weighs ms x is)
 several_weigh Is weight p weighs (w.more {ms} {ns} {xs} {x} before is) =
-    omega (
-      arith,
-      parted p ms ns (sign s.Comma),
-      several_weigh Is weight p weighs before,
-      weighs ns x is,
-      sum_by_push weight xs x,
-    )
+    grind (arith, several_weigh Is weight p weighs before, parted, sum_by_push)
 
 ones : {A : Type 0} (xs : List A) → sum_by (λ x. 1) xs ≡ length xs
 ones [] = refl
@@ -174,21 +168,7 @@ where_weighs (w.filtered c) = omega (arith, cond_comparisons c)
 
 groups_weigh : {ms : List Mark} {g : Grouping} → IsGrouping ms g
     → length g.columns ≤ count_begun part.GroupColumn ms
-groups_weigh w.ungrouped = omega arith
-groups_weigh (w.grouped is) =
-    omega (arith, several_long (IsName (part.GroupColumn ∷ [])) part.GroupColumn one_column is)
-groups_weigh (w.cube {ms} is) =
-    omega (
-      arith,
-      bracketed_same part.GroupColumn ms,
-      several_long (IsName (part.GroupColumn ∷ [])) part.GroupColumn one_column is,
-    )
-groups_weigh (w.rollup {ms} is) =
-    omega (
-      arith,
-      bracketed_same part.GroupColumn ms,
-      several_long (IsName (part.GroupColumn ∷ [])) part.GroupColumn one_column is,
-    )
+groups_weigh it = grind (arith, several_long, one_column, bracketed_same)
 
 keys_weigh : {ms : List Mark} {keys : List SortKey} → IsOrder ms keys
     → length keys ≤ count_begun part.SortKey ms
@@ -201,15 +181,7 @@ clauses : (p : Part) (items tables condition groups keys end : List Mark)
     → count_begun p items + count_begun p condition + count_begun p groups + count_begun p keys
     ≤ count_begun p (items ++ w.at (keyword k.From)
     ∷ (tables ++ (condition ++ (groups ++ (keys ++ end)))))
-clauses p items tables condition groups keys end =
-    omega (
-      arith,
-      count_of-append p items (w.at (keyword k.From) ∷ (tables ++ (condition ++ (groups ++ (keys ++ end))))),
-      count_of-append p tables (condition ++ (groups ++ (keys ++ end))),
-      count_of-append p condition (groups ++ (keys ++ end)),
-      count_of-append p groups (keys ++ end),
-      count_of-append p keys end,
-    )
+clauses p items tables condition groups keys end = grind (arith, count_of-append)
 
 query_within : {ms : List Mark} (t : Tree) → IsQuery ms t
     → ((p : Part) → count_begun p ms ≤ limit p) → IsQueryWithinLimits t

@@ -3,11 +3,11 @@ use Rattle.star_partial.specs.Contents.{contents_of}
 use Rattle.star_engine.specs.{Answered.change, Noted.Telling}
 use Rattle.star_engine.proofs.NotedAs.{noted_as}
 use Rattle.star_merger.specs.{Private.Outcomes.IsUnmerged, Private.Written.IsMergedTelling, Private.Written.telling_of}
-use Rattle.star_merger.proofs.{Results.as_noted, Results.not_merged}
+use Rattle.star_merger.proofs.{Results.as_noted, Results.not_merged, Results.noted_unprinted, Results.unprinted_same}
 use Rattle.star_merger.proofs.merges.write_merged.Goals as goal
 
-pub returns-in-Ok : goal.returns-in-Ok
-returns-in-Ok g c = λ query is.
+pub returns-in-Ok-clause-merged : goal.returns-in-Ok-clause-merged
+returns-in-Ok-clause-merged g c = λ query is.
     let out = change g.S.Sink.contents g.S.Sink.is_failed c.args.out.now c.write_outcome.new.out in
     let notes = change g.N.Sink.contents g.N.Sink.is_failed c.args.notes.now
     c.write_outcome.new.notes in
@@ -23,8 +23,8 @@ returns-in-Ok g c = λ query is.
     record { outcome = c.in-Ok.outcome; merged = c.in-Ok.ensures.merged query is; told = same })
     (λ fault never. never) c.write_outcome.ensures))
 
-pub returns-in-Err : goal.returns-in-Err
-returns-in-Err g c = λ query is.
+pub returns-in-Err-clause-merged : goal.returns-in-Err-clause-merged
+returns-in-Err-clause-merged g c = λ query is.
     let all = map contents_of c.args.partials.now in
     not_merged
     (change g.S.Sink.contents g.S.Sink.is_failed c.args.out.now c.args.out.now)
@@ -32,3 +32,18 @@ returns-in-Err g c = λ query is.
     (λ (quoted : List ℕ). quoted ≡ c.args.note.now)
     (IsMergedTelling is.p all c.args.rows c.args.note.now) (λ fault. ⊥) all c.in-Err.fault refl refl
     c.in-Err.ensures.failed
+
+pub returns-in-Ok-clause-unprinted : goal.returns-in-Ok-clause-unprinted
+returns-in-Ok-clause-unprinted g c =
+    rw c.as_merge.ensures
+    (noted_unprinted
+    (change g.S.Sink.contents g.S.Sink.is_failed c.args.out.now c.write_outcome.new.out)
+    (change g.N.Sink.contents g.N.Sink.is_failed c.args.notes.now c.write_outcome.new.notes)
+    (λ (quoted : List ℕ). quoted ≡ c.args.note.now)
+    (λ (telling : Telling). telling ≡ telling_of c.args.note.now c.in-Ok.outcome)
+    c.write_outcome.result c.write_outcome.ensures)
+
+pub returns-in-Err-clause-unprinted : goal.returns-in-Err-clause-unprinted
+returns-in-Err-clause-unprinted g c =
+    unprinted_same
+    (change g.S.Sink.contents g.S.Sink.is_failed c.args.out.now c.args.out.now) c.in-Err.fault refl

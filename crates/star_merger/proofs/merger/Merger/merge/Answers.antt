@@ -12,7 +12,7 @@ use Rattle.star_engine.specs.{Answered.change, Queries.IsQueryQuote, Queries.IsQ
 use Rattle.star_merger.specs.{Merged.IsOverlap, Merged.spans_of, Private.Checked.AreChecked, Private.Outcomes.IsUnmerged, Private.Shown.IsUsable, Private.Written.IsMergedTelling}
 use Rattle.star_merger.specs.TextShares.{whole_texts}
 use Rattle.star_merger.proofs.JoinedFacts.{are_facts}
-use Rattle.star_merger.proofs.Results.{as_noted, merged_as, none_fits, not_checked, only_overflow, refused_after, unfit}
+use Rattle.star_merger.proofs.Results.{as_noted, merged_as, none_fits, not_checked, only_overflow, refused_after, unfit, unprinted, unprinted_same}
 use Rattle.star_merger.proofs.TextBytes.{quote_some}
 use Rattle.star_merger.proofs.TextParts.{all_dimensions, contents_same, own_shares, row_share, row_shares}
 use Rattle.star_merger.proofs.Told.{loadable, loaded, quote_due, refusal_due, telling_due, too_many_due, whole_rows}
@@ -29,8 +29,8 @@ write_refused-requires g c =
     rw (c.as_bytes-in-Err-forecast.ensures.value ∙ c.in-Ok-quote_note.ensures)
     (quote_some c.from-rows.result)
 
-pub returns-in-Err : goal.returns-in-Err
-returns-in-Err g c = λ query hash texts share shares is are same distinct.
+pub returns-in-Err-clause-merged : goal.returns-in-Err-clause-merged
+returns-in-Err-clause-merged g c = λ query hash texts share shares is are same distinct.
     let rows = c.args.limits.rows in
     let visits = c.args.limits.visits in
     let whole = whole_texts texts (share ∷ shares) in
@@ -47,8 +47,8 @@ returns-in-Err g c = λ query hash texts share shares is are same distinct.
     (own_facts visits (database_of texts) query is.p is.meant (row_shares (share ∷ shares)) own)
     (all_dimensions rows visits texts query hash (share ∷ shares) c.args.partials.now are same))
 
-pub returns-in-Ok-forecast : goal.returns-in-Ok-forecast
-returns-in-Ok-forecast g c = λ query hash texts share shares is are same distinct.
+pub returns-in-Ok-forecast-clause-merged : goal.returns-in-Ok-forecast-clause-merged
+returns-in-Ok-forecast-clause-merged g c = λ query hash texts share shares is are same distinct.
     let rows = c.args.limits.rows in
     let visits = c.args.limits.visits in
     let whole = whole_texts texts (share ∷ shares) in
@@ -90,10 +90,10 @@ returns-in-Ok-forecast g c = λ query hash texts share shares is are same distin
     (only_overflow all c.args.is_distinct (spans_of all)
     (subst (All IsUsable) (sym (same ∙ contents_same (share ∷ shares)))
     (usable visits (database_of texts) query is.p is.meant (row_shares (share ∷ shares)) own fits)))
-    (c.write_merged.ensures query is)
+    (c.write_merged.ensures.merged query is)
 
-pub returns : goal.returns
-returns g c = λ query hash texts share shares is are same distinct.
+pub returns-clause-merged : goal.returns-clause-merged
+returns-clause-merged g c = λ query hash texts share shares is are same distinct.
     let rows = c.args.limits.rows in
     let visits = c.args.limits.visits in
     let whole = whole_texts texts (share ∷ shares) in
@@ -138,3 +138,13 @@ returns g c = λ query hash texts share shares is are same distinct.
     note note (c.from-rows.ensures ∙ checked.known.sizes Lineorder)
     (c.as_bytes-in-Err-forecast.ensures.value ∙ c.in-Ok-quote_note.ensures) refl)
     c.write_refused.ensures))
+
+pub returns-in-Err-clause-unprinted : goal.returns-in-Err-clause-unprinted
+returns-in-Err-clause-unprinted g c =
+    unprinted_same
+    (change g.S.Sink.contents g.S.Sink.is_failed c.args.out.now c.args.out.now) c.in-Err.fault refl
+
+pub returns-clause-unprinted : goal.returns-clause-unprinted
+returns-clause-unprinted g c =
+    unprinted (change g.S.Sink.contents g.S.Sink.is_failed c.args.out.now c.args.out.now)
+    c.as_merge.result refl
