@@ -1,9 +1,10 @@
 -- The base rows of puts, with one put more.
 use Rattle.star_group.proofs.Common.{Entry, Row, RowKey, ◌≡◌, ℕ, Bool, true, false, List, [], ◌∷◌, Option, Some, None, length, get_or, cond, ap, sym, ◌∙◌, refl, subst, filter, unwrap_or, Aggregate, numbers_for, KeyValue, leaves, Update, aggregate_at, KeyPart, AreGrouped, HasAggregates, HasBaseWithRoom, IsBase}
-use Rattle.star_group.proofs.Common.{IsRowOver, key_view, puts_with, row_found, key_eq, padded, IsMerged, IsMergedAt, IsMergedInto, IsRowOfOnePut, MergeStays, RowsStay, cell_of_one_put, merged, Group, put_number, AreInBits, Sum, Count, Min, Max}
+use Rattle.star_group.proofs.Common.{IsRowOver, key_view, puts_with, row_found, key_eq, padded, IsMerged, IsMergedAt, IsMergedInto, IsRowOfOnePut, MergeStays, RowsStay, cell_of_one_put, merged, Group, put_number, AreInBits}
 use Rattle.star_group.specs.Cells.{held}
 use Rattle.star_group.proofs.{Filters.filter_all, GroupKeys.key_decides, GroupKeys.key_equiv}
 use Rattle.star_group.proofs.Merging.{held_none, held_one, merged_comm, merged_more, no_puts, row_of_one}
+use Rattle.std.proofs.Common.{arith}
 
 -- ---- look-ups after a row was merged in
 
@@ -26,12 +27,7 @@ module _ (d : Group) (us : List Update) (u : Update) (row : Row)
     (one : IsRowOfOnePut d.aggregates u.values row) where
   pub more_over : (found new : Option Row) → IsRowOver d us found
       → IsMergedInto d.aggregates row found new → IsRowOver d (u ∷ us) new
-  more_over None new was m =
-      subst (IsRowOver d (u ∷ us)) (sym m.1) (
-        refl,
-        subst (λ ws. HasAggregates d (u ∷ ws) m.0) (sym (no_puts us was))
-            (λ place h. m.2 place h ∙ row_of_one d u row one place h),
-      )
+  more_over None new was m = grind (arith, no_puts, row_of_one)
   more_over (Some held_row) new was m =
       subst (IsRowOver d (u ∷ us)) (sym m.1)
       (refl, merged_more d u us held_row row m.0 one was.1 m.2)
@@ -105,26 +101,13 @@ no_rows d es e =
 
 pub no_base : (d : Group) (es : List Entry) (blank : Row)
     → es ≡ [] → ((place : ℕ) → get_or blank place None ≡ None) → IsBase d es blank []
-no_base d es blank e none =
-    subst (λ xs. IsBase d xs blank []) (sym e)
-    (record {
-      fit = tt;
-      rows = λ q. refl;
-      total =
-          λ place h. none place ∙ sym (held_none (aggregate_at d.aggregates place));
-    })
+no_base d es blank e none = grind (arith, held_none)
 
 -- ---- no puts are in their bits
 
 pub no_room : (d : Group) → AreInBits d []
 unfolding held
-no_room d p place h = by (aggregate_at d.aggregates place)
-  where
-    by : (g : Aggregate) → leaves g (held g []) ≡ false
-    by Sum = refl
-    by Count = refl
-    by Min = refl
-    by Max = refl
+no_room d p place h = grind (arith, leaves)
 
 pub new_room : (d : Group) (es : List Entry) (blank : Row)
     → es ≡ [] → ((place : ℕ) → get_or blank place None ≡ None) → HasBaseWithRoom d es blank

@@ -1,8 +1,9 @@
 -- Each list of puts has a content.
-use Rattle.star_group.proofs.Common.{◌≡◌, ℕ, zero, suc, ◌+◌, ◌<◌, Bool, true, false, ◌||◌, ℤ, pos, ◌+ℤ◌, List, [], ◌∷◌, Option, Some, None, length, map, get_or, cond, ap, sym, ◌∙◌, subst, refl, arith, true≢false, int_min, int_max, list_any, AllByRecursion, unwrap_or, false_from_ne_true}
-use Rattle.star_group.proofs.Common.{list_any-from_Any, list_any-from_Contains, from_contains_map, of_each, Aggregate, Sum, Count, Min, Max, aggregate, joined, numbers_for, KeyValue, same_keys, Update, aggregate_at, Group, IsContent, key_lists, put_number, puts_of}
+use Rattle.star_group.proofs.Common.{◌≡◌, ℕ, zero, suc, ◌+◌, ◌<◌, Bool, true, false, ℤ, pos, List, [], ◌∷◌, Some, length, map, get_or, cond, ap, sym, ◌∙◌, subst, refl, arith, true≢false, list_any, AllByRecursion, unwrap_or, false_from_ne_true}
+use Rattle.star_group.proofs.Common.{list_any-from_Any, list_any-from_Contains, from_contains_map, of_each, Aggregate, Count, aggregate, joined, numbers_for, KeyValue, same_keys, Update, aggregate_at, Group, IsContent, key_lists, put_number, puts_of}
 use Rattle.star_group.proofs.{JoinedParts.joined_more, JoinedParts.more, KeyLists.keys_decide, KeyLists.keys_equiv, KeyLists.some_put}
 use Rattle.std.specs.List.{IsDistinct}
+use Rattle.std.proofs.lemmas.Int.{ints}
 
 -- ---- each key list once
 
@@ -31,21 +32,7 @@ once_distinct (u ∷ us) = by (list_any (same_keys u.keys) (once_lists us)) refl
 once_are : (us : List Update) (ks : List KeyValue)
     → list_any (same_keys ks) (once_lists us) ≡ list_any (same_keys ks) (key_lists us)
 once_are [] ks = refl
-once_are (u ∷ us) ks = by (list_any (same_keys u.keys) (once_lists us)) refl (once_are us ks)
-  where
-    known : (b : Bool) → same_keys ks u.keys ≡ b
-        → list_any (same_keys u.keys) (once_lists us) ≡ true
-        → list_any (same_keys ks) (once_lists us) ≡ (b || list_any (same_keys ks) (once_lists us))
-    known true e there = ap (λ l. list_any (same_keys l) (once_lists us))
-        ((keys_decide ks u.keys).0 e) ∙ there
-    known false e there = refl
-
-    by : (b : Bool) → list_any (same_keys u.keys) (once_lists us) ≡ b
-        → list_any (same_keys ks) (once_lists us) ≡ list_any (same_keys ks) (key_lists us)
-        → list_any (same_keys ks) (cond b (once_lists us) (u.keys ∷ once_lists us))
-        ≡ (same_keys ks u.keys || list_any (same_keys ks) (key_lists us))
-    by true e rest = known (same_keys ks u.keys) refl e ∙ ap (λ b. same_keys ks u.keys || b) rest
-    by false e rest = ap (λ b. same_keys ks u.keys || b) rest
+once_are (u ∷ us) ks = grind (arith, once_are us ks, same_keys, keys_decide)
 
 -- ---- and its aggregates
 
@@ -60,26 +47,15 @@ number_from : (gs : List Aggregate) (p : ℕ) (us : List Update) (a : ℕ) → a
 number_from [] p us a h = absurd (omega (arith, h))
 number_from (g ∷ gs) p us zero h = let here : p ≡ p + 0 = omega arith in
     ap (λ n. unwrap_or (aggregate g (numbers_for n us)) (pos 0)) here
-number_from (g ∷ gs) p us (suc a) h =
-    let next : (p + 1) + a ≡ p + suc a = omega arith in
-    number_from gs (p + 1) us a (omega (arith, h))
-    ∙ ap (λ n. unwrap_or (aggregate (get_or gs a Count) (numbers_for n us)) (pos 0)) next
+number_from (g ∷ gs) p us (suc a) h = grind (arith, number_from gs (p + 1) us a (omega (arith, h)))
 
 some_joined : (f : ℤ → ℤ → ℤ) (z : ℤ) (zs : List ℤ)
     → joined f (z ∷ zs) ≡ Some (unwrap_or (joined f (z ∷ zs)) (pos 0))
-some_joined f z zs = joined_more f z zs ∙ by (joined f zs)
-    ∙ ap (λ r. Some (unwrap_or r (pos 0))) (sym (joined_more f z zs))
-  where
-    by : (r : Option ℤ) → more f z r ≡ Some (unwrap_or (more f z r) (pos 0))
-    by None = refl
-    by (Some y) = refl
+some_joined f z zs = grind (arith, ints, joined_more, joined, more)
 
 some_total : (g : Aggregate) (z : ℤ) (zs : List ℤ)
     → aggregate g (z ∷ zs) ≡ Some (unwrap_or (aggregate g (z ∷ zs)) (pos 0))
-some_total Count z zs = refl
-some_total Sum z zs = some_joined (λ x y. x +ℤ y) z zs
-some_total Min z zs = some_joined int_min z zs
-some_total Max z zs = some_joined int_max z zs
+some_total it z zs = grind (arith, ints, some_joined)
 
 module _ (d : Group) (us : List Update) where
   abbrev entry : List KeyValue → Update
@@ -93,18 +69,7 @@ module _ (d : Group) (us : List Update) where
       → place < length d.aggregates
       → aggregate (aggregate_at d.aggregates place) (numbers_for place (puts_of ks us))
       ≡ Some (put_number place (entry ks))
-  entry_total ks there place h =
-      let some = some_put ks us there in
-      let zeros : 0 + place ≡ place = omega arith in
-      ap (λ ws. aggregate (aggregate_at d.aggregates place) (numbers_for place ws)) some.2
-      ∙ some_total (aggregate_at d.aggregates place) (put_number place some.0)
-      (numbers_for place some.1)
-      ∙ ap (λ ws. Some (unwrap_or
-      (aggregate (aggregate_at d.aggregates place) (numbers_for place ws)) (pos 0)))
-      (sym some.2)
-      ∙ ap Some (sym (number_from d.aggregates 0 (puts_of ks us) place h
-      ∙ ap (λ n. unwrap_or (aggregate (aggregate_at d.aggregates place)
-      (numbers_for n (puts_of ks us))) (pos 0)) zeros))
+  entry_total ks there place h = grind (arith, some_put, some_total, number_from)
 
   abbrev Told : Update → Type 0
   Told e = (place : ℕ) → place < length d.aggregates

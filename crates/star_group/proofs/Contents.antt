@@ -21,10 +21,7 @@ found_held : (d : Group) (ws : List Update) (found : Option Row) (place : ℕ)
     → place < length d.aggregates → IsRowOver d ws found
     → get_or (unwrap_or found []) place None
     ≡ held (aggregate_at d.aggregates place) (numbers_for place ws)
-found_held d ws None place h was =
-    sym (ap (λ ps. held (aggregate_at d.aggregates place) (numbers_for place ps)) (no_puts ws was)
-    ∙ held_none (aggregate_at d.aggregates place))
-found_held d ws (Some row) place h was = was.1 place h
+found_held d ws it place h was = grind (arith, held, no_puts, held_none)
 
 -- ---- one more put
 

@@ -1,7 +1,8 @@
 -- Flat lists cut into rows.
-use Rattle.star_group.proofs.Common.{◌≡◌, ℕ, zero, suc, ◌+◌, ◌*◌, ◌<◌, ◌≤◌, List, [], ◌∷◌, ◌++◌, length, get_or, set, take, drop, ap, sym, ◌∙◌, arith, put_mid, append_assoc, drop-append-le, drop_at, drop-drop, get_or-drop, get_or-take, length-drop, length-take-le, take-append-drop}
+use Rattle.star_group.proofs.Common.{◌≡◌, ℕ, zero, suc, ◌+◌, ◌*◌, ◌<◌, ◌≤◌, List, [], ◌∷◌, ◌++◌, length, get_or, set, take, drop, ap, sym, ◌∙◌, arith, put_mid, drop-append-le, drop_at, drop-drop, get_or-drop, get_or-take, length-drop, length-take-le, take-append-drop}
 use Rattle.star_group.proofs.Common.{take-append-le, take_all, take_at, drop-put_mid, take-put_mid, mul-le-mul_right, suc-mul, zero-mul, cut_at}
 use Rattle.star_program.specs.Rows.{cut}
+use Rattle.std.proofs.lemmas.Grind.{common_steps}
 
 -- the length of more rows
 pub rows_long : (w m n total : ℕ) → total ≡ m + n → total * w ≡ m * w + n * w
@@ -92,30 +93,19 @@ module _ {T : Type 0} (w : ℕ) where
         → put_mid (i * w) k ps row ≡ take (i * w) ps ++ (row ++ after)
     unfolding after
     put_pieces k row e is =
-        let few : i * w ≤ length ps = omega (arith, room) in
-        let all = put_mid (i * w) k ps row in
-        sym (take-append-drop (i * w + w) all)
-        ∙ (λ j. take-put_mid (i * w) k ps row (i * w + w) (ap (λ m. i * w + m) (sym is)) few j
-        ++ drop-put_mid (i * w) k ps row (i * w + w) (omega (arith, e)) few (is ∙ sym e) j)
-        ∙ append_assoc (take (i * w) ps) row (drop (i * w + w) ps)
+        grind (arith, common_steps, room, put_mid, take-append-drop, take-put_mid, drop-put_mid)
 
     pub cut_put : (k : ℕ) (row : List T) → k ≡ w → length row ≡ w
         → cut w n (put_mid (i * w) k ps row) ≡ set (cut w n ps) i row
     cut_put k row e is =
-        ap (cut w n) (put_pieces k row e is)
-        ∙ cut_set n (take (i * w) ps) old row after i h
-        (length-take-le (i * w) ps (omega (arith, room))) old_wide is
-        ∙ ap (λ qs. set (cut w n qs) i row) (sym pieces)
+        grind (arith, put_pieces, cut_set, old, after, length-take-le, room, old_wide, pieces)
 
 -- ---- a place of a row
 
 pub place_read : {X : Type 0} (w n : ℕ) (items : List X) (number place : ℕ) (d : X) → number < n
     → place < w
     → get_or items (number * w + place) d ≡ get_or (get_or (cut w n items) number []) place d
-place_read w n items number place d there within =
-    sym (ap (λ row. get_or row place d) (cut_at w n items number there)
-    ∙ get_or-take w (drop (number * w) items) place d within
-    ∙ get_or-drop (number * w) items place d)
+place_read w n items number place d there within = grind (arith, cut_at, get_or-take, get_or-drop)
 
 -- `n` rows have room for each place of each of them
 pub place_within : (w n number place : ℕ) → number < n → place < w → number * w + place < n * w

@@ -1,5 +1,6 @@
 -- Filters of lists.
-use Rattle.star_group.proofs.Common.{◌≡◌, Bool, true, false, ◌&&◌, List, [], ◌∷◌, cond, ap, sym, ◌∙◌, refl, filter, AllByRecursion, Contains, and-false, and-true, of_each}
+use Rattle.star_group.proofs.Common.{◌≡◌, Bool, true, false, ◌&&◌, List, [], ◌∷◌, cond, ap, ◌∙◌, refl, filter, AllByRecursion, Contains, and-false, and-true, of_each}
+use Rattle.std.proofs.Common.{arith}
 
 module _ {A : Type 0} where
   filter_same : (a b : A → Bool) (xs : List A) → AllByRecursion (λ x. a x ≡ b x) xs
@@ -28,12 +29,4 @@ module _ {A : Type 0} where
   pub filter_twice : (p r : A → Bool) (xs : List A)
       → filter r (filter p xs) ≡ filter (λ x. r x && p x) xs
   filter_twice p r [] = refl
-  filter_twice p r (x ∷ xs) = by (p x) (filter_twice p r xs)
-    where
-      by : (b : Bool) → filter r (filter p xs) ≡ filter (λ x. r x && p x) xs
-          → filter r (cond b (x ∷ filter p xs) (filter p xs))
-          ≡ cond (r x && b) (x ∷ filter (λ x. r x && p x) xs) (filter (λ x. r x && p x) xs)
-      by true rest = (λ i. cond (sym (and-true (r x)) i) (x ∷ rest i) (rest i))
-      by false rest = rest ∙ ap
-          (λ b. cond b (x ∷ filter (λ x. r x && p x) xs) (filter (λ x. r x && p x) xs))
-          (sym (and-false (r x)))
+  filter_twice p r (x ∷ xs) = grind (arith, filter_twice p r xs, and-true, and-false)

@@ -1,19 +1,16 @@
 -- Numbers of puts, joined by an operation: by key lists first, or all at once.
-use Rattle.star_group.proofs.Common.{◌≡◌, Bool, true, false, ◌&&◌, ◌||◌, ℤ, List, [], ◌∷◌, Option, Some, None, map, cond, ap, sym, ◌∙◌, refl, true≢false, list_any, AllByRecursion, IsDistinct, filter, and-false, All-from_recursion, list_any_none, IsDistinct-head, IsDistinct-tail, joined}
+use Rattle.star_group.proofs.Common.{◌≡◌, Bool, true, false, ◌&&◌, ◌||◌, ℤ, List, [], ◌∷◌, Option, Some, None, map, cond, ap, sym, ◌∙◌, refl, true≢false, list_any, AllByRecursion, IsDistinct, filter, and-false, list_any_none, IsDistinct-head, IsDistinct-tail, joined}
 use Rattle.star_group.proofs.Common.{KeyValue, same_keys, Update, key_lists}
 use Rattle.star_group.proofs.{KeyLists.keys_decide, KeyLists.keys_equiv, Totals.joined_none, Totals.joined_some}
+use Rattle.std.proofs.Common.{arith}
+use Rattle.std.proofs.lemmas.Grind.{common_steps}
+use Rattle.std.proofs.lemmas.Int.{ints}
 
 -- tests that pick out the puts with a key list, and those with one of others
 module _ (k : List KeyValue) (kss : List (List KeyValue))
     (distinct : AllByRecursion (λ y. same_keys k y ≡ false) kss) (ks : List KeyValue) where
   pub no_two : (same_keys k ks && list_any (same_keys ks) kss) ≡ false
-  no_two = by (same_keys k ks) refl
-    where
-      by : (b : Bool) → same_keys k ks ≡ b → (b && list_any (same_keys ks) kss) ≡ false
-      by true e = ap (λ l. list_any (same_keys l) kss) (sym ((keys_decide k ks).0 e))
-          ∙ list_any_none (same_keys k) kss
-          (All-from_recursion (λ y. same_keys k y ≡ false) kss distinct)
-      by false e = refl
+  no_two = grind (arith, common_steps, same_keys, keys_decide, list_any_none)
 
   pub flipped : (same_keys ks k || list_any (same_keys ks) kss)
       ≡ (same_keys k ks || list_any (same_keys ks) kss)
@@ -25,11 +22,7 @@ module _ (f : ℤ → ℤ → ℤ) where
   more z (Some y) = Some (f z y)
 
   pub joined_more : (z : ℤ) (zs : List ℤ) → joined f (z ∷ zs) ≡ more z (joined f zs)
-  joined_more z zs = by (joined f zs) refl
-    where
-      by : (r : Option ℤ) → joined f zs ≡ r → joined f (z ∷ zs) ≡ more z (joined f zs)
-      by None e = joined_none f z zs e ∙ ap (more z) (sym e)
-      by (Some y) e = joined_some f z y zs e ∙ ap (more z) (sym e)
+  joined_more z zs = grind (arith, ints, joined, joined_none, joined_some)
 
   abbrev pub both : Option ℤ → Option ℤ → Option ℤ
   both None r = r
@@ -41,12 +34,7 @@ module _ (f : ℤ → ℤ → ℤ) where
 
   pub over_more : (number : Update → ℤ) (t : Update → Bool) (u : Update) (us : List Update)
       → over number t (u ∷ us) ≡ cond (t u) (more (number u) (over number t us)) (over number t us)
-  over_more number t u us = by (t u)
-    where
-      by : (b : Bool) → joined f (map number (cond b (u ∷ filter t us) (filter t us)))
-          ≡ cond b (more (number u) (over number t us)) (over number t us)
-      by true = joined_more (number u) (map number (filter t us))
-      by false = refl
+  over_more number t u us = grind (arith, ints, joined, joined_more)
 
   none_over : (number : Update → ℤ) (us : List Update) → over number (λ u. false) us ≡ None
   none_over number [] = refl
@@ -55,10 +43,7 @@ module _ (f : ℤ → ℤ → ℤ) where
   covered : (number : Update → ℤ) (t p : Update → Bool) (us : List Update)
       → AllByRecursion (λ u. t u ≡ true) us → over number (λ u. t u && p u) us ≡ over number p us
   covered number t p [] h = refl
-  covered number t p (u ∷ us) h = over_more number (λ w. t w && p w) u us
-      ∙ (λ i. cond (h.0 i && p u) (more (number u) (covered number t p us h.1 i))
-      (covered number t p us h.1 i))
-      ∙ sym (over_more number p u us)
+  covered number t p (u ∷ us) h = grind (arith, ints, covered number t p us h.1, over_more)
 
 -- an operation that joins numbers in any order
 module _ (f : ℤ → ℤ → ℤ) (comm : (x y : ℤ) → f x y ≡ f y x)
@@ -69,10 +54,7 @@ module _ (f : ℤ → ℤ → ℤ) (comm : (x y : ℤ) → f x y ≡ f y x)
   more_left x (Some y) (Some z) = ap Some (sym (assoc x y z))
 
   more_right : (x : ℤ) (r s : Option ℤ) → more f x (both f r s) ≡ both f r (more f x s)
-  more_right x None s = refl
-  more_right x (Some y) None = ap Some (comm x y)
-  more_right x (Some y) (Some z) =
-      ap Some (sym (assoc x y z) ∙ ap (λ w. f w z) (comm x y) ∙ assoc y x z)
+  more_right x it s = grind (arith, ints)
 
   -- the puts that pass one of two tests, where none passes both
   apart : (number : Update → ℤ) (a b c : Update → Bool) (us : List Update)
@@ -80,23 +62,7 @@ module _ (f : ℤ → ℤ → ℤ) (comm : (x y : ℤ) → f x y ≡ f y x)
       → over f number c us ≡ both f (over f number a us) (over f number b us)
   apart number a b c [] either no_both = refl
   apart number a b c (u ∷ us) either no_both =
-      over_more f number c u us
-      ∙ ap (λ t. cond t (more f (number u) (over f number c us)) (over f number c us))
-      (either u)
-      ∙ by (a u) (b u) (no_both u) (apart number a b c us either no_both)
-      ∙ (λ i. both f (sym (over_more f number a u us) i) (sym (over_more f number b u us) i))
-    where
-      by : (x y : Bool) → (x && y) ≡ false
-          → over f number c us ≡ both f (over f number a us) (over f number b us)
-          → cond (x || y) (more f (number u) (over f number c us)) (over f number c us)
-          ≡ both f (cond x (more f (number u) (over f number a us)) (over f number a us))
-          (cond y (more f (number u) (over f number b us)) (over f number b us))
-      by true true never e = absurd (true≢false never)
-      by true false never e = ap (more f (number u)) e
-          ∙ more_left (number u) (over f number a us) (over f number b us)
-      by false true never e = ap (more f (number u)) e
-          ∙ more_right (number u) (over f number a us) (over f number b us)
-      by false false never e = e
+      grind (arith, common_steps, ints, apart number a b c us either no_both, over_more, true≢false)
 
   module _ (number : Update → ℤ) (p : List KeyValue → Bool) (us : List Update) where
     -- the puts of each key list that passes
@@ -153,17 +119,7 @@ module _ (f : ℤ → ℤ → ℤ) (comm : (x y : ℤ) → f x y ≡ f y x)
         → AllByRecursion (λ e. over f number (λ u. same_keys e.keys u.keys) us ≡ Some (num e)) es
         → over f num (λ e. p e.keys) es ≡ whole (key_lists es)
     of_entries num [] h = refl
-    of_entries num (e ∷ es) h =
-        over_more f num (λ x. p x.keys) e es ∙ by (p e.keys) (of_entries num es h.1)
-      where
-        by : (b : Bool) → over f num (λ x. p x.keys) es ≡ whole (key_lists es)
-            → cond b (more f (num e) (over f num (λ x. p x.keys) es))
-            (over f num (λ x. p x.keys) es)
-            ≡ cond b (both f (over f number (λ u. same_keys e.keys u.keys) us)
-            (whole (key_lists es))) (whole (key_lists es))
-        by true rest = ap (more f (num e)) rest
-            ∙ ap (λ r. both f r (whole (key_lists es))) (sym h.0)
-        by false rest = rest
+    of_entries num (e ∷ es) h = grind (arith, ints, of_entries num es h.1, over_more, same_keys)
 
     -- entries that have the puts of their key lists joined, joined, are all puts joined
     pub joined_by_parts : (num : Update → ℤ) (es : List Update)

@@ -1,5 +1,5 @@
 -- Rows in flat storage with their keys: what stands at a number, one row more, and one changed.
-use Rattle.star_group.proofs.Common.{Entry, Row, RowKey, ◌≡◌, ◌⊎◌, inl, inr, cases_lt, get_or-map, is_some, ℕ, zero, suc, ◌<◌, ◌≤◌, Bool, true, false, List, [], ◌∷◌, ◌++◌, Option, Some, None, Result, Ok, Err, OnOk, cond, length, get_or, get_or-set_same, set, slice_get, map, take, drop, ap, sym, ◌∙◌, subst, refl, arith, true≢false}
+use Rattle.star_group.proofs.Common.{Entry, Row, RowKey, ◌≡◌, ◌⊎◌, inl, inr, cases_lt, get_or-map, is_some, ℕ, zero, suc, ◌<◌, ◌≤◌, true, false, List, [], ◌∷◌, ◌++◌, Option, Some, None, Result, Ok, Err, OnOk, cond, length, get_or, get_or-set_same, set, slice_get, map, take, drop, ap, sym, ◌∙◌, subst, refl, arith, true≢false}
 use Rattle.star_group.proofs.Common.{AllByRecursion, filter, list_any, keys_of, lookup, get_or-take, length-map, length-set, take_at, lookup_from_place, place_from_lookup, slice_get-get_or, slice_get-map, slice_get_within, KeyValue, KeyPart, All, KeyedRows, key_view, row_found}
 use Rattle.star_group.proofs.Common.{key_value_view, entries_of, all_hidden, filled, key_eq, padded, vary, AreOnce, shown_entries, IsMerged, IsMergedAt, IsWithRow, Aggregate, Shape, option_map, unwrap_or, with_items, and_parts, false_from_ne_true, list_any-from_Contains, contains_mapped}
 use Rattle.star_group.proofs.Common.{of_each, AreNarrow, IsNarrow, is_row_key, IsHeld, IsMissing, keys_in, IsDistinct-push, get_or_from_slice_get, append_assoc, cut, append-nil}
@@ -78,14 +78,7 @@ others_set (k ∷ ks) (c ∷ cs) (suc n) row q apart =
 pub row_more : (es : List Entry) (k : List KeyPart) (c : Row)
     (q : RowKey) → (key_eq q (key_view k) ≡ true → row_found es q ≡ None)
     → row_found (es ++ (k, c) ∷ []) q ≡ cond (key_eq q (key_view k)) (Some c) (row_found es q)
-row_more es k c q new = found_append es ((k, c) ∷ []) q
-    ∙ by (key_eq q (key_view k)) (row_found es q) new
-  where
-    by : (b : Bool) (found : Option Row) → (b ≡ true → found ≡ None)
-        → first_of found (cond b (Some c) None) ≡ cond b (Some c) found
-    by true found new = ap (λ r. first_of r (Some c)) (new refl)
-    by false None new = refl
-    by false (Some row) new = refl
+row_more es k c q new = grind (arith, found_append, row_found, first_of)
 
 -- a row of a key that no row has
 pub merged_new : (gs : List Aggregate) (es : List Entry)
@@ -120,11 +113,8 @@ all_after : (es fs : List Entry) (k : List KeyPart)
     → AllByRecursion (λ m. key_eq (key_view k) m ≡ false) (keys_of (shown_entries fs))
     → AllByRecursion (λ f. row_found (es ++ (k, c) ∷ []) (key_view f.0) ≡ None) fs
 all_after es [] k c none apart = tt
-all_after es (f ∷ fs) k c none apart = (
-  row_more es k c (key_view f.0) (λ e. none.0)
-      ∙ (λ i. cond ((key_equiv.symm (key_view f.0) (key_view k) ∙ apart.0) i) (Some c) (none.0 i)),
-  all_after es fs k c none.1 apart.1,
-)
+all_after es (f ∷ fs) k c none apart =
+    grind (arith, all_after es fs k c none.1 apart.1, row_more, key_equiv, apart)
 
 -- rows after others whose keys they do not have
 pub once_joined : (es fs : List Entry) → AreOnce es → AreOnce fs
@@ -227,13 +217,7 @@ module _ (w : ℕ) (ks : List (List KeyPart)) (cs : List Row)
   pub with_set : (n : ℕ) (key : List KeyPart) (row : Row) → n < length ks
       → filled (get_or ks n []) ≡ key
       → IsWithRow (key_view key) row (keyed ks cs) (keyed ks (set cs n row))
-  with_set n key row h is q = by (key_eq q (key_view key)) refl
-    where
-      by : (b : Bool) → key_eq q (key_view key) ≡ b
-          → row_found (keyed ks (set cs n row)) q ≡ cond b (Some row) (row_found (keyed ks cs) q)
-      by false e = others_set ks cs n row q (ap (λ k. key_eq q (key_view k)) is ∙ e)
-      by true e = ap (row_found (keyed ks (set cs n row)))
-          ((key_decides q (key_view key)).0 e ∙ ap key_view (sym is)) ∙ set_found n row h
+  with_set n key row h is q = grind (arith, row_found, others_set, is, key_decides, set_found)
 
 -- ---- the rows of a store
 

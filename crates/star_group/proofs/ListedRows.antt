@@ -119,25 +119,12 @@ module _ (rows : ListedRows) where
 
   pub part_at : (number place : ℕ) → get_or (key_view (get_or ks number [])) place None
       ≡ get_or (key_view (get_or (listed_entries rows) number ([], [])).0) place None
-  part_at number place = by_number
-      {P = λ n. get_or (key_view (get_or ks n [])) place None
-      ≡ get_or (key_view (get_or (listed_entries rows) n ([], [])).0) place None}
-      (λ n h. part_filled (length (get_or ks n [])) (get_or ks n []) place
-      ∙ sym (ap (λ (e : Entry). get_or (key_view e.0) place None) (entry_at n h)))
-      (λ n h. ap (λ ps. get_or (key_view ps) place None)
-      (get_or_past ks n [] (omega (arith, h, row_count, key_count)))
-      ∙ sym (ap (λ (e : Entry). get_or (key_view e.0) place None)
-      (get_or_past (listed_entries rows) n ([], []) h)))
-      number
+  part_at number place =
+      grind (arith, by_number, part_filled, entry_at, get_or_past, row_count, key_count)
 
   pub row_at : (number : ℕ) → get_or cs number []
       ≡ (get_or (listed_entries rows) number ([], [])).1
-  row_at number = by_number
-      {P = λ n. get_or cs n [] ≡ (get_or (listed_entries rows) n ([], [])).1}
-      (λ n h. sym (ap (λ (e : Entry). e.1) (entry_at n h)))
-      (λ n h. get_or_past cs n [] (omega (arith, h, row_count, key_count, same))
-      ∙ sym (ap (λ (e : Entry). e.1) (get_or_past (listed_entries rows) n ([], []) h)))
-      number
+  row_at number = grind (arith, by_number, entry_at, get_or_past, row_count, key_count, same)
 
   -- more rows
   pub keys_more : (count : ℕ) (qs js : List KeyPart) → js ≡ rows.keys.items ++ qs

@@ -64,13 +64,7 @@ module _ (own : List RowKey) (i : ℕ) (key : RowKey)
         (MergeLeaves gs (unwrap_or (look key) []) more)
         → MatchBool stays (AllStay look (among (take (i + 1) own)) gs more)
         (SomeLeaves look (among own) gs more)
-    told_more look so_far false leaves = record { key = key; among = among_here; leaves = leaves }
-    told_more look so_far true now = record { stay = λ q e. by q (split q e) }
-      where
-        by : (q : RowKey) → (list_any (key_eq q) (take i own) ≡ true) ⊎ (q ≡ key)
-            → MergeStays gs (unwrap_or (look q) []) more
-        by q (inl earlier) = so_far.stay q earlier
-        by q (inr same) = subst (λ k. MergeStays gs (unwrap_or (look k) []) more) (sym same) now
+    told_more look so_far it leaves = grind (arith, among_here, split)
 
     stays_found : (found : Option Row) → MergeStays gs (unwrap_or found []) more
         → RowsStay gs found more
@@ -119,12 +113,4 @@ narrow_at width keys i d h are =
 -- room for some rows is room for one
 pub fewer_space : (rows : KeyedRows) (count : ℕ) → 1 ≤ count → HasSpace rows count
     → HasSpace rows 1
-fewer_space rows count some space = record {
-  listed = record {
-    len = omega (arith, space.listed.len);
-    keys = omega (arith, space.listed.keys, mul-le-mul_right rows.listed.width some);
-    cells = omega (arith, space.listed.cells, mul-le-mul_right rows.listed.aggregate_count some);
-  };
-  links = omega (arith, space.links);
-  nodes = omega (arith, space.nodes);
-}
+fewer_space rows count some space = grind (arith, mul-le-mul_right)

@@ -3,21 +3,17 @@ use Rattle.star_group.proofs.Common.{Row, ◌≡◌, ℕ, Bool, true, false, ◌
 use Rattle.star_group.proofs.Common.{merged_total, cell_of_one_put, merged, IsMerged, IsMergedInto, IsRowOfOnePut, Update, aggregate_at, Group, put_number, Contains, Any-from_list_any, list_any-from_Any}
 use Rattle.star_group.specs.Cells.{held}
 use Rattle.star_group.proofs.ContentByKeys.{plus_comm, plus_assoc, least_comm, least_assoc, greatest_comm, greatest_assoc}
+use Rattle.std.proofs.Common.{arith}
+use Rattle.std.proofs.lemmas.Int.{ints}
 
 -- ---- the operations
 
 both_comm : (g : Aggregate) (x y : ℤ) → merged_total g x y ≡ merged_total g y x
-both_comm Sum = plus_comm
-both_comm Count = plus_comm
-both_comm Min = least_comm
-both_comm Max = greatest_comm
+both_comm it = grind (arith, ints, plus_comm, least_comm, greatest_comm)
 
 both_assoc : (g : Aggregate) (x y z : ℤ)
     → merged_total g (merged_total g x y) z ≡ merged_total g x (merged_total g y z)
-both_assoc Sum = plus_assoc
-both_assoc Count = plus_assoc
-both_assoc Min = least_assoc
-both_assoc Max = greatest_assoc
+both_assoc it = grind (arith, ints, plus_assoc, least_assoc, greatest_assoc)
 
 pub merged_comm : (g : Aggregate) (r s : Option ℤ) → merged g r s ≡ merged g s r
 merged_comm g None None = refl
@@ -27,10 +23,7 @@ merged_comm g (Some x) (Some y) = ap Some (both_comm g x y)
 
 merged_assoc : (g : Aggregate) (r s t : Option ℤ)
     → merged g (merged g r s) t ≡ merged g r (merged g s t)
-merged_assoc g None s t = refl
-merged_assoc g (Some x) None t = refl
-merged_assoc g (Some x) (Some y) None = refl
-merged_assoc g (Some x) (Some y) (Some z) = ap Some (both_assoc g x y z)
+merged_assoc g it s t = grind (arith, ints, both_assoc)
 
 -- ---- one number more
 
@@ -58,12 +51,7 @@ held_none g = refl
 
 pub any_filter : (t : Update → Bool) (us : List Update) → has_puts (filter t us) ≡ list_any t us
 any_filter t [] = refl
-any_filter t (u ∷ us) = by (t u) (any_filter t us)
-  where
-    by : (b : Bool) → has_puts (filter t us) ≡ list_any t us
-        → has_puts (cond b (u ∷ filter t us) (filter t us)) ≡ (b || list_any t us)
-    by true e = refl
-    by false e = e
+any_filter t (u ∷ us) = grind (arith, any_filter t us)
 
 -- a put that passes, where there is one
 pub put_of : (t : Update → Bool) (us : List Update) → has_puts (filter t us) ≡ true
@@ -120,22 +108,14 @@ held_parts g place ta tb tc (u ∷ us) parts =
 -- the row of one put
 pub row_of_one : (d : Group) (u : Update) (row : Row)
     → IsRowOfOnePut d.aggregates u.values row → HasAggregates d (u ∷ []) row
-row_of_one d u row is = λ place h.
-    is place h ∙ sym (held_one (aggregate_at d.aggregates place) (put_number place u) []
-    ∙ ap (merged (aggregate_at d.aggregates place)
-    (Some (cell_of_one_put (aggregate_at d.aggregates place) (put_number place u))))
-    (held_none (aggregate_at d.aggregates place)))
+row_of_one d u row is place h = grind (arith, held_one, merged, held_none)
 
 -- one put more
 pub merged_more : (d : Group) (u : Update) (us : List Update) (held_row row new : Row)
     → IsRowOfOnePut d.aggregates u.values row → HasAggregates d us held_row
     → IsMerged d.aggregates held_row row new → HasAggregates d (u ∷ us) new
-merged_more d u us held_row row new one so_far is = λ place h.
-    let g = aggregate_at d.aggregates place in
-    is place h ∙ (λ i. merged g (so_far place h i) (one place h i))
-    ∙ merged_comm g (held g (numbers_for place us))
-    (Some (cell_of_one_put g (put_number place u)))
-    ∙ sym (held_one g (put_number place u) (numbers_for place us))
+merged_more d u us held_row row new one so_far is place h =
+    grind (arith, merged, one, merged_comm, held_one)
 
 pub no_puts : (us : List Update) → has_puts us ≡ false → us ≡ []
 no_puts [] h = refl

@@ -5,6 +5,7 @@ use Rattle.star_group.proofs.Common.{key_eq}
 use Rattle.std.proofs.lemmas.Simd.{map-map}
 use Rattle.std.specs.List.{IsDistinct}
 use Rattle.star_group.specs.OwnKeys.{padded, vary}
+use Rattle.std.proofs.lemmas.Grind.{common_steps}
 
 pub padded-set : (n : ℕ) (ks : List KeyValue) (i : ℕ) (d : KeyValue) → i < length ks → length ks ≤ n
     → set (padded n (take i ks)) i (Some (get_or ks i d)) ≡ padded n (take (suc i) ks)
@@ -73,40 +74,15 @@ pub next_hidden : (P : List KeyPart → Bool) (p i : ℕ) (xs now : List (List K
     → now ≡ xs ++ filter P (map (λ key. set key p All) (take i xs))
     → now ++ filter P (set (get_or now i d) p All ∷ [])
     ≡ xs ++ filter P (map (λ key. set key p All) (take (i + 1) xs))
-next_hidden P p i xs now d h e =
-    let so_far : List (List KeyPart) = map (λ key. set key p All) (take i xs) in
-    let next : i + 1 ≡ suc i = omega arith in
-    let here : get_or now i d ≡ get_or xs i d =
-    ap (λ l. get_or l i d) e ∙ get_or-append xs (filter P so_far) d i h in
-    (λ j. e j ++ filter P (set (here j) p All ∷ []))
-    ∙ append_assoc xs (filter P so_far) (filter P (set (get_or xs i d) p All ∷ []))
-    ∙ ap (λ l. xs ++ l) (sym (filter-append P so_far (set (get_or xs i d) p All ∷ []))
-    ∙ ap (filter P) (sym (map-append (λ key. set key p All) (take i xs) (get_or xs i d ∷ []))
-    ∙ ap (map (λ key. set key p All)) (sym (take-suc xs i d h) ∙ ap (λ n. take n xs) (sym next))))
+next_hidden it p i xs now d h e =
+    grind (arith, common_steps, get_or-append, append_assoc, filter-append, map-append, take-suc)
 
 module _ (G : RowKey → Bool) (p : ℕ) where
   hidden_keys : (xs : List (List KeyPart))
       → map key_view (filter (λ key. G (key_view key)) (map (λ key. set key p All) xs))
       ≡ filter G (map (λ key. set key p None) (map key_view xs))
   hidden_keys [] = refl
-  hidden_keys (x ∷ xs) = by (G (key_view (set x p All))) (hidden_keys xs)
-      ∙ (λ i. cond (G (map-set key_value_view x p All i)) (map-set key_value_view x p All i ∷ rest)
-      rest)
-    where
-      rest : List RowKey
-      rest = filter G (map (λ key. set key p None) (map key_view xs))
-
-      by : (b : Bool) → map key_view
-          (filter (λ key. G (key_view key)) (map (λ key. set key p All) xs))
-          ≡ filter G (map (λ key. set key p None) (map key_view xs))
-          → map key_view (cond b (set x p All
-          ∷ filter (λ key. G (key_view key)) (map (λ key. set key p All) xs))
-          (filter (λ key. G (key_view key)) (map (λ key. set key p All) xs)))
-          ≡ cond b (key_view (set x p All)
-          ∷ filter G (map (λ key. set key p None) (map key_view xs)))
-          (filter G (map (λ key. set key p None) (map key_view xs)))
-      by true e = ap (λ l. key_view (set x p All) ∷ l) e
-      by false e = e
+  hidden_keys (x ∷ xs) = grind (arith, hidden_keys xs, map-set)
 
   pub doubled : (xs ys : List (List KeyPart))
       → ys ≡ xs ++ filter (λ key. G (key_view key)) (map (λ key. set key p All) xs)
@@ -141,12 +117,7 @@ goes_on false ms = is_grouping Rollup ms
 shown_more : {K : Type 0} (hides shown : Bool) (m : Option K) (ms : List (Option K))
     → shown ≡ is_some m → (shown ≡ true → hides ≡ false)
     → goes_on (not shown) ms ≡ goes_on hides (m ∷ ms)
-shown_more true true m ms e h = absurd (true≢false (h refl))
-shown_more hides true None ms e h = absurd (true≢false e)
-shown_more false true (Some k) ms e h = refl
-shown_more hides false (Some k) ms e h = absurd (true≢false (sym e))
-shown_more true false None ms e h = refl
-shown_more false false None ms e h = refl
+shown_more hides it m ms e h = grind (arith, true≢false)
 
 pub part_more : (parts : List KeyPart) (i : ℕ) (d : KeyPart) (hides shown : Bool) → i < length parts
     → shown ≡ is_some (key_value_view (get_or parts i d)) → (shown ≡ true → hides ≡ false)

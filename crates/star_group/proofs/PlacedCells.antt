@@ -1,10 +1,11 @@
 -- What stands at places, with the numbers of more puts.
-use Rattle.star_group.proofs.Common.{◌≡◌, ◌≢◌, ℕ, zero, suc, ◌-◌, ◌<◌, ◌≤◌, ◌^◌, Bool, true, false, nat_eq, nat_lt, cond, FitsSigned, w64, ℤ, pos, negsuc, ◌+ℤ◌, List, ◌∷◌, Option, Some, None, length, get_or, set, refl, ap, sym, ◌∙◌, arith, true≢false, filter, option_eq, unwrap_or}
-use Rattle.star_group.proofs.Common.{eqb-true, eq-eqb, lt-ltb, ltb-false, ltb-true, ints, int_min_is, int_max_is, get_or-set_same, get_or-set_other, get_or_past, length-set, Aggregate, Sum, Count, Min, Max, numbers_for, KeyValue, leaves, Update, aggregate_at, Span, puts_after, step}
+use Rattle.star_group.proofs.Common.{◌≡◌, ℕ, zero, suc, ◌-◌, ◌<◌, ◌≤◌, ◌^◌, Bool, true, false, nat_eq, cond, FitsSigned, w64, ℤ, pos, negsuc, List, ◌∷◌, Option, Some, length, get_or, set, refl, ap, sym, ◌∙◌, arith, filter, option_eq, unwrap_or}
+use Rattle.star_group.proofs.Common.{eqb-true, eq-eqb, lt-ltb, ltb-false, ltb-true, ints, int_min_is, int_max_is, get_or-set_same, get_or_past, length-set, Aggregate, numbers_for, KeyValue, leaves, Update, aggregate_at, Span, puts_after, step}
 use Rattle.star_group.proofs.Common.{has_puts, AreAt, cell_over, neutral, is_at, cell_place, AreWithin, CanTake, column_after, taking, Group, HasRoom, put_number}
 use Rattle.star_group.proofs.{Rooms.held_stays}
 use Rattle.star_interval.specs.Range.{is_i64}
 use Rattle.star_group.specs.{Cells.held, Private.Taken.after_rows}
+use Rattle.std.proofs.lemmas.Grind.{common_steps}
 
 -- ---- the puts at a place
 
@@ -39,37 +40,8 @@ module _ {A : Type 0} (none : A) (value : List Update → A) (change : ℕ → A
       → AreAt none value spans
       (set items (get_or at row 0) (change row (get_or items (get_or at row 0) none)))
       (u row ∷ us)
-  at_more row items us changes is are p h = by (nat_eq q p) refl
-    where
-      q : ℕ
-      q = get_or at row 0
-
-      within : p < length items
-      within = omega (arith, h, length-set items q (change row (get_or items q none)))
-
-      by : (b : Bool) → nat_eq q p ≡ b
-          → get_or (set items (get_or at row 0) (change row (get_or items (get_or at row 0) none)))
-          p none ≡ value (puts_there spans p (u row ∷ us))
-      by true e =
-          let same : p ≡ get_or at row 0 = sym (eqb-true (get_or at row 0) p e) in
-          let here : get_or at row 0 < length items = omega (arith, within, same) in
-          ap (λ n. get_or (set items (get_or at row 0)
-          (change row (get_or items (get_or at row 0) none))) n none) same
-          ∙ get_or-set_same items (get_or at row 0)
-          (change row (get_or items (get_or at row 0) none)) none here
-          ∙ ap (change row) (are (get_or at row 0) here)
-          ∙ changes (puts_there spans (get_or at row 0) us)
-          ∙ ap (λ n. value (u row ∷ puts_there spans n us)) (sym same)
-          ∙ ap value (sym (there_more spans (u row) us p true
-          (at_here spans (u row).keys p (get_or at row 0) is ∙ e)))
-      by false e =
-          let other : p ≢ get_or at row 0 =
-          (λ same. true≢false (sym (eq-eqb (get_or at row 0) p (sym same)) ∙ e)) in
-          get_or-set_other items (get_or at row 0) p
-          (change row (get_or items (get_or at row 0) none)) none other
-          ∙ are p within
-          ∙ ap value (sym (there_more spans (u row) us p false
-          (at_here spans (u row).keys p (get_or at row 0) is ∙ e)))
+  at_more row items us changes is are p h =
+      grind (arith, common_steps, length-set, eqb-true, get_or-set_same, there_more, at_here)
 
   pub at_after : (items : List A) (us : List Update) (rows : ℕ)
       → ((row : ℕ) → row < rows → (ws : List Update) → change row (value ws) ≡ value (u row ∷ ws))
@@ -89,17 +61,7 @@ module _ {A : Type 0} (none : A) (value : List Update → A) (change : ℕ → A
 neutral_step : (g : Aggregate) (v : ℤ) (r : Option ℤ) → is_i64 v ≡ true
     → step g v (Some (unwrap_or r (neutral g))) ≡ step g v r
 unfolding is_i64
-neutral_step g v (Some z) h = refl
-neutral_step Sum v None h = let e : v +ℤ pos 0 ≡ v = omega (arith, ints) in e
-neutral_step Count v None h = refl
-neutral_step Min (pos n) None h = let l = ltb-true n (2 ^ 63) h in
-    omega (arith, ints, int_min_is (pos n) (pos (2 ^ 63 - 1)), l)
-neutral_step Min (negsuc n) None h = let l = ltb-true n (2 ^ 63) h in
-    omega (arith, ints, int_min_is (negsuc n) (pos (2 ^ 63 - 1)), l)
-neutral_step Max (pos n) None h = let l = ltb-true n (2 ^ 63) h in
-    omega (arith, ints, int_max_is (pos n) (negsuc (2 ^ 63 - 1)), l)
-neutral_step Max (negsuc n) None h = let l = ltb-true n (2 ^ 63) h in
-    omega (arith, ints, int_max_is (negsuc n) (negsuc (2 ^ 63 - 1)), l)
+neutral_step g v it h = grind (arith, ints, ltb-true, int_min_is, int_max_is)
 
 -- a lane has the numbers of some rows' puts for an aggregate
 pub record IsLane (a : ℕ) (u : ℕ → Update) (lane : List ℤ) (rows : ℕ) : Type 0 where
@@ -172,9 +134,4 @@ zero_narrow = refl
 pub each_narrow : (words : List ℤ) (n : ℕ) → length words ≤ n
     → ((at : ℕ) → at < n → is_i64 (get_or words at (pos 0)) ≡ true) → (at : ℕ)
     → is_i64 (get_or words at (pos 0)) ≡ true
-each_narrow words n few each at = by (nat_lt at n) refl
-  where
-    by : (b : Bool) → nat_lt at n ≡ b → is_i64 (get_or words at (pos 0)) ≡ true
-    by true e = each at (ltb-true at n e)
-    by false e = ap is_i64 (get_or_past words at (pos 0) (omega (arith, few, ltb-false at n e)))
-        ∙ zero_narrow
+each_narrow words n few each at = grind (arith, ints, ltb-true, get_or_past, ltb-false, zero_narrow)

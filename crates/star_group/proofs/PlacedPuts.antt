@@ -8,6 +8,7 @@ use Rattle.star_group.proofs.{CutRows.cut_wide, PlacedLanes.lane_number, Filters
 use Rattle.star_group.specs.Cells.{held}
 use Rattle.star_group.specs.declared.deferred.DeferredStore.{DeferredStore}
 use Rattle.star_group.specs.Deferred as deferred
+use Rattle.std.proofs.lemmas.Int.{ints}
 
 -- as many keys have places as there are ranges
 placed_long : (ss : List Span) (ks : List KeyValue) (p : ℕ) → cell_place ss ks ≡ Some p
@@ -37,11 +38,7 @@ module _ (s : PlacedStore) (u : ℕ → Update) (at : List ℕ) (lanes : ℕ →
   d = group_view s
 
   pub there : AreWithin at (length s.seen.items)
-  there row h = omega (
-    arith,
-    within s.spans.items (u row).keys (get_or at row 0) (are row (omega (arith, h, many))),
-    s.marks,
-  )
+  there row h = grind (arith, within)
 
   -- of parts that are lent
   pub can_take_lent : {gs : List Aggregate} {all : ℕ} {cells : List ℤ} → gs ≡ d.aggregates
@@ -62,18 +59,12 @@ module _ (s : PlacedStore) (u : ℕ → Update) (at : List ℕ) (lanes : ℕ →
       → filter (λ w. is_outside s.spans.items w.keys) (puts_after u us n)
       ≡ filter (λ w. is_outside s.spans.items w.keys) us
   same_outside us zero h = refl
-  same_outside us (suc n) h =
-      let old = filter (λ w. is_outside s.spans.items w.keys) (puts_after u us n) in
-      ap (λ r. cond (is_none r) (u n ∷ old) old) (are n (omega (arith, h)))
-      ∙ same_outside us n (omega (arith, h))
+  same_outside us (suc n) h = grind (arith, same_outside us n (omega (arith, h)))
 
   all_fit : (us : List Update) → AllByRecursion (λ w. length w.keys ≡ d.count) us
       → (n : ℕ) → n ≤ rows → AllByRecursion (λ w. length w.keys ≡ d.count) (puts_after u us n)
   all_fit us fit zero h = fit
-  all_fit us fit (suc n) h = (
-    placed_long s.spans.items (u n).keys _ (are n (omega (arith, h))) ∙ s.keys,
-    all_fit us fit n (omega (arith, h)),
-  )
+  all_fit us fit (suc n) h = grind (arith, all_fit us fit n (omega (arith, h)), placed_long)
 
   pub after : (seen : List Bool) (cells : List ℤ)
       → seen ≡ after_rows false (λ row was. true) at s.seen.items (length at)
@@ -119,10 +110,7 @@ batch_room s u (suc n) us seen cells after has room =
     ) ∣₁
 
 pub batch_lane : (b : PutBatch) (a : ℕ) → HasNarrow b a → IsLane a (put_in b) (batch_lanes b a) b.rows
-batch_lane b a narrow = record {
-  is = λ row h. lane_number (λ r. put_number a (put_in b r)) b.rows row h;
-  narrow = narrow;
-}
+batch_lane b a narrow = grind (arith, lane_number)
 
 -- the only row of one put
 pub first_row : (P : ℕ → Type 0) → P 0 → (row : ℕ) → row < 1 → P row
@@ -136,11 +124,7 @@ first_lane (suc a) (v ∷ vs) d = first_lane a vs d
 
 pub one_lane : (u : Update) (a : ℕ) → is_i64 (put_number a u) ≡ true
     → IsLane a (λ row. u) (lanes_of u.values a) 1
-one_lane u a narrow = record {
-  is = first_row (λ row. get_or (lanes_of u.values a) row (pos 0) ≡ put_number a u)
-      (first_lane a u.values (pos 0));
-  narrow = λ row h. narrow;
-}
+one_lane u a narrow = grind (arith, first_row, first_lane)
 
 -- ---- a put without a place
 
@@ -175,28 +159,11 @@ module _ (s : PlacedStore) (u : Update) (outside : cell_place s.spans.items u.ke
     outside_more : length u.keys ≡ s.rest.key_count
         → ((ws : List Update) → deferred.Has s.rest ws → deferred.Has rest (u ∷ ws)) → Has s us
         → Now (u ∷ us)
-    outside_more fits more has =
-        subst (λ g. IsPlaced g s.spans.items s.seen.items s.cells.items (entries_of rest.rows)
-        rest.total (u ∷ us)) (sym same) (record {
-          fit = (fits, has.fit);
-          seen_at = λ p h. has.seen_at p h ∙ ap has_puts (sym (same_at p));
-          cells_at = λ a declared p h. has.cells_at a declared p h
-              ∙ ap (cell_over (group_view s) a) (sym (same_at p));
-          rest = coe 0 1 (i. IsBase (same i) (entries_of rest.rows) rest.total (sym more_outside i))
-              (more _ has.rest);
-        })
+    outside_more fits more has = grind (arith, seen_at, same_at, more_outside)
 
     outside_stays : ((ws : List Update) → deferred.Has s.rest ws → deferred.Has rest ws)
         → (ws : List Update) → Has s ws → Now ws
-    outside_stays stays ws has =
-        subst (λ g. IsPlaced g s.spans.items s.seen.items s.cells.items (entries_of rest.rows)
-        rest.total ws) (sym same) (record {
-          fit = has.fit;
-          seen_at = has.seen_at;
-          cells_at = has.cells_at;
-          rest = subst (λ g. IsBase g (entries_of rest.rows) rest.total
-              (filter (λ w. is_outside s.spans.items w.keys) ws)) same (stays _ has.rest);
-        })
+    outside_stays stays ws has = grind (arith, seen_at)
 
     pub outside_room : {T E : Type 0} (r : Result T E) → length u.keys ≡ s.rest.key_count → Has s us
         → AreInBits (group_view s) (u ∷ us)
@@ -217,22 +184,8 @@ pub placed_none : (rest : DeferredStore) (spans : List Span) (n : ℕ) {gs : Lis
     → deferred.Has rest []
     → IsPlaced (deferred.group_view rest) spans seen cells (entries_of rest.rows) rest.total []
 unfolding held
-placed_none rest spans n {seen = seen} {cells = cells} same blank columns base =
-    let many : length seen ≡ n = ap length blank ∙ length-replicate n false in
-    record {
-      fit = tt;
-      seen_at = λ p h. ap (λ xs. get_or xs p false) blank
-          ∙ get_or-replicate n p false false (omega (arith, h, many));
-      cells_at = λ a declared p h.
-          let g = aggregate_at rest.aggregates.items a in
-          let is : aggregate_cells (deferred.group_view rest) seen cells a ≡ replicate n (neutral g) =
-          (λ i. get_or (cut (many i) (length (sym same i)) cells) a [])
-          ∙ columns a (omega (arith, declared, ap length same))
-          ∙ ap (λ hs. replicate n (neutral (get_or hs a Count))) same in
-          let here : p < n = omega (arith, h, ap length is, length-replicate n (neutral g)) in
-          ap (λ xs. get_or xs p (pos 0)) is ∙ get_or-replicate n p (neutral g) (pos 0) here;
-      rest = base;
-    }
+placed_none rest spans n same blank columns base =
+    grind (arith, ints, length-replicate, seen_at, get_or-replicate, cut)
 
 -- ---- the rows of all puts, from parts that are lent
 

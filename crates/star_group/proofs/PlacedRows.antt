@@ -1,5 +1,5 @@
 -- The rows and the total of puts, some of which stand by their places.
-use Rattle.star_group.proofs.Common.{Entry, Row, RowKey, ◌≡◌, ℕ, suc, ◌*◌, ◌<◌, Bool, true, false, ◌&&◌, ◌||◌, nat_eq, nat_lt, ℤ, pos, List, [], ◌∷◌, Option, Some, None, length, get_or, refl, ap, sym, ◌∙◌, subst, arith, true≢false, filter, option_eq, is_none, unwrap_or, Bool-set, Contains}
+use Rattle.star_group.proofs.Common.{Entry, Row, RowKey, ◌≡◌, ℕ, suc, ◌*◌, ◌<◌, Bool, true, false, ◌&&◌, ◌||◌, nat_eq, nat_lt, ℤ, pos, List, [], ◌∷◌, Option, Some, None, length, get_or, refl, ap, sym, ◌∙◌, subst, arith, true≢false, filter, option_eq, unwrap_or, Bool-set, Contains}
 use Rattle.star_group.proofs.Common.{and-true, or-false, ∥∥₁_elim, eqb-true, lt-ltb, nat_tests, of_each, false_from_ne_true, Aggregate, numbers_for, KeyValue, leaves, Update, aggregate_at, KeyPart, Span, HasAggregates, IsRowOver, key_view, puts_with, row_found, has_puts, key_eq, padded, IsPlaced}
 use Rattle.star_group.proofs.Common.{aggregate_cells, neutral, is_at, is_outside, cell_place, places, IsMerged, IsMergedAt, MergeStays, merged, Group, PlacedStore, Has, group_view}
 use Rattle.star_group.proofs.{Filters.filter_all, Filters.filter_twice, Bases.other_row, Bases.own_row, CutRows.cut_wide, GroupKeys.key_decides, Merging.AreSplit, Merging.has_put, Merging.held_parts, Merging.no_puts, Merging.over_parts, Passes.AreOver, Filters.filter_each, PlacedCells.puts_there, SpanPlaces.within}
@@ -22,28 +22,15 @@ below_more n p = (grind (arith, nat_tests), grind (arith, nat_tests))
 pub one_place : (spans : List Span) (n : ℕ) (keys : List KeyValue)
     → (is_below spans (suc n) keys ≡ (is_below spans n keys || is_at spans n keys))
     × ((is_below spans n keys && is_at spans n keys) ≡ false)
-one_place spans n keys = by (cell_place spans keys)
-  where
-    by : (r : Option ℕ) → (below_place (suc n) r ≡ (below_place n r || option_eq nat_eq r (Some n)))
-        × ((below_place n r && option_eq nat_eq r (Some n)) ≡ false)
-    by None = (refl, refl)
-    by (Some p) = below_more n p
+one_place spans n keys = grind (arith, below_more)
 
 pub none_below : (spans : List Span) (keys : List KeyValue)
     → is_below spans 0 keys ≡ is_outside spans keys
-none_below spans keys = by (cell_place spans keys)
-  where
-    by : (r : Option ℕ) → below_place 0 r ≡ is_none r
-    by None = refl
-    by (Some p) = grind (arith, nat_tests)
+none_below spans keys = grind (arith, nat_tests)
 
 pub all_below : (spans : List Span) (keys : List KeyValue) (n : ℕ) → n ≡ places spans
     → is_below spans n keys ≡ true
-all_below spans keys n same = by (cell_place spans keys) refl
-  where
-    by : (r : Option ℕ) → cell_place spans keys ≡ r → below_place n r ≡ true
-    by None e = refl
-    by (Some p) e = lt-ltb p n (omega (arith, within spans keys p e, same))
+all_below spans keys n same = grind (arith, lt-ltb, within)
 
 abbrev pub puts_below : List Span → ℕ → List Update → List Update
 puts_below spans n us = filter (λ w. is_below spans n w.keys) us
@@ -81,13 +68,7 @@ module _ (d : Group) (spans : List Span) (seen : List Bool) (cells : List ℤ)
     (long : length cells ≡ length d.aggregates * length seen) where
   pub row_there : (row : Row) → get_or seen n false ≡ true → IsRowAt d seen cells n row
       → IsRowOver d (puts_there spans n us) (Some row)
-  row_there row marked at =
-      let some = sym (is.seen_at n here) ∙ marked in (
-        some,
-        λ a h. let wide = cut_wide (length seen) (length d.aggregates) cells a long h in
-            at a h ∙ ap Some (is.cells_at a h n (omega (arith, here, wide)))
-            ∙ some_cell (aggregate_at d.aggregates a) a (puts_there spans n us) some,
-      )
+  row_there row marked at = grind (arith, cut_wide, some_cell, puts_there)
 
   pub none_there : get_or seen n false ≡ false → puts_there spans n us ≡ []
   none_there marked = no_puts (puts_there spans n us) (sym (is.seen_at n here) ∙ marked)
@@ -103,20 +84,12 @@ module _ (d : Group) (spans : List Span) (us : List Update) where
       → ((q : RowKey)
       → IsRowOver d (puts_with q (filter (λ w. is_outside spans w.keys) us)) (row_found es q))
       → AreOver d us (in_row spans 0) es
-  rows_first es rows q = subst (λ ws. IsRowOver d ws (row_found es q))
-      (filter_twice (λ w. is_outside spans w.keys) (λ w. key_eq q (padded 6 w.keys)) us
-      ∙ filter_each us (λ w c.
-      ap (λ b. key_eq q (padded 6 w.keys) && b) (sym (none_below spans w.keys))))
-      (rows q)
+  rows_first es rows q = grind (arith, row_found, filter_twice, padded, filter_each, none_below)
 
   pub rows_last : (n : ℕ) → n ≡ places spans → (es : List Entry)
       → AreOver d us (in_row spans n) es → (q : RowKey)
       → IsRowOver d (puts_with q us) (row_found es q)
-  rows_last n same es over q = subst (λ ws. IsRowOver d ws (row_found es q))
-      (filter_each us (λ w c.
-      ap (λ b. key_eq q (padded 6 w.keys) && b) (all_below spans w.keys n same)
-      ∙ and-true (key_eq q (padded 6 w.keys))))
-      (over q)
+  rows_last n same es over q = grind (arith, row_found, filter_each, padded, all_below, and-true)
 
   module _ (n : ℕ) where
     -- a place without puts
@@ -128,12 +101,7 @@ module _ (d : Group) (spans : List Span) (us : List Update) where
 
     parts : (k b a c : Bool) → c ≡ (b || a) → (b && a) ≡ false → (a ≡ true → k ≡ true)
         → ((k && c) ≡ ((k && b) || a)) × (((k && b) && a) ≡ false)
-    parts k true true c e never own = absurd (true≢false never)
-    parts true b false c e never own = (e, never)
-    parts false b false c e never own = (refl, refl)
-    parts k false true c e never own =
-        subst (λ j. ((j && c) ≡ ((j && false) || true)) × (((j && false) && true) ≡ false))
-        (sym (own refl)) (e, refl)
+    parts k b it c e never own = grind (arith, true≢false)
 
     apart : (k b a c : Bool) → c ≡ (b || a) → (a ≡ true → k ≡ false) → (k && c) ≡ (k && b)
     apart k b true c e other = subst (λ j. (j && c) ≡ (j && b)) (sym (other refl)) refl

@@ -1,9 +1,10 @@
 -- Where the sums by key list add up within 128 bits and the counts within 64, no put overflows.
-use Rattle.star_group.proofs.Common.{◌≡◌, ℕ, ◌<◌, ◌≤◌, ◌^◌, Bool, true, false, not, ℤ, pos, negsuc, ◌+ℤ◌, ◌≤ℤ◌, List, [], ◌∷◌, Option, Some, None, length, cond, ap, sym, ◌∙◌, refl, true≢false, arith, ints, false_from_ne_true, lt-ltb, count_by-le-length, length-filter, filter, Aggregate}
+use Rattle.star_group.proofs.Common.{◌≡◌, ℕ, ◌<◌, ◌≤◌, ◌^◌, Bool, true, false, ℤ, pos, negsuc, ◌+ℤ◌, ◌≤ℤ◌, List, [], ◌∷◌, Some, length, cond, ap, sym, ◌∙◌, refl, true≢false, arith, ints, false_from_ne_true, lt-ltb, count_by-le-length, length-filter, filter, Aggregate}
 use Rattle.star_group.proofs.Common.{Sum, Count, Min, Max, aggregate, belongs, joined, numbers_for, KeyValue, key_value_cmp, leaves, Update, overflows, aggregate_at, overflow_somewhere, Group, put_number, HasRoom}
 use Rattle.star_group.proofs.{ContentByKeys.length-numbers, ContentByKeys.sums, ContentMade.made, ContentMade.made_content, JoinedParts.joined_more, JoinedParts.more, Totals.declared, Totals.some_aggregate}
 use Rattle.star_interval.specs.Range.{is_i64, is_i128}
 use Rattle.star_group.specs.{Cells.held, Stores.above_zero, Stores.below_zero}
+use Rattle.std.proofs.lemmas.Grind.{common_steps}
 
 abbrev all_of : List ℤ → ℤ
 all_of [] = pos 0
@@ -85,31 +86,11 @@ module _ (d : Group) (us : List Update) (room : HasRoom d us) (p : List KeyValue
 
   stays_at : (g : Aggregate) → aggregate_at d.aggregates place ≡ g
       → leaves g (aggregate g (numbers_for place (filter (λ w. p w.keys) us))) ≡ false
-  stays_at Sum same = by (joined (λ x y. x +ℤ y) (numbers_for place (filter (λ w. p w.keys) us)))
-      refl
-    where
-      by : (r : Option ℤ) → joined (λ x y. x +ℤ y) (numbers_for place (filter (λ w. p w.keys) us))
-          ≡ r → leaves Sum r ≡ false
-      by None e = refl
-      by (Some z) e = ap not (sum_fits same z e)
-  stays_at Count same = ap not
-      (count_small _ (omega (
-        arith,
-        length-numbers place (filter (λ w. p w.keys) us),
-        length-filter (λ (w : Update). p w.keys) us,
-        count_by-le-length (λ (w : Update). p w.keys) us,
-        room.counts place declared same,
-      )))
-  stays_at Min same = by (aggregate Min (numbers_for place (filter (λ w. p w.keys) us)))
-    where
-      by : (r : Option ℤ) → leaves Min r ≡ false
-      by None = refl
-      by (Some z) = refl
-  stays_at Max same = by (aggregate Max (numbers_for place (filter (λ w. p w.keys) us)))
-    where
-      by : (r : Option ℤ) → leaves Max r ≡ false
-      by None = refl
-      by (Some z) = refl
+  stays_at Sum same = grind (arith, joined, leaves, sum_fits)
+  stays_at Count same =
+      grind (arith, common_steps, count_small, length-numbers, length-filter, count_by-le-length)
+  stays_at Min same = grind (arith, leaves)
+  stays_at Max same = grind (arith, leaves)
 
 -- what is held of them doesn't leave its bits
 pub held_stays : (d : Group) (us : List Update) → HasRoom d us

@@ -1,5 +1,5 @@
 -- Numbers that add up within 128 bits do so by key list too; few numbers of 64 bits do.
-use Rattle.star_group.proofs.Common.{◌≡◌, ℕ, zero, suc, ◌+◌, ◌*◌, ◌<◌, ◌≤◌, ◌^◌, Bool, true, false, ◌&&◌, ◌||◌, ℤ, pos, negsuc, ◌+ℤ◌, List, [], ◌∷◌, Option, Some, None, length, cond, ap, sym, ◌∙◌, subst, refl, arith, true≢false, slice_index_or, ltb-true, ints, All-head, All-tail}
+use Rattle.star_group.proofs.Common.{◌≡◌, ℕ, zero, suc, ◌+◌, ◌*◌, ◌<◌, ◌≤◌, ◌^◌, Bool, true, false, ◌&&◌, ◌||◌, ℤ, pos, negsuc, ◌+ℤ◌, List, [], ◌∷◌, Option, Some, None, length, cond, ap, subst, refl, arith, true≢false, slice_index_or, ltb-true, ints, All-head, All-tail}
 use Rattle.star_group.proofs.Common.{IsDistinct-head, IsDistinct-tail, list_any, AllByRecursion, IsDistinct, Sum, numbers_for, same_keys, Update, aggregate_at, Group, IsContent, key_lists, put_number, AddUp, HasRoom}
 use Rattle.std.specs.Prelude.{All}
 use Rattle.star_interval.specs.Range.{is_i64}
@@ -23,45 +23,18 @@ module _ (size : ℤ → ℕ) (less : (x y : ℤ) → size (x +ℤ y) ≤ size x
   sum_less : (t : Update → Bool) (us : List Update)
       → size_of size (over (λ x y. x +ℤ y) number t us) ≤ weight size number t us
   sum_less t [] = omega arith
-  sum_less t (u ∷ us) = subst (λ r. size_of size r ≤ weight size number t (u ∷ us))
-      (sym (over_more (λ x y. x +ℤ y) number t u us))
-      (by (t u) (over (λ x y. x +ℤ y) number t us) (sum_less t us))
-    where
-      by : (b : Bool) (r : Option ℤ) → size_of size r ≤ weight size number t us
-          → size_of size (cond b (more (λ x y. x +ℤ y) (number u) r) r)
-          ≤ cond b (size (number u)) 0 + weight size number t us
-      by true None h = omega arith
-      by true (Some y) h = omega (arith, h, less (number u) y)
-      by false r h = omega (arith, h)
+  sum_less t (u ∷ us) = grind (arith, ints, sum_less t us, over_more, over, more)
 
   apart : (a b c : Update → Bool) (us : List Update) → ((u : Update) → c u ≡ (a u || b u))
       → ((u : Update) → (a u && b u) ≡ false)
       → weight size number c us ≡ weight size number a us + weight size number b us
   apart a b c [] either no_both = refl
-  apart a b c (u ∷ us) either no_both =
-      ap (λ t. cond t (size (number u)) 0 + weight size number c us) (either u)
-      ∙ by (a u) (b u) (no_both u) (apart a b c us either no_both)
-    where
-      by : (x y : Bool) → (x && y) ≡ false
-          → weight size number c us ≡ weight size number a us + weight size number b us
-          → cond (x || y) (size (number u)) 0 + weight size number c us
-          ≡ (cond x (size (number u)) 0 + weight size number a us)
-          + (cond y (size (number u)) 0 + weight size number b us)
-      by true true never e = absurd (true≢false never)
-      by true false never e = omega (arith, e)
-      by false true never e = omega (arith, e)
-      by false false never e = omega (arith, e)
+  apart a b c (u ∷ us) either no_both = grind (arith, apart a b c us either no_both, true≢false)
 
   at_most : (t : Update → Bool) (us : List Update)
       → weight size number t us ≤ weight size number (λ u. true) us
   at_most t [] = omega arith
-  at_most t (u ∷ us) = by (t u) (at_most t us)
-    where
-      by : (b : Bool) → weight size number t us ≤ weight size number (λ w. true) us
-          → cond b (size (number u)) 0 + weight size number t us
-          ≤ size (number u) + weight size number (λ w. true) us
-      by true h = omega (arith, h)
-      by false h = omega (arith, h)
+  at_most t (u ∷ us) = grind (arith, at_most t us)
 
   -- entries that have the sums of their key lists
   by_key_lists : (us es : List Update) → IsDistinct same_keys (key_lists es)
@@ -86,12 +59,7 @@ module _ (size : ℤ → ℕ) (less : (x y : ℤ) → size (x +ℤ y) ≤ size x
       → AllByRecursion (λ e. over (λ x y. x +ℤ y) number (λ u. same_keys e.keys u.keys) us
       ≡ Some (number e)) es
       → weight size number (λ e. true) es ≤ weight size number (λ u. true) us
-  entries_less us es once each =
-      omega (
-        arith,
-        by_key_lists us es once each,
-        at_most (λ u. list_any (same_keys u.keys) (key_lists es)) us,
-      )
+  entries_less us es once each = grind (arith, ints, by_key_lists, at_most, same_keys)
 
 -- ---- above zero, and below
 
@@ -104,18 +72,10 @@ below (pos n) = 0
 below (negsuc n) = n + 1
 
 above_sum : (x y s : ℤ) → s ≡ x +ℤ y → above s ≤ above x + above y
-above_sum (pos a) (pos b) (pos c) e = omega (arith, ints, e)
-above_sum (pos a) (negsuc b) (pos c) e = omega (arith, ints, e)
-above_sum (negsuc a) (pos b) (pos c) e = omega (arith, ints, e)
-above_sum (negsuc a) (negsuc b) (pos c) e = omega (arith, ints, e)
-above_sum x y (negsuc c) e = omega arith
+above_sum x y it e = grind (arith, ints)
 
 below_sum : (x y s : ℤ) → s ≡ x +ℤ y → below s ≤ below x + below y
-below_sum (pos a) (pos b) (negsuc c) e = omega (arith, ints, e)
-below_sum (pos a) (negsuc b) (negsuc c) e = omega (arith, ints, e)
-below_sum (negsuc a) (pos b) (negsuc c) e = omega (arith, ints, e)
-below_sum (negsuc a) (negsuc b) (negsuc c) e = omega (arith, ints, e)
-below_sum x y (pos c) e = omega arith
+below_sum x y it e = grind (arith, ints)
 
 abbrev AreSides : List ℤ → ℕ → ℕ → Type 0
 AreSides zs up down = (above_zero zs ≡ up) × (below_zero zs ≡ down)

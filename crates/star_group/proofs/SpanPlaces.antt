@@ -1,30 +1,17 @@
 -- Places of key lists: how many there are, and those of the last keys.
-use Rattle.star_group.proofs.Common.{◌≡◌, ℕ, zero, suc, ◌+◌, ◌*◌, ◌/◌, ◌%◌, ◌<◌, ◌≤◌, ◌^◌, Bool, true, false, ℤ, pos, negsuc, ◌-ℤ◌, List, [], ◌∷◌, Option, Some, None, IfSome, MatchOption, nat_lt, cond, ◌++◌, map, length, take, drop, drop-cons, get_or, refl, ap, sym, ◌∙◌, arith, mul-div-le}
-use Rattle.star_group.proofs.Common.{mul-le-mul_left, mul_assoc, ltb-false, false_from_ne_true, length-map, subst, div-mul-add, div-add-mod', GroupKey, KeyValue, Number, Code, PutBatch, Span, IsPutBatch, put_in, word_in, IsKeyWord, key_word, batch_keys, IsOf, above, offset_of, cell_place, places, place_up_to}
+use Rattle.star_group.proofs.Common.{◌≡◌, ℕ, zero, suc, ◌+◌, ◌*◌, ◌/◌, ◌%◌, ◌<◌, ◌≤◌, ◌^◌, ℤ, pos, ◌-ℤ◌, List, [], ◌∷◌, Option, Some, None, IfSome, MatchOption, ◌++◌, map, length, take, drop, drop-cons, get_or, refl, ap, sym, ◌∙◌, arith, mul-div-le}
+use Rattle.star_group.proofs.Common.{mul-le-mul_left, mul_assoc, ltb-false, false_from_ne_true, length-map, subst, div-mul-add, div-add-mod', GroupKey, KeyValue, Number, PutBatch, Span, IsPutBatch, put_in, word_in, IsKeyWord, key_word, batch_keys, IsOf, above, offset_of, cell_place, places, place_up_to}
 use Rattle.std.proofs.lemmas.Bool.{true_from_ne_false}
 use Rattle.star_program.specs.declared.group.GroupKey.TheVariants as declared
+use Rattle.std.proofs.lemmas.Int.{ints}
 
 -- ---- how many places there are
 
 up_to_last : (last n : ℕ) (z : ℤ) → place_up_to last z ≡ Some n → n ≤ last
-up_to_last last n (pos m) e = by (nat_lt last m) refl e
-  where
-    by : (b : Bool) → nat_lt last m ≡ b → cond b None (Some m) ≡ Some n → n ≤ last
-    by true h f = absurd (let no : ⊥ = cc f in no)
-    by false h f = let same : m ≡ n = cc f in omega (arith, ltb-false last m h, same)
-up_to_last last n (negsuc m) e = absurd (let no : ⊥ = cc e in no)
+up_to_last last n it e = grind (arith, ints, ltb-false)
 
 pub offset_last : (s : Span) (k : KeyValue) (n : ℕ) → offset_of s k ≡ Some n → n ≤ s.last
-offset_last s (Number z) n e = by s.is_code e
-  where
-    by : (b : Bool) → cond b None (place_up_to s.last (z -ℤ s.low)) ≡ Some n → n ≤ s.last
-    by true f = absurd (let no : ⊥ = cc f in no)
-    by false f = up_to_last s.last n (z -ℤ s.low) f
-offset_last s (Code c) n e = by s.is_code e
-  where
-    by : (b : Bool) → cond b (place_up_to s.last (pos c -ℤ s.low)) None ≡ Some n → n ≤ s.last
-    by true f = up_to_last s.last n (pos c -ℤ s.low) f
-    by false f = absurd (let no : ⊥ = cc f in no)
+offset_last s it n e = grind (arith, up_to_last)
 
 -- a place in front of others
 pub record IsAbove (offset size : ℕ) (rest : Option ℕ) (place : ℕ) : Type 0 where
@@ -34,10 +21,7 @@ pub record IsAbove (offset size : ℕ) (rest : Option ℕ) (place : ℕ) : Type 
 
 pub above_parts : (o : Option ℕ) (size : ℕ) (r : Option ℕ) (p : ℕ) → above o size r ≡ Some p
     → (n : ℕ) × (o ≡ Some n) × IsAbove n size r p
-above_parts (Some n) size (Some q) p e =
-    (n, refl, record { behind = q; is_rest = refl; is = (let f : p ≡ n + size * q = cc e in f) })
-above_parts (Some n) size None p e = absurd (let no : ⊥ = cc e in no)
-above_parts None size r p e = absurd (let no : ⊥ = cc e in no)
+above_parts it size r p e = grind arith
 
 pub within : (ss : List Span) (ks : List KeyValue) (p : ℕ) → cell_place ss ks ≡ Some p
     → p < places ss
@@ -65,12 +49,7 @@ fewer (s ∷ ss) (suc i) = omega (arith, fewer ss i)
 
 pub small : (ss : List Span) (ks : List KeyValue) (i j most : ℕ) → places ss ≤ most
     → MatchOption (cell_place (drop i ss) (drop j ks)) (Unit {0}) (λ p. p < most)
-small ss ks i j most h = by (cell_place (drop i ss) (drop j ks)) refl
-  where
-    by : (r : Option ℕ) → cell_place (drop i ss) (drop j ks) ≡ r
-        → MatchOption r (Unit {0}) (λ p. p < most)
-    by None e = tt
-    by (Some p) e = omega (arith, h, fewer ss i, within (drop i ss) (drop j ks) p e)
+small ss ks i j most h = grind (arith, fewer, within)
 
 -- ---- one key more in front
 
@@ -124,10 +103,7 @@ first_of s ss (k ∷ ks) p e =
 pub next_place : (ss : List Span) (i : ℕ) (s : Span) (ks : List KeyValue) (p : ℕ) → i < length ss
     → s ≡ get_or ss i s → cell_place (drop i ss) (drop i ks) ≡ Some p
     → HasFirst s (drop (suc i) ss) p (drop i ks)
-next_place ss i s ks p h is e =
-    let here : drop i ss ≡ s ∷ drop (suc i) ss =
-    drop-cons ss i s h ∙ ap (λ t. t ∷ drop (suc i) ss) (sym is) in
-    first_of s (drop (suc i) ss) (drop i ks) p (ap (λ ts. cell_place ts (drop i ks)) (sym here) ∙ e)
+next_place ss i s ks p h is e = grind (arith, drop-cons, first_of)
 
 -- what is behind the first key
 pub behind_first : (ks : List KeyValue) (i : ℕ) (k : KeyValue) (rest : List KeyValue)
@@ -208,12 +184,7 @@ key_there (g ∷ kinds) (z ∷ zs) (suc i) k h l =
 
 offset_word : (s : Span) (g : GroupKey) (z : ℤ) → IsOf s g → IsKeyWord g z
     → offset_of s (key_word g z) ≡ place_up_to s.last (z -ℤ s.low)
-offset_word s declared.Number z own fits =
-    ap (λ b. cond b None (place_up_to s.last (z -ℤ s.low))) own
-offset_word s (declared.Text c) (pos n) own fits =
-    ap (λ b. cond b (place_up_to s.last (pos n -ℤ s.low)) None) own
-offset_word s (declared.Text c) (negsuc n) own fits =
-    absurd (let e = fits.2 in let no : ⊥ = cc e in no)
+offset_word s it z own fits = grind (arith, ints)
 
 word_there : (f : ℕ → ℤ) (rs : List ℕ) (i : ℕ) → i < length rs
     → get_or (map f rs) i (pos 0) ≡ f (get_or rs i 0)
@@ -238,12 +209,7 @@ none_before (s ∷ ss) (k ∷ ks) (suc i) e =
 
 offset_other : (s : Span) (g : GroupKey) (z : ℤ) → (IsOf s g → ⊥) → IsKeyWord g z
     → offset_of s (key_word g z) ≡ None
-offset_other s declared.Number z other fits = ap (λ b. cond b None (place_up_to s.last (z -ℤ s.low)))
-    (true_from_ne_false s.is_code other)
-offset_other s (declared.Text c) (pos n) other fits =
-    ap (λ b. cond b (place_up_to s.last (pos n -ℤ s.low)) None) (false_from_ne_true s.is_code other)
-offset_other s (declared.Text c) (negsuc n) other fits =
-    absurd (let e = fits.2 in let no : ⊥ = cc e in no)
+offset_other s it z other fits = grind (arith, ints, true_from_ne_false, false_from_ne_true)
 
 -- a row of a batch
 module _ (b : PutBatch) (batch : IsPutBatch b) (spans : List Span)

@@ -1,9 +1,10 @@
 -- Rows found by the digits of their keys: looking one up, and one row more.
-use Rattle.star_group.proofs.Common.{◌≡◌, ℕ, zero, suc, ◌+◌, ◌-◌, ◌*◌, ◌/◌, ◌%◌, ◌^◌, ◌<◌, ◌≤◌, List, [], ◌∷◌, ◌++◌, Bool, true, false, MatchBool, true≢false, length, drop, cond, nat_lt, get_or, set, ap, sym, ◌∙◌, subst, refl, arith, rules, below_more, get_or-set_same}
+use Rattle.star_group.proofs.Common.{◌≡◌, ℕ, zero, suc, ◌+◌, ◌-◌, ◌*◌, ◌/◌, ◌%◌, ◌^◌, ◌<◌, ◌≤◌, List, [], ◌∷◌, ◌++◌, Bool, true, false, MatchBool, true≢false, length, drop, get_or, set, ap, sym, ◌∙◌, subst, refl, arith, below_more, get_or-set_same}
 use Rattle.star_group.proofs.Common.{get_or-set_other, ◌⊎◌, inl, inr, ⊎_elim, cases_eq, cases_lt, at_drop_more, get_or_append_left, get_or_past, get_or_default, get_or_push, length-append, length-set, ∥∥₁_elim, ∥∥₁_map, KeyPart, All, eq-value, Decides, signed_Decides, unsigned_Decides, pointwise}
 use Rattle.star_group.proofs.Common.{slice_eq-Decides, IsTrie, IsMissing, Leads, child, key_at, part_digit, turn_at, word_with}
 use Rattle.star_group.specs.{declared.keyed.key.KeyPart.TheVariants.Number, declared.keyed.key.KeyPart.TheVariants.Code, Private.Tries.digit_at, Private.Tries.node_at, Private.Tries.word_from}
 use Rattle.star_program.specs.Rows.{cut}
+use Rattle.std.proofs.lemmas.Grind.{common_steps}
 
 abbrev part_eq : KeyPart → KeyPart → Bool
 part_eq = eq-value.it
@@ -13,29 +14,16 @@ part_decides All All = (λ e. refl, λ e. refl)
 part_decides All (Number y) = (λ e. absurd (true≢false (sym e)), λ e. cc e)
 part_decides All (Code n) = (λ e. absurd (true≢false (sym e)), λ e. cc e)
 part_decides (Number x) All = (λ e. absurd (true≢false (sym e)), λ e. cc e)
-part_decides (Number x) (Number y) = (
-  λ e. ap Number ((signed_Decides x y).0 e),
-  λ e. (signed_Decides x y).1 (let same : x ≡ y = cc e in same),
-)
+part_decides (Number x) (Number y) = grind (arith, signed_Decides)
 part_decides (Number x) (Code n) = (λ e. absurd (true≢false (sym e)), λ e. cc e)
 part_decides (Code m) All = (λ e. absurd (true≢false (sym e)), λ e. cc e)
 part_decides (Code m) (Number y) = (λ e. absurd (true≢false (sym e)), λ e. cc e)
-part_decides (Code m) (Code n) = (
-  λ e. ap Code ((unsigned_Decides m n).0 e),
-  λ e. (unsigned_Decides m n).1 (let same : m ≡ n = cc e in same),
-)
+part_decides (Code m) (Code n) = grind (arith, unsigned_Decides)
 
 -- what the test of two keys tells
 pub keys_told : (b : Bool) (ps rs : List KeyPart) → b ≡ pointwise part_eq ps rs
     → MatchBool b (ps ≡ rs) (ps ≡ rs → ⊥)
-keys_told b ps rs e = by b e
-  where
-    decides : Decides (pointwise part_eq ps rs) (ps ≡ rs)
-    decides = slice_eq-Decides part_decides ps rs (pointwise part_eq ps rs) refl
-
-    by : (b : Bool) → b ≡ pointwise part_eq ps rs → MatchBool b (ps ≡ rs) (ps ≡ rs → ⊥)
-    by true e = decides.0 (sym e)
-    by false e = λ same. true≢false (sym (decides.1 same) ∙ sym e)
+keys_told b ps rs e = grind (arith, slice_eq-Decides, part_decides, true≢false)
 
 -- ---- the digits of a key
 
@@ -57,27 +45,13 @@ word_done word (part ∷ key) (suc n) h = word_done word key n (omega (arith, h)
 pub digit_of_word : (width : ℕ) (key : List KeyPart) (depth turn : ℕ) → depth < 32
     → turn ≡ turn_at depth → word_from 0 key / 2 ^ (2 * turn) % 4 ≡ digit_at width key depth
 unfolding digit_at
-digit_of_word width key depth turn low is = by (nat_lt depth 32) refl
-  where
-    by : (b : Bool) → nat_lt depth 32 ≡ b
-        → word_from 0 key / 2 ^ (2 * turn) % 4
-        ≡ cond b (word_from 0 key / 2 ^ (2 * turn_at depth) % 4)
-        (part_digit (get_or key ((depth - 32) % width) All) ((depth - 32) / width))
-    by true e = ap (λ t. word_from 0 key / 2 ^ (2 * t) % 4) is
-    by false e = let high : depth < 32 → ⊥ = search rules in absurd (high low)
+digit_of_word width key depth turn low is = grind arith
 
 pub digit_of_part : (width : ℕ) (key : List KeyPart) (depth : ℕ) → (depth < 32 → ⊥)
     → part_digit (get_or key ((depth - 32) % width) All) ((depth - 32) / width)
     ≡ digit_at width key depth
 unfolding digit_at
-digit_of_part width key depth high = by (nat_lt depth 32) refl
-  where
-    by : (b : Bool) → nat_lt depth 32 ≡ b
-        → part_digit (get_or key ((depth - 32) % width) All) ((depth - 32) / width)
-        ≡ cond b (word_from 0 key / 2 ^ (2 * turn_at depth) % 4)
-        (part_digit (get_or key ((depth - 32) % width) All) ((depth - 32) / width))
-    by true e = let low : depth < 32 = search rules in absurd (high low)
-    by false e = refl
+digit_of_part width key depth high = grind arith
 
 no_prop : IsProp ⊥
 no_prop = hlevel
@@ -98,12 +72,7 @@ module _ (width : ℕ) (ks : List (List KeyPart)) (links : List (List ℕ)) (key
     (trie : IsTrie width ks links) where
   pub start : IsGoneDown width ks links key 0 0
   unfolding node_at
-  start = record {
-    leads = record { steps = λ i h. omega (arith, h); end = refl };
-    within = omega (arith, trie.many);
-    deep = omega arith;
-    others = λ i h. omega (arith, h);
-  }
+  start = grind arith
 
   module _ (depth node digit : ℕ) (down : IsGoneDown width ks links key depth node)
       (is : digit ≡ digit_at width key depth) where
@@ -113,21 +82,7 @@ module _ (width : ℕ) (ks : List (List KeyPart)) (links : List (List ℕ)) (key
 
     pub further : (next : ℕ) → next ≡ child links node digit → 0 < next
         → (key_at ks (next - 1) ≡ key → ⊥) → IsGoneDown width ks links key (depth + 1) next
-    further next e more other =
-        let there : node_at width links key (suc depth) ≡ next = next_is ∙ sym e in
-        let under = trie.below node digit (subst (λ n. 0 < n) e more) in
-        let one : depth + 1 ≡ suc depth = omega arith in
-        record {
-          leads = record {
-            steps = below_more (λ i. 0 < node_at width links key (suc i)) depth down.leads.steps
-                (subst (λ n. 0 < n) (sym there) more);
-            end = ap (node_at width links key) one ∙ there;
-          };
-          within = omega (arith, under.1, e);
-          deep = omega (arith, under.0, e, down.deep);
-          others = below_more (λ i. key_at ks (node_at width links key (suc i) - 1) ≡ key → ⊥) depth
-              down.others (subst (λ n. key_at ks (n - 1) ≡ key → ⊥) (sym there) other);
-        }
+    further next e more other = grind (arith, next_is, below_more, key_at)
 
     top : node_at width links key zero ≡ 0
     unfolding node_at
@@ -169,11 +124,7 @@ abbrev fresh : List ℕ
 fresh = 0 ∷ 0 ∷ 0 ∷ 0 ∷ []
 
 fresh_none : (g : ℕ) → get_or fresh g 0 ≡ 0
-fresh_none zero = refl
-fresh_none (suc zero) = refl
-fresh_none (suc (suc zero)) = refl
-fresh_none (suc (suc (suc zero))) = refl
-fresh_none (suc (suc (suc (suc g)))) = refl
+fresh_none it = grind arith
 
 no_keys : (width : ℕ) → IsTrie width [] (fresh ∷ [])
 no_keys width = record {
@@ -223,35 +174,13 @@ module _ (width : ℕ) (ks : List (List KeyPart)) (links : List (List ℕ)) (key
 
   -- the new node has nothing below it
   added : (m g : ℕ) → child (links ++ fresh ∷ []) m g ≡ child links m g
-  added m g = by (cases_lt m (length links)) (cases_eq (length links) m)
-    where
-      past : length links ≤ m → child links m g ≡ 0
-      past high = ap (λ l. get_or l g 0) (get_or_past links m [] high)
-
-      by : (m < length links) ⊎ (length links ≤ m) → (length links ≡ m) ⊎ (length links ≡ m → ⊥)
-          → child (links ++ fresh ∷ []) m g ≡ child links m g
-      by (inl low) c = ap (λ l. get_or l g 0) (kept m low)
-      by (inr high) (inl e) = ap (λ l. get_or l g 0) (get_or_push links fresh [] m e) ∙ fresh_none g
-          ∙ sym (past high)
-      by (inr high) (inr apart) = ap (λ l. get_or l g 0)
-          (get_or_past (links ++ fresh ∷ []) m [] (omega (arith, high, apart, more_links)))
-          ∙ sym (past high)
+  added m g =
+      grind (arith, common_steps, cases_lt, cases_eq, get_or_past, kept, get_or_push, fresh_none)
 
   -- a link is as it was, or it is the new one
   link : (m g : ℕ) → (child (linked links node digit) m g ≡ child links m g)
       ⊎ ((m ≡ node) × (g ≡ digit))
-  link m g = by (cases_eq m node) (cases_eq g digit)
-    where
-      by : (m ≡ node) ⊎ (m ≡ node → ⊥) → (g ≡ digit) ⊎ (g ≡ digit → ⊥)
-          → (child (linked links node digit) m g ≡ child links m g) ⊎ ((m ≡ node) × (g ≡ digit))
-      by (inl e) (inl f) = inr (e, f)
-      by (inl e) (inr ne) = inl (ap (λ k. child (linked links node digit) k g) e
-          ∙ ap (λ l. get_or l g 0)
-          (get_or-set_same (links ++ fresh ∷ []) node _ [] (omega (arith, slot.within, more_links)))
-          ∙ get_or-set_other (get_or (links ++ fresh ∷ []) node []) digit g (length links) 0 ne
-          ∙ added node g ∙ ap (λ k. child links k g) (sym e))
-      by (inr ne) c = inl (ap (λ l. get_or l g 0)
-          (get_or-set_other (links ++ fresh ∷ []) node m _ [] ne) ∙ added m g)
+  link m g = grind (arith, cases_eq, get_or-set_same, more_links, get_or-set_other, added)
 
   -- a link that was there is there
   stays : (m g : ℕ) → 0 < child links m g → child (linked links node digit) m g ≡ child links m g
@@ -271,11 +200,7 @@ module _ (width : ℕ) (ks : List (List KeyPart)) (links : List (List ℕ)) (key
 
   leads_stays : (k : List KeyPart) (depth end : ℕ) → Leads width links k depth end
       → Leads width (linked links node digit) k depth end
-  leads_stays k depth end leads = record {
-    steps = λ i h. subst (λ n. 0 < n)
-        (sym (path_stays k (suc i) (λ j g. leads.steps j (omega (arith, h, g))))) (leads.steps i h);
-    end = path_stays k depth leads.steps ∙ leads.end;
-  }
+  leads_stays k depth end leads = grind (arith, path_stays)
 
   leads_new : Leads width (linked links node digit) key (slot.depth + 1) (length links)
   unfolding node_at
