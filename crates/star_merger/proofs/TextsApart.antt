@@ -1,7 +1,8 @@
 -- The text of a partial tells its contents.
 use Rattle.std.proofs.Common.{◌≡◌, ◌<◌, ◌^◌, ◌∙◌, ◌++◌, ℕ, zero, suc, ℤ, pos, List, [], ◌∷◌, None, Option, Some, ap, append_assoc, arith, codes, get_or, length, refl, subst, sym}
 use Rattle.std.proofs.lemmas.List.{append_cancel_left}
-use Rattle.std.specs.{Char.digit_value, Fmt.decimal, Fmt.signed_decimal, List.flat_map, List.slice_get, Prelude.IfSome, Prelude.Ok, Prelude.Result}
+use Rattle.std.proofs.lemmas.List.Elements.{All-head, All-tail}
+use Rattle.std.specs.{Char.digit_value, Fmt.decimal, Fmt.signed_decimal, List.All, List.flat_map, List.slice_get, Prelude.IfSome, Prelude.Ok, Prelude.Result}
 use Rattle.hex.specs.Hex.{IsBytes, decode_of, encode_lower, lower_digits}
 use Rattle.hex.proofs.HexLemmas.{decode_of-encode_lower, length-encode_with}
 use Rattle.star_interval.specs.Range.{Range}
@@ -95,6 +96,11 @@ hex_same : (xs ys : List ℕ) → IsBytes xs → IsBytes ys → encode_lower xs 
 hex_same xs ys h k e =
     ok_same xs ys (decode_of (encode_lower xs)) (decode_of (encode_lower ys))
     (decode_of-encode_lower xs h) (decode_of-encode_lower ys k) (ap decode_of e)
+
+are_bytes : (xs : List ℕ) → All (λ b. b < 2 ^ 8) xs → IsBytes xs
+are_bytes [] all i = omega arith
+are_bytes (x ∷ xs) all zero = All-head (λ b. b < 2 ^ 8) x xs all
+are_bytes (x ∷ xs) all (suc i) = are_bytes xs (All-tail (λ b. b < 2 ^ 8) x xs all) i
 
 digest_cut : (xs ys us vs : List ℕ) → IsBytes xs → IsBytes ys → length xs ≡ 32 → length ys ≡ 32
     → digest_line xs ++ us ≡ digest_line ys ++ vs → AreSame xs ys us vs
@@ -326,11 +332,11 @@ pub contents_same : (query : List ℕ) (names : List (List ℕ)) (kinds : List C
     → partial_text query contents ≡ partial_text query other → contents ≡ other
 unfolding partial_text
 contents_same query names kinds x y h k e =
-    let digest = digest_cut x.digest y.digest _ _ h.bytes k.bytes h.digest k.digest
+    let digest = digest_cut x.digest y.digest _ _ (are_bytes x.digest h.bytes) (are_bytes y.digest k.bytes) h.digest k.digest
     (append_cancel_left (query_text query) _ _ e) in
     let span = span_cut x.span y.span _ _ h.span k.span digest.rest in
-    let listing = listing_cut x.bounds y.bounds (λ c. (h.low c, k.low c)) (λ c. (h.high c, k.high c))
-    (λ c is. h.texts c is ∙ sym (k.texts c is)) x.sizes y.sizes (λ t. (h.sizes t, k.sizes t))
+    let listing = listing_cut x.bounds y.bounds (λ c. ((h.bounds c).low, (k.bounds c).low)) (λ c. ((h.bounds c).high, (k.bounds c).high))
+    (λ c is. (h.bounds c).text is ∙ sym ((k.bounds c).text is)) x.sizes y.sizes (λ t. (h.sizes t, k.sizes t))
     (run_text x.run) (run_text y.run) span.rest in
     let run = run_same names kinds x.run y.run h.run k.run listing.rest in
     λ i. record {

@@ -1,5 +1,6 @@
 pub mod FaultTexts
 pub mod Texts
+pub mod Columns
 pub mod Spelled
 pub mod TextShares
 pub mod Merged

@@ -1,7 +1,6 @@
 -- Contents of a partial whose text is not that of others.
-use Rattle.std.specs.Prelude.{◌≡◌, ◌<◌, ◌^◌, ℕ, List, IfSome, length, pos}
-use Rattle.hex.specs.Hex.{IsBytes}
-use Rattle.star_interval.specs.Range.{only}
+use Rattle.std.specs.Prelude.{◌≡◌, ◌<◌, ◌^◌, ℕ, List, All, IfSome, length, pos}
+use Rattle.star_interval.specs.Range.{Range, only}
 use Rattle.star_schema.specs.{declared.column.ColumnId.ColumnId, declared.column.Kind.TheVariants.Text, declared.table.TableId.TableId, Schema.kind_of}
 use Rattle.star_program.specs.declared.outcome.Outcome.{Outcome}
 use Rattle.star_report.specs.Columns.{AreRowsOf, ColumnKind, HasDigits}
@@ -26,13 +25,16 @@ pub record IsSpelledRun (names : List (List ℕ)) (kinds : List ColumnKind) (out
   pub updates : outcome.updates < 10 ^ 64
 
 -- a text column has the bounds 0 and 0
+pub record HasBounds (column : ColumnId) (bounds : Range) : Type 0 where
+  pub low : HasDigits bounds.low
+  pub high : HasDigits bounds.high
+  pub text : kind_of column ≡ Text → bounds ≡ only (pos 0)
+
 pub record IsSpelled (names : List (List ℕ)) (kinds : List ColumnKind) (contents : Contents)
     : Type 0 where
-  pub bytes : IsBytes contents.digest
+  pub bytes : All (λ b. b < 2 ^ 8) contents.digest
   pub digest : length contents.digest ≡ 32
   pub span : IfSome contents.span IsSpelledSpan
   pub sizes : (t : TableId) → contents.sizes t < 10 ^ 64
-  pub low : (c : ColumnId) → HasDigits (contents.bounds c).low
-  pub high : (c : ColumnId) → HasDigits (contents.bounds c).high
-  pub texts : (c : ColumnId) → kind_of c ≡ Text → contents.bounds c ≡ only (pos 0)
+  pub bounds : (c : ColumnId) → HasBounds c (contents.bounds c)
   pub run : IfSome contents.run (IsSpelledRun names kinds)

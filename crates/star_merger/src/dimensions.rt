@@ -10,7 +10,7 @@ use star_interval::Interval;
 use star_partial::Partial;
 use star_schema::{COLUMNS, ColumnId, TABLES, TableId, is_table, table_of};
 
-fn bounds_of(bounds: &[Interval; 58], column: ColumnId) -> Interval
+pub(crate) fn bounds_of(bounds: &[Interval; 58], column: ColumnId) -> Interval
     ensures { range_of result ≡ bounds_at bounds.now column }
 {
     bounds[column as usize]

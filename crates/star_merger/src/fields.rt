@@ -1,5 +1,6 @@
 // The fields of a partial's text, read one after another.
 
+use crate::spelled::is_field;
 use itoa::Buffer;
 use star_partial::ColumnKind;
 use star_program::{Cell, CellText, Items};
@@ -89,8 +90,11 @@ fn cell_of(alloc: Global, kind: ColumnKind, field: &[u8]) -> Result<Cell, FieldF
     match kind {
         ColumnKind::NumberKey => Ok(Cell::Number(number_of(field)?)),
         ColumnKind::TextKey => {
-            let text = Items::from_vec(text_of(alloc, field)?);
-            Ok(Cell::Text(CellText::new(alloc, text)?))
+            let text = text_of(alloc, field)?;
+            if !is_field(&text) {
+                return Err(FieldFault::Unreadable);
+            }
+            Ok(Cell::Text(CellText::new(alloc, Items::from_vec(text))?))
         }
         ColumnKind::Total => total_of(field),
     }

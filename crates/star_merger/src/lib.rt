@@ -14,6 +14,7 @@ mod outcome;
 mod pieces;
 mod reading;
 mod spans;
+mod spelled;
 mod telling;
 mod writing;
 

@@ -1,9 +1,9 @@
 // A query whose partials are merged.
 
 ghost use Rattle.std.specs.Prelude.{◌≡◌, ℕ, IfOk, List, MatchResult};
-ghost use Rattle.star_partial.specs.{Contents.contents_of, Text.partial_text};
+ghost use Rattle.star_partial.specs.{Contents.Contents, Contents.contents_of, Text.partial_text};
 ghost use Rattle.star_engine.specs.{Answered.OrMemory, Queries.IsNoQuery};
-ghost use Rattle.star_merger.specs.Mergers.{IsMergerOf};
+ghost use Rattle.star_merger.specs.{Columns.column_kinds, Columns.column_names, Mergers.IsMergerOf, Spelled.IsSpelled};
 
 use crate::columns::{PartialColumn, columns_of};
 use crate::fault::PartialFault;
@@ -43,10 +43,14 @@ impl Merger {
     }
 
     /// Reads the text of a partial of the query, or returns its first fault. It is exactly the text
-    /// that `write_partial` writes of the result.
+    /// that `write_partial` writes of the result, and that of no other partial.
     pub fn read(&self, alloc: Global, text: &[u8]) -> Result<Partial, PartialFault>
-        ensures { (query : List ℕ) → IsMergerOf query self.now
+        ensures text { (query : List ℕ) → IsMergerOf query self.now
             → IfOk result (λ partial. text.now ≡ partial_text query (contents_of partial)) }
+        ensures same { (query : List ℕ) (written : Contents) → IsMergerOf query self.now
+            → IsSpelled (column_names self.now.columns.items) (column_kinds self.now.columns.items)
+            written → text.now ≡ partial_text query written
+            → IfOk result (λ partial. contents_of partial ≡ written) }
     {
         read_partial(alloc, &self.query, &self.columns, text)
     }

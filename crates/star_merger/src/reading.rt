@@ -2,12 +2,14 @@
 
 ghost use Rattle.std.specs.Prelude.{◌≡◌, IfOk};
 ghost use Rattle.star_partial.specs.{Contents.contents_of, Text.partial_text};
+ghost use Rattle.star_merger.specs.{Columns.column_kinds, Columns.column_names, Spelled.IsSpelled};
 
 use crate::columns::PartialColumn;
 use crate::fault::PartialFault;
 use crate::fields::{FieldFault, Fields};
 use crate::order::first_misplaced;
 use crate::pieces::read_contents;
+use crate::spelled::is_spelled;
 use star_partial::{ColumnKind, Partial};
 use std::alloc::{AllocError, Global};
 
@@ -103,14 +105,20 @@ pub(crate) fn read_partial(
     columns: &[PartialColumn],
     text: &[u8],
 ) -> Result<Partial, PartialFault>
-    ensures { IfOk result
+    ensures text { IfOk result
         (λ partial. text.now ≡ partial_text query.now (contents_of partial)) }
+    ensures spelled { IfOk result (λ partial. IsSpelled (column_names columns.now)
+        (column_kinds columns.now) (contents_of partial)) }
 {
     let head = head_of(alloc, query)?;
     let partial = read_text(alloc, &head, columns, text)?;
     let written = partial.to_text(alloc, query)?;
     if written.as_slice() != text {
         let line = line_at(text, common_bytes(text, &written));
+        return Err(PartialFault::BadLine { line });
+    }
+    if !is_spelled(&partial, columns) {
+        let line = line_at(text, text.len());
         return Err(PartialFault::BadLine { line });
     }
     match misplaced_line(text, columns, &partial) {
