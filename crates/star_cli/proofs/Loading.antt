@@ -1,9 +1,9 @@
 -- What a load under the widest limits gives.
-use Rattle.std.proofs.Common.{◌≡◌, ℕ, ap, subst}
+use Rattle.std.proofs.Common.{◌≡◌, ℕ, List, ap, subst}
 use Rattle.std.specs.Prelude.{Result, Ok, Err, IfErr, IfOk, MatchResult}
 use Rattle.star_schema.specs.{Database.TableTexts, Loadable.IsLoadable, Most.most_rows, Most.most_visits}
 use Rattle.star_engine.specs.{declared.fault.EngineFault.EngineFault, Answered.OrMemory, Loads.IsUnloaded, Loads.Loaded, Loads.loaded_of}
-use Rattle.star_cli.specs.FolderLoads.{IsWidest}
+use Rattle.star_cli.specs.{FolderLoads.AreTablesUnread, FolderLoads.IsFolderUnread, Private.Reads.IsWidest, Stores.Known, declared.failure.Failure.Failure, declared.failure.Failure.TheVariants.Words}
 
 abbrev pub IsLoadedOf : (rows visits : ℕ) → TableTexts → Result Loaded EngineFault → Type 0
 IsLoadedOf rows visits texts result = MatchResult result
@@ -26,6 +26,12 @@ of_widest texts rows visits is_rows is_visits result loadable loaded refused =
     subst (λ n. IsLoadedOf most_rows n texts result) is_visits
     (subst (λ n. IsLoadedOf n visits texts result) is_rows
     (in_one rows visits texts result loadable loaded refused))
+
+-- the failure to read the tables of a folder
+pub unread_in : (known : Known) (folder : List ℕ) (failure : Failure)
+    → AreTablesUnread known folder failure → IsFolderUnread known folder failure
+unread_in known folder (Words fault) unread = absurd unread
+unread_in known folder failure unread = unread
 
 pub is_widest : (texts : TableTexts) (result : Result Loaded EngineFault)
     → IsLoadedOf most_rows most_visits texts result → IfOk result IsWidest

@@ -1,70 +1,41 @@
 -- The steps of a command.
-use Rattle.std.proofs.Common.{◌≡◌, subst, sym, ℕ, List, [], Bool, true, false, Global, Some, None, inl, refl}
-use Rattle.std.specs.Prelude.{Result, Ok, Err, IfOk, Option}
+use Rattle.std.proofs.Common.{◌≡◌, subst, ℕ, List, [], Bool, true, false, Global, Some, None, inl, inr, refl}
+use Rattle.std.specs.Prelude.{Result, Ok, Err, MatchResult, Option}
 use Rattle.std.specs.Io.Buffered.{reader_buffer, reader_capacity, reader_inner, reader_remaining}
-use Rattle.std.specs.{Borrow.Bor, Io.KnownBytes.prepend_known, declared.io.BufReader.BufReader}
+use Rattle.std.specs.{Borrow.Bor, List.AllZip, Io.KnownBytes.prepend_known, declared.io.BufReader.BufReader}
 use Rattle.star_engine.specs.{Answered.Change, Answered.change, Loads.Loaded}
 use Rattle.star_service.specs.{Reports.AreAllDelivered, Reports.AreAllJudged, Sessions.IsSession, declared.reports.Errand.Errand, declared.reports.Halt.Halt}
-use Rattle.star_catalogue.specs.declared.read_tables.ReadTables.{ReadTables}
-use Rattle.star_words.specs.declared.request.Task.TheVariants.{Sample, Check, Bench, Query, Explain, Exec, Quote, Trial}
-use Rattle.star_words.specs.{Requests.HasMostRows, declared.request.Request.TheVariants.Answer, declared.request.Task.Task}
-use Rattle.star_cli.specs.Commands.{AreReportsDone, Input, IsHeld, reports_made, reports_quoted}
-use Rattle.star_cli.specs.{Answers.IsOfTables, Failures.AreReportsEnded, FolderLoads.IsWidest, Private.Steps.AreTablesFor, Private.Steps.HasTables, Private.Steps.IsKept, ReadFolders.AreWidelyRead, declared.commands.Read.Read}
+use Rattle.star_words.specs.{Requests.HasMostRows, declared.request.Reports.Reports, declared.request.Request.TheVariants.Answer, declared.request.Task.Task}
+use Rattle.star_cli.specs.Commands.{AreReportsDone, Input, IsErrandAt, IsFileOf, IsHeld, IsTaskUnread, folder_of, path_of, reports_made, reports_quoted}
+use Rattle.star_cli.specs.{Answers.IsOfTables, FolderLoads.AreTablesUnread, FolderLoads.IsLoadedFrom, Stores.Known, Private.Errands.IsErrandFor, Private.Errands.IsReadFrom, declared.commands.Read.Read, declared.errands.ReadFile.ReadFile, declared.failure.Failure.Failure}
+use Rattle.star_cli.proofs.Zips.{zip_on}
+use Rattle.star_cli.specs.Failures.{AreReportsEnded}
+use Rattle.star_cli.specs.Private.Steps.{HasBoth, HasTables, IsKept, IsOneUnread, IsReadFor}
 
--- a task over tables
-abbrev pub IsTabled : Task → Type 0
-IsTabled (Explain path) = ⊥
-IsTabled task = Unit {0}
+-- ---- what is read for a task
 
-of_some : (task : Task) (tables : ReadTables) → IsTabled task → AreWidelyRead tables
-    → AreTablesFor task (Some tables)
-of_some Sample tables is are = are
-of_some (Check folder) tables is are = are
-of_some (Bench folder) tables is are = are
-of_some (Query folder path) tables is are = are
-of_some (Explain path) tables is are = absurd is
-of_some (Exec folder path) tables is are = are
-of_some (Quote folder path) tables is are = are
-of_some (Trial folder path limits) tables is are = are
+module _ (known : Known) (task : Task) (folder : List ℕ) (is_folder : folder_of task ≡ Some folder)
+    (tabled : HasMostRows (Answer task) → IsOfTables task) where
+  tables_read : (read : Read) → HasTables known folder read → IsFileOf known task read.file.items
+      → IsReadFor known task read
+  tables_read read (tables, same, given) file =
+      (given.0, rw is_folder given.1, file, rw same (given.2, tabled))
 
-pub tables_for : {E : Type 0} (task : Task) (result : Result Read E) → IsTabled task
-    → IfOk result HasTables → IfOk result (λ read. AreTablesFor task read.tables)
-tables_for task (Ok read) is (tables, same, are) =
-    subst (AreTablesFor task) (sym same) (of_some task tables is are)
-tables_for task (Err failure) is has = tt
+  pub folder_for : (result : Result Read Failure) → path_of task ≡ None
+      → MatchResult result (HasTables known folder) (AreTablesUnread known folder)
+      → MatchResult result (IsReadFor known task) (IsTaskUnread known task)
+  folder_for (Ok read) no_path has = tables_read read has (rw no_path tt)
+  folder_for (Err failure) no_path unread = inr (inr ([], rw no_path tt, folder, is_folder, unread))
 
-pub of_tables : (task : Task) (tables : ReadTables) → AreTablesFor task (Some tables)
-    → HasMostRows (Answer task) → AreWidelyRead tables × IsOfTables task
-of_tables Sample tables are rows = (are, tt)
-of_tables (Check folder) tables are rows = (are, tt)
-of_tables (Bench folder) tables are rows = (are, tt)
-of_tables (Query folder path) tables are rows = (are, tt)
-of_tables (Explain path) tables are rows = cc
-of_tables (Exec folder path) tables are rows = (are, tt)
-of_tables (Quote folder path) tables are rows = (are, tt)
-of_tables (Trial folder path limits) tables are rows = (are, rows)
+  pub both_for : (path : List ℕ) (result : Result Read Failure) → path_of task ≡ Some path
+      → MatchResult result (HasBoth known folder path) (IsOneUnread known folder path)
+      → MatchResult result (IsReadFor known task) (IsTaskUnread known task)
+  both_for path (Ok read) is_path (has, file) = tables_read read has (rw is_path file)
+  both_for path (Err failure) is_path (inl unread) = inr (inl (path, is_path, unread))
+  both_for path (Err failure) is_path (inr (file, given, unread)) =
+      inr (inr (file, rw is_path given, folder, is_folder, unread))
 
-pub widely : (task : Task) (tables : ReadTables) → AreTablesFor task (Some tables)
-    → AreWidelyRead tables
-widely Sample tables are = are
-widely (Check folder) tables are = are
-widely (Bench folder) tables are = are
-widely (Query folder path) tables are = are
-widely (Explain path) tables are = cc
-widely (Exec folder path) tables are = are
-widely (Quote folder path) tables are = are
-widely (Trial folder path limits) tables are = are
-
-pub explained : (task : Task) → AreTablesFor task None
-    → (path : Bor (List ℕ)) × (task ≡ Explain path)
-explained (Explain path) are = (path, refl)
-explained Sample are = absurd are
-explained (Check folder) are = absurd are
-explained (Bench folder) are = absurd are
-explained (Query folder path) are = absurd are
-explained (Exec folder path) are = absurd are
-explained (Quote folder path) are = absurd are
-explained (Trial folder path limits) are = absurd are
+-- ---- standard input
 
 pub no_bytes_before : (known : Option (List ℕ)) → prepend_known [] known ≡ known
 no_bytes_before None = refl
@@ -93,15 +64,15 @@ module _ {S E : Type 0} (of_out : S → Option (List ℕ)) (out_failed : S → B
       (subst (λ e. IsHeld loaded input (change of_out out_failed out1 out2)
       (change of_err err_failed e err2) status) still is)
 
-  pub done_after : (K : Type 0) (is_quote : Bool)
-      → AreReportsDone K is_quote (change of_out out_failed out1 out2)
+  pub done_after : (K : Type 0) (known : Known) (asked : Reports)
+      → AreReportsDone K known asked (change of_out out_failed out1 out2)
       (change of_err err_failed err1 err2) status
-      → AreReportsDone K is_quote (change of_out out_failed out0 out2)
+      → AreReportsDone K known asked (change of_out out_failed out0 out2)
       (change of_err err_failed err0 err2) status
-  done_after K is_quote is =
-      subst (λ o. AreReportsDone K is_quote (change of_out out_failed o out2)
+  done_after K known asked is =
+      subst (λ o. AreReportsDone K known asked (change of_out out_failed o out2)
       (change of_err err_failed err0 err2) status) same
-      (subst (λ e. AreReportsDone K is_quote (change of_out out_failed out1 out2)
+      (subst (λ e. AreReportsDone K known asked (change of_out out_failed out1 out2)
       (change of_err err_failed e err2) status) still is)
 
 pub held : {S E : Type 0} (out : Change S) (err : Change E) (status : ℕ) (loaded : Loaded)
@@ -120,16 +91,32 @@ held out err status loaded input old left failed same is =
 
 -- ---- reports
 
+errand_at : (known : Known) (path : Bor (List ℕ)) (file : ReadFile) (errand : Errand)
+    → IsReadFrom known path file → IsErrandFor file errand → IsErrandAt known path errand
+errand_at known path file errand read is = record {
+  file = rw is.bytes read.bytes;
+  asks = rw is.bytes read.asks;
+  name = rw is.name read.name;
+}
+
 pub reports_by : {S E : Type 0} (K : Type 0) (out : Change S) (err : Change E) (status : ℕ)
-    (is_quote : Bool) (errands : List Errand) (loaded : Loaded) (result : Result Bool Halt) (told : S)
-    → IsWidest loaded
+    (known : Known) (asked : Reports) (files : List ReadFile) (errands : List Errand) (loaded : Loaded)
+    (result : Result Bool Halt) (told : S) (is_quote : Bool) → asked.is_quote ≡ is_quote
+    → AllZip (IsReadFrom known) asked.files.items files → AllZip IsErrandFor files errands
+    → IsLoadedFrom known asked.folder.now loaded
     → (is_quote ≡ true → AreAllJudged loaded errands (record out { new = told }) result)
     → (is_quote ≡ false → IsKept {K = K} (λ shelf. AreAllDelivered loaded errands shelf
     (record out { new = told }) result))
     → AreReportsEnded (record out { old = told }) err result status
-    → AreReportsDone K is_quote out err status
-reports_by K out err status true errands loaded result told widest judged kept ended =
-    reports_quoted errands loaded result told refl widest (judged refl) ended
-reports_by K out err status false errands loaded result told widest judged kept ended =
-    let (shelf, are) = kept refl in
-    reports_made errands loaded shelf result told refl widest are ended
+    → AreReportsDone K known asked out err status
+reports_by K out err status known asked files errands loaded result told true same read are from
+    judged kept ended =
+    reports_quoted errands loaded result told same
+    (zip_on (IsReadFrom known) IsErrandFor (IsErrandAt known) (errand_at known) asked.files.items files
+    errands read are) from (judged refl) ended
+reports_by K out err status known asked files errands loaded result told false same read are from
+    judged kept ended =
+    let (shelf, delivered) = kept refl in
+    reports_made errands loaded shelf result told same
+    (zip_on (IsReadFrom known) IsErrandFor (IsErrandAt known) (errand_at known) asked.files.items files
+    errands read are) from delivered ended

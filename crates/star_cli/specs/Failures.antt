@@ -1,5 +1,5 @@
 -- What keeps a command from an answer, its line, and its exit status.
-use Rattle.std.specs.Prelude.{◌≡◌, ◌==◌, ◌++◌, ◌⊎◌, ℕ, List, Bool, true, false, Option, Some, Result, Ok, Err, IfSome, codes, decimal}
+use Rattle.std.specs.Prelude.{◌≡◌, ◌==◌, ◌++◌, ◌⊎◌, ℕ, List, Bool, true, false, Option, Some, Result, Ok, Err, IfSome, codes, decimal, ⊤}
 use Rattle.std.specs.{Borrow.Bor}
 use Rattle.star_engine.specs.{Answered.Change, Answered.IsUntouched, FaultTexts.engine_fault_text, declared.fault.EngineFault.EngineFault}
 use Rattle.star_service.specs.{Lines.IsTextTold, Lines.fault_status, Names.printed_name, declared.reports.Halt.Halt}
@@ -48,6 +48,14 @@ status_of (OfFile path fault) = fault_status fault
 status_of (Unkept name sent) = 6
 status_of (Unwritten sent) = 6
 status_of OutOfMemory = 7
+
+-- ---- failures to read
+
+-- the file at a path can't be read, or memory runs out
+abbrev pub IsUnread : (path : List ℕ) → Failure → Type 0
+IsUnread path (File name) = name.now ≡ path
+IsUnread path OutOfMemory = ⊤
+IsUnread path failure = ⊥
 
 -- ---- printing it
 

@@ -1,22 +1,61 @@
--- The result of a folder's load: tables, or the printed failure.
-use Rattle.std.specs.Prelude.{◌≡◌, ◌⊎◌, ℕ}
-use Rattle.star_schema.specs.{Most.most_rows, Most.most_visits, Database.Database, Database.TableTexts, Loadable.IsLoadable, Loadable.database_of}
-use Rattle.star_engine.specs.{declared.fault.EngineFault.EngineFault, Answered.Change, Answered.IsUntouched, Loads.Loaded}
-use Rattle.star_cli.specs.{declared.failure.Failure.Failure, Failures.IsFailureTold}
+-- The tables of a folder are loaded, or the reason why not is printed.
+use Rattle.std.specs.Prelude.{◌≡◌, ◌⊎◌, ◌≤◌, ◌+◌, ⊤, ℕ, List, [], None, length}
+use Rattle.star_schema.specs.declared.table.TableId.TheVariants.{Date, Customer, Supplier, Part, Lineorder}
+use Rattle.star_schema.specs.{Most.most_rows, Most.most_visits, Database.TableTexts, Loadable.IsLoadable, declared.table.TableId.TableId}
+use Rattle.star_words.specs.declared.fault.WordsFault.TheVariants.{EmptyFolder}
+use Rattle.star_engine.specs.{declared.fault.EngineFault.EngineFault, Answered.Change, Answered.IsUntouched, Answered.OrMemory, Loads.IsUnloaded, Loads.Loaded, Loads.loaded_of}
 use Rattle.star_service.specs.Lines.{IsFaultTold}
+use Rattle.star_cli.specs.declared.failure.Failure.TheVariants as failures
+use Rattle.star_cli.specs.{Failures.IsFailureTold, Stores.ArePartsFrom, Stores.AreTablesIn, Stores.IsAt, Stores.IsTextIn, Stores.Known, Stores.path_in, Stores.table_name, declared.failure.Failure.Failure}
 
--- the rows of five texts that can be loaded
-abbrev pub AreLoadableRows : Database → Type 0
-AreLoadableRows database =
-    (texts : TableTexts) × IsLoadable most_rows texts × (database ≡ database_of texts)
+-- ---- files that can't be read
 
--- an engine over such rows, under the widest limits
-abbrev pub IsWidest : Loaded → Type 0
-IsWidest loaded = AreLoadableRows loaded.database × (loaded.rows ≡ most_rows)
-    × (loaded.visits ≡ most_visits)
+-- a table is there
+abbrev pub IsThere : Known → (folder : List ℕ) → TableId → Type 0
+IsThere known folder table = (text : List (List ℕ)) × IsTextIn known folder table text
 
--- a failure to read them, or a fault of theirs, is printed with its status
-abbrev pub IsFolderRefused : {S E : Type 0} → Change S → Change E → ℕ → Type 0
-IsFolderRefused out err status =
-    ((failure : Failure) × IsFailureTold failure out err status)
-    ⊎ (IsUntouched out × ((fault : EngineFault) × IsFaultTold err fault status))
+-- the tables before this one are
+abbrev pub AreBefore : Known → (folder : List ℕ) → TableId → Type 0
+AreBefore known folder Date = ⊤
+AreBefore known folder Customer = IsThere known folder Date
+AreBefore known folder Supplier = IsThere known folder Date × IsThere known folder Customer
+AreBefore known folder Part = IsThere known folder Date × IsThere known folder Customer
+    × IsThere known folder Supplier
+AreBefore known folder Lineorder = IsThere known folder Date × IsThere known folder Customer
+    × IsThere known folder Supplier × IsThere known folder Part
+
+-- the parts of lineorder before this number are there
+abbrev pub ArePartsUpTo : Known → (folder : List ℕ) → (number : ℕ) → Type 0
+ArePartsUpTo known folder number = (parts : List (List ℕ)) × ArePartsFrom known folder 1 parts
+    × (length parts + 1 ≡ number) × (number ≤ 1001)
+
+-- the first file of the tables that can't be read; or memory runs out
+abbrev pub AreTablesUnread : Known → (folder : List ℕ) → Failure → Type 0
+AreTablesUnread known folder (failures.File name) =
+    (table : TableId) × (name.now ≡ table_name table) × AreBefore known folder table
+AreTablesUnread known folder (failures.Part number) =
+    IsAt known (path_in folder (table_name Lineorder)) None × ArePartsUpTo known folder number
+    × AreBefore known folder Lineorder
+AreTablesUnread known folder failures.OutOfMemory = ⊤
+AreTablesUnread known folder failure = ⊥
+
+-- the tables of a folder can't be read; a folder has a name
+abbrev pub IsFolderUnread : Known → (folder : List ℕ) → Failure → Type 0
+IsFolderUnread known folder (failures.Words EmptyFolder) = folder ≡ []
+IsFolderUnread known folder failure = AreTablesUnread known folder failure
+
+-- ---- a load
+
+-- an engine over the tables of a folder, under the widest limits
+abbrev pub IsLoadedFrom : Known → (folder : List ℕ) → Loaded → Type 0
+IsLoadedFrom known folder loaded = (texts : TableTexts) × AreTablesIn known folder texts
+    × IsLoadable most_rows texts × (loaded ≡ loaded_of most_rows most_visits texts)
+
+-- the failure to read them, or their first fault, is printed with its status
+abbrev pub IsFolderRefused : {S E : Type 0} → Known → (folder : List ℕ) → Change S → Change E → ℕ
+    → Type 0
+IsFolderRefused known folder out err status =
+    ((failure : Failure) × IsFolderUnread known folder failure × IsFailureTold failure out err status)
+    ⊎ (IsUntouched out × (texts : TableTexts) × AreTablesIn known folder texts
+    × (fault : EngineFault) × OrMemory (IsUnloaded most_rows texts) fault
+    × IsFaultTold err fault status)

@@ -4,3 +4,4 @@ pub mod Failures
 pub mod FolderLoads
 pub mod Private
 pub mod ReadFolders
+pub mod Stores

@@ -1,15 +1,15 @@
 // The commands of the program.
 
-ghost use Rattle.std.specs.Prelude.{◌≡◌, true, false, IfOk, IfSome, map, string_bytes};
+ghost use Rattle.std.specs.Prelude.{◌≡◌, ◌⊎◌, true, false, IfErr, IfOk, MatchResult, map, string_bytes};
+ghost use Rattle.std.specs.List.{AllZip};
+ghost use Rattle.star_schema.specs.Database.{TableTexts};
+ghost use Rattle.star_words.specs.{Requests.HasMostRows, declared.request.Request.TheVariants.Answer};
 ghost use Rattle.star_engine.specs.Answered.{change};
 ghost use Rattle.star_service.specs.Reports.{AreAllDelivered, AreAllJudged};
+ghost use Rattle.star_cli.specs.Commands.{AreReportsDone, IsCommandDone, IsHeld, IsOneRefused, IsSessionDone, IsTaskDone, IsTaskUnread};
+ghost use Rattle.star_cli.specs.Private.Steps.{AreTablesFor, HasBoth, HasTables, IsKept, IsOneUnread, IsReadFor};
+ghost use Rattle.star_cli.specs.{Private.Errands.IsReadFrom, Answers.IsExitOf, Failures.IsUnread, FolderLoads.AreTablesUnread, FolderLoads.IsLoadedFrom, declared.directory.Directory.Directory};
 ghost use Rattle.star_cli.specs.Commands as spec;
-ghost use Rattle.star_cli.specs.Commands.{AreReportsDone, IsCommandDone, IsHeld, IsSessionDone, IsTaskDone};
-ghost use Rattle.star_cli.specs.FolderLoads.{IsWidest};
-ghost use Rattle.star_cli.specs.Private.Steps.{AreTablesFor, HasTables, IsKept};
-ghost use Rattle.star_cli.specs.declared.directory.Directory.{Directory};
-ghost use Rattle.star_words.specs.Requests.{HasMostRows};
-ghost use Rattle.star_words.specs.declared.request.Request.TheVariants.{Answer};
 
 use crate::answers::{answer, explain};
 use crate::directory::Directory;
@@ -20,6 +20,7 @@ use crate::input::StandardInput;
 use crate::loads::load_engine;
 use crate::partials::{make_partials, merge_partials};
 use crate::progress::Watch;
+use crate::store::Store;
 use star_common::{Out, Sink};
 use star_engine::{Engine, ReadTables};
 use star_service::{Errand, Halt, deliver_all, hold, judge_all, tell};
@@ -27,7 +28,7 @@ use star_statements::Source;
 use star_words::{Reports, Request, Task, WordsFault, request_of};
 use std::alloc::{AllocError, Global};
 use std::io::{BufReader, Write};
-use std::rt::{Env, Files};
+use std::rt::Env;
 use std::{env, io};
 
 // The input of a task: the tables of a folder, and a file.
@@ -38,12 +39,13 @@ struct Read {
 }
 
 // Reads the tables of a folder.
-fn read_folder<R: Files + AllocGlobal, P: Watch>(
+fn read_folder<R: Store + AllocGlobal, P: Watch>(
     rt: &R,
     folder: &str,
     progress: &mut P,
 ) -> Result<Read, Failure<'static>>
-    ensures { IfOk result HasTables }
+    ensures { MatchResult result (HasTables (R.known rt.now) folder.now)
+        (AreTablesUnread (R.known rt.now) folder.now) }
 {
     Ok(Read {
         tables: Some(read_tables(rt, folder, progress)?),
@@ -52,13 +54,14 @@ fn read_folder<R: Files + AllocGlobal, P: Watch>(
 }
 
 // Reads a file, and then the tables of a folder.
-fn read_both<'a, R: Files + AllocGlobal, P: Watch>(
+fn read_both<'a, R: Store + AllocGlobal, P: Watch>(
     rt: &R,
     folder: &str,
     file: &'a str,
     progress: &mut P,
 ) -> Result<Read, Failure<'a>>
-    ensures { IfOk result HasTables }
+    ensures { MatchResult result (HasBoth (R.known rt.now) folder.now file.now)
+        (IsOneUnread (R.known rt.now) folder.now file.now) }
 {
     let file = read_file(rt, file)?;
     Ok(Read {
@@ -68,12 +71,13 @@ fn read_both<'a, R: Files + AllocGlobal, P: Watch>(
 }
 
 // Reads what a task is about: its file first, and then its tables.
-fn read_for<'a, R: Files + AllocGlobal, P: Watch>(
+fn read_for<'a, R: Store + AllocGlobal, P: Watch>(
     rt: &R,
     task: Task<'a>,
     progress: &mut P,
 ) -> Result<Read, Failure<'a>>
-    ensures { IfOk result (λ read. AreTablesFor task.entry read.tables) }
+    ensures { MatchResult result (IsReadFor (R.known rt.now) task.entry)
+        (IsTaskUnread (R.known rt.now) task.entry) }
 {
     match task {
         Task::Sample => Ok(Read {
@@ -101,8 +105,9 @@ fn answer_over<S: Sink, E: Sink>(
     out: &mut S,
     err: &mut E,
 ) -> u8
-    requires { AreTablesFor task read.tables }
-    ensures { HasMostRows (Answer task.entry) → IsTaskDone task.entry
+    requires { (texts : TableTexts) × AreTablesFor task texts read.tables }
+    ensures { (texts : TableTexts) → AreTablesFor task.entry texts read.tables
+        → HasMostRows (Answer task.entry) → IsExitOf task.entry texts read.file.items
         (change S.contents S.is_failed out.old out.new)
         (change E.contents E.is_failed err.old err.new) result }
 {
@@ -114,14 +119,14 @@ fn answer_over<S: Sink, E: Sink>(
 }
 
 // Answers a task.
-fn answer_task<R: Files + AllocGlobal, P: Watch, S: Sink, E: Sink>(
+fn answer_task<R: Store + AllocGlobal, P: Watch, S: Sink, E: Sink>(
     rt: &R,
     task: Task<'_>,
     progress: &mut P,
     out: &mut S,
     err: &mut E,
 ) -> u8
-    ensures { HasMostRows (Answer task.entry) → IsTaskDone task.entry
+    ensures { HasMostRows (Answer task.entry) → IsTaskDone (R.known rt.now) task.entry
         (change S.contents S.is_failed out.old out.new)
         (change E.contents E.is_failed err.old err.new) result }
 {
@@ -172,7 +177,7 @@ fn greeting_of(is_terminal: bool) -> &'static str
 }
 
 // Holds a session over the tables of a folder.
-fn hold_session<R: Files + AllocGlobal, I: io::Read + Drop, P: Watch, S: Sink, E: Sink>(
+fn hold_session<R: Store + AllocGlobal, I: io::Read + Drop, P: Watch, S: Sink, E: Sink>(
     rt: &R,
     folder: &str,
     input: StandardInput<I>,
@@ -180,7 +185,8 @@ fn hold_session<R: Files + AllocGlobal, I: io::Read + Drop, P: Watch, S: Sink, E
     out: &mut S,
     err: &mut E,
 ) -> u8
-    ensures { IsSessionDone (spec.input_of (I.remaining input.reader) input.is_terminal)
+    ensures { IsSessionDone (R.known rt.now) folder.now
+        (spec.input_of (I.remaining input.reader) input.is_terminal)
         (change S.contents S.is_failed out.old out.new)
         (change E.contents E.is_failed err.old err.new) result }
 {
@@ -193,7 +199,7 @@ fn hold_session<R: Files + AllocGlobal, I: io::Read + Drop, P: Watch, S: Sink, E
 
 // Makes the reports of files over loaded tables; or, if quotes are asked for, runs none and prints
 // their forecasts. Returns whether none was refused.
-fn report_over<'f, R: Files + AllocGlobal, S: Sink>(
+fn report_over<'f, R: Store + AllocGlobal, S: Sink>(
     rt: &R,
     engine: &Engine,
     asked: &Reports<'_>,
@@ -219,7 +225,7 @@ fn report_over<'f, R: Files + AllocGlobal, S: Sink>(
 }
 
 // Makes the reports of files over loaded tables, and returns the exit status.
-fn report_loaded<R: Files + AllocGlobal, S: Sink, E: Sink>(
+fn report_loaded<R: Store + AllocGlobal, S: Sink, E: Sink>(
     rt: &R,
     engine: &Engine,
     asked: &Reports<'_>,
@@ -227,7 +233,9 @@ fn report_loaded<R: Files + AllocGlobal, S: Sink, E: Sink>(
     out: &mut S,
     err: &mut E,
 ) -> u8
-    ensures { IsWidest engine.now → AreReportsDone (Directory R) asked.now.is_quote
+    ensures { AllZip (IsReadFrom (R.known rt.now)) asked.now.files.items files.now
+        → IsLoadedFrom (R.known rt.now) asked.now.folder.now engine.now
+        → AreReportsDone (Directory R) (R.known rt.now) asked.now
         (change S.contents S.is_failed out.old out.new)
         (change E.contents E.is_failed err.old err.new) result }
 {
@@ -241,7 +249,7 @@ fn report_loaded<R: Files + AllocGlobal, S: Sink, E: Sink>(
 }
 
 // Loads the tables, makes the reports of files that were read, and returns the exit status.
-fn report_read<R: Files + AllocGlobal, P: Watch, S: Sink, E: Sink>(
+fn report_read<R: Store + AllocGlobal, P: Watch, S: Sink, E: Sink>(
     rt: &R,
     asked: &Reports<'_>,
     files: &[ReadFile<'_>],
@@ -249,7 +257,8 @@ fn report_read<R: Files + AllocGlobal, P: Watch, S: Sink, E: Sink>(
     out: &mut S,
     err: &mut E,
 ) -> u8
-    ensures { AreReportsDone (Directory R) asked.now.is_quote
+    ensures { AllZip (IsReadFrom (R.known rt.now)) asked.now.files.items files.now
+        → AreReportsDone (Directory R) (R.known rt.now) asked.now
         (change S.contents S.is_failed out.old out.new)
         (change E.contents E.is_failed err.old err.new) result }
 {
@@ -260,24 +269,30 @@ fn report_read<R: Files + AllocGlobal, P: Watch, S: Sink, E: Sink>(
 }
 
 // Reads the files that reports are asked of, and sees to it that there is a folder for the reports.
-fn ready<'a, R: Files + AllocGlobal>(
+fn ready<'a, R: Store + AllocGlobal>(
     rt: &R,
     asked: &Reports<'a>,
-) -> Result<Vec<ReadFile<'a>>, Failure<'a>> {
+) -> Result<Vec<ReadFile<'a>>, Failure<'a>>
+    ensures read { IfOk result
+        (λ files. AllZip (IsReadFrom (R.known rt.now)) asked.now.files.items files.items) }
+    ensures refused { IfErr result (λ failure.
+        IsOneRefused (R.known rt.now) asked.now.files.items failure
+        ⊎ IsUnread asked.now.target.now failure) }
+{
     let files = read_files(rt, asked.files.as_slice())?;
     find_folder(rt, asked.target)?;
     Ok(files)
 }
 
 // Makes the reports or forecasts of files: before any table is read, all of them are.
-fn make_reports<R: Files + AllocGlobal, P: Watch, S: Sink, E: Sink>(
+fn make_reports<R: Store + AllocGlobal, P: Watch, S: Sink, E: Sink>(
     rt: &R,
     asked: &Reports<'_>,
     progress: &mut P,
     out: &mut S,
     err: &mut E,
 ) -> u8
-    ensures { AreReportsDone (Directory R) asked.now.is_quote
+    ensures { AreReportsDone (Directory R) (R.known rt.now) asked.now
         (change S.contents S.is_failed out.old out.new)
         (change E.contents E.is_failed err.old err.new) result }
 {
@@ -302,7 +317,7 @@ fn make_reports<R: Files + AllocGlobal, P: Watch, S: Sink, E: Sink>(
 ///
 /// Only a session reads from `input`. `progress` is shown how far the table files are read, before
 /// any other output but the first line of a session.
-pub fn command<R: Files + AllocGlobal, I: io::Read + Drop, P: Watch, S: Sink, E: Sink>(
+pub fn command<R: Store + AllocGlobal, I: io::Read + Drop, P: Watch, S: Sink, E: Sink>(
     rt: &R,
     words: &[String],
     input: StandardInput<I>,
@@ -310,7 +325,7 @@ pub fn command<R: Files + AllocGlobal, I: io::Read + Drop, P: Watch, S: Sink, E:
     out: &mut S,
     err: &mut E,
 ) -> u8
-    ensures { IsCommandDone (Directory R) (map string_bytes words.now)
+    ensures { IsCommandDone (Directory R) (R.known rt.now) (map string_bytes words.now)
         (spec.input_of (I.remaining input.reader) input.is_terminal)
         (change S.contents S.is_failed out.old out.new)
         (change E.contents E.is_failed err.old err.new) result }
@@ -330,7 +345,7 @@ pub fn command<R: Files + AllocGlobal, I: io::Read + Drop, P: Watch, S: Sink, E:
 
 /// Carries out the request of the arguments `words` over two writers, as `command` does over sinks, and
 /// returns its exit status.
-pub fn command_to<R: Files + AllocGlobal, I: io::Read + Drop, P: Watch, W: Write, E: Write>(
+pub fn command_to<R: Store + AllocGlobal, I: io::Read + Drop, P: Watch, W: Write, E: Write>(
     rt: &R,
     words: &[String],
     input: StandardInput<I>,
@@ -362,7 +377,7 @@ fn failure_of_words(error: &io::Error) -> Failure<'static> {
 
 /// Carries out the request of the program's own command line, and returns the exit status of
 /// `command`; 2 also if an argument is not UTF-8.
-pub fn run<R: Env + Files + AllocGlobal, I: io::Read + Drop, P: Watch, W: Write, E: Write>(
+pub fn run<R: Env + Store + AllocGlobal, I: io::Read + Drop, P: Watch, W: Write, E: Write>(
     rt: &R,
     input: StandardInput<I>,
     progress: &mut P,

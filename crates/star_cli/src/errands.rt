@@ -1,14 +1,17 @@
 // The files of reports: each with the name of its report, read and checked before any table.
 
-ghost use Rattle.std.specs.{Prelude.◌≡◌, Option.option_copied, Path.path_file_stem};
+ghost use Rattle.std.specs.Prelude.{◌≡◌, ◌++◌, ◌∷◌, [], IfErr, IfOk, OnOk};
+ghost use Rattle.std.specs.{List.AllZip, Option.option_copied, Path.path_file_stem};
+ghost use Rattle.star_cli.specs.{Commands.IsOneRefused, Commands.IsPathRefused, Stores.Known};
+ghost use Rattle.star_cli.specs.Private.Errands.{IsErrandFor, IsReadFrom};
 
 use crate::failure::Failure;
 use crate::files::read_file;
+use crate::store::Store;
 use star_engine::Question;
 use star_service::Errand;
 use std::alloc::{AllocError, Global};
 use std::path::Path;
-use std::rt::Files;
 
 /// A file that was read and that is a query or a program, with the name of its report.
 #[derive(Drop)]
@@ -18,7 +21,9 @@ pub(crate) struct ReadFile<'a> {
 }
 
 impl<'a> ReadFile<'a> {
-    fn errand(&self) -> Errand<'_> {
+    fn errand(&self) -> Errand<'_>
+        ensures { IsErrandFor self.now result }
+    {
         Errand {
             name: self.name,
             file: self.bytes.as_slice(),
@@ -38,7 +43,9 @@ fn is_taken(names: &[&str], name: &str) -> bool {
     names.iter().any(|taken| *taken == name)
 }
 
-fn add_name<'a>(names: &mut Vec<&'a str>, path: &'a str) -> Result<(), Failure<'a>> {
+fn add_name<'a>(names: &mut Vec<&'a str>, path: &'a str) -> Result<(), Failure<'a>>
+    ensures { (known : Known) → IfErr result (IsPathRefused known path.entry) }
+{
     let Some(name) = name_of(path) else {
         return Err(Failure::Unnamed(path));
     };
@@ -49,21 +56,28 @@ fn add_name<'a>(names: &mut Vec<&'a str>, path: &'a str) -> Result<(), Failure<'
     Ok(())
 }
 
-// The names of the reports of some files. No two of them are the same.
-fn names_of<'a>(alloc: Global, paths: &[&'a str]) -> Result<Vec<&'a str>, Failure<'a>> {
+// Checks that no two files have reports of one name.
+fn check_names<'a>(alloc: Global, paths: &[&'a str]) -> Result<(), Failure<'a>>
+    ensures { (known : Known) → IfErr result (IsOneRefused known paths.now) }
+{
     let mut names = Vec::new(alloc);
     for path in paths {
         add_name(&mut names, path)?;
     }
-    Ok(names)
+    Ok(())
 }
 
 // Reads a file, and checks that it is a query or a program.
-fn read_checked<'a, R: Files + AllocGlobal>(
+fn read_checked<'a, R: Store + AllocGlobal>(
     rt: &R,
     path: &'a str,
-    name: &'a str,
-) -> Result<ReadFile<'a>, Failure<'a>> {
+) -> Result<ReadFile<'a>, Failure<'a>>
+    ensures read { IfOk result (IsReadFrom (R.known rt.now) path.entry) }
+    ensures refused { IfErr result (IsPathRefused (R.known rt.now) path.entry) }
+{
+    let Some(name) = name_of(path) else {
+        return Err(Failure::Unnamed(path));
+    };
     let bytes = read_file(rt, path)?;
     match Question::of_file(rt.alloc(), bytes.as_slice()) {
         Ok(_) => Ok(ReadFile { name, bytes }),
@@ -71,25 +85,43 @@ fn read_checked<'a, R: Files + AllocGlobal>(
     }
 }
 
-/// Reads the files at some paths, and checks that each is a query or a program; or returns the
-/// first that is none. Before any is read it checks that no two of their reports have one name.
-pub(crate) fn read_files<'a, R: Files + AllocGlobal>(
+// Adds a file.
+fn keep<'a>(files: &mut Vec<ReadFile<'a>>, file: ReadFile<'a>) -> Result<(), AllocError>
+    ensures { OnOk result (files.new.items ≡ files.old.items ++ file.entry ∷ []) }
+{
+    files.push(file)?;
+    Ok(())
+}
+
+/// Reads the files at some paths, and checks that each is a query or a program. The first failure is
+/// returned. Before any file is read, the names of the reports are checked: no two are the same.
+pub(crate) fn read_files<'a, R: Store + AllocGlobal>(
     rt: &R,
     paths: &[&'a str],
-) -> Result<Vec<ReadFile<'a>>, Failure<'a>> {
-    let names = names_of(rt.alloc(), paths)?;
+) -> Result<Vec<ReadFile<'a>>, Failure<'a>>
+    ensures read { IfOk result
+        (λ files. AllZip (IsReadFrom (R.known rt.now)) paths.now files.items) }
+    ensures refused { IfErr result (IsOneRefused (R.known rt.now) paths.now) }
+{
+    check_names(rt.alloc(), paths)?;
     let mut files = Vec::new(rt.alloc());
-    for (path, name) in paths.iter().zip(names.iter()) {
-        let file = read_checked(rt, path, name)?;
-        files.push(file).map_err(AllocError::from)?;
+    for path in paths {
+        let file = read_checked(rt, path)?;
+        keep(&mut files, file)?;
     }
     Ok(files)
 }
 
-/// The job of each of these files.
+/// Returns the errands of some files.
 pub(crate) fn errands_of<'f>(
     alloc: Global,
     files: &'f [ReadFile<'_>],
-) -> Result<Vec<Errand<'f>>, AllocError> {
-    files.iter().map(|file| file.errand()).collect(alloc)
+) -> Result<Vec<Errand<'f>>, AllocError>
+    ensures { IfOk result (λ errands. AllZip IsErrandFor files.now errands.items) }
+{
+    let mut errands = Vec::new(alloc);
+    for file in files {
+        errands.push(file.errand())?;
+    }
+    Ok(errands)
 }

@@ -9,12 +9,15 @@ mod errands;
 mod failure;
 mod files;
 mod input;
+pub mod law;
 mod loads;
 mod partials;
 mod progress;
+mod store;
 
 pub use crate::answers::{answer, explain};
 pub use crate::commands::{command, command_to, run};
 pub use crate::input::StandardInput;
 pub use crate::loads::load_engine;
 pub use crate::progress::{Progress, TableFile, Watch};
+pub use crate::store::Store;

@@ -1,7 +1,7 @@
 // The commands on partials: some are made, or merged.
 
 ghost use Rattle.std.specs.Prelude.{IfOk, IfSome};
-ghost use Rattle.star_cli.specs.FolderLoads.{IsWidest};
+ghost use Rattle.star_cli.specs.Private.Reads.{IsWidest};
 
 use crate::directory::Directory;
 use crate::failure::Failure;
@@ -10,6 +10,7 @@ use crate::files::{
 };
 use crate::loads::engine_of;
 use crate::progress::Watch;
+use crate::store::Store;
 use star_common::Sink;
 use star_engine::{Engine, EngineFault, Question};
 use star_merger::{Merger, Partial, PartialFault, PartialsFault, partial_text, write_partial};
@@ -18,7 +19,6 @@ use star_service::{Shelf, ShelfFault, Shown, tell, tell_fault};
 use star_words::{Merge, Partials};
 use std::alloc::{AllocError, Global};
 use std::fmt;
-use std::rt::Files;
 
 /// The exit status of a fault of a partial.
 const PARTIAL_STATUS: u8 = 8;
@@ -104,7 +104,7 @@ impl<'a> Undone<'a> {
 }
 
 // Reads the files of some partials of a query.
-fn read_partials<'a, R: Files + AllocGlobal>(
+fn read_partials<'a, R: Store + AllocGlobal>(
     rt: &R,
     merger: &Merger,
     paths: &[&'a str],
@@ -151,7 +151,7 @@ fn fault_of_merge<'a>(paths: &[&'a str], fault: PartialsFault) -> Undone<'a> {
 }
 
 // Reads and merges the partials.
-fn merge_read<'a, R: Files + AllocGlobal, S: Sink, E: Sink>(
+fn merge_read<'a, R: Store + AllocGlobal, S: Sink, E: Sink>(
     rt: &R,
     asked: &Merge<'a>,
     out: &mut S,
@@ -176,7 +176,7 @@ fn merge_read<'a, R: Files + AllocGlobal, S: Sink, E: Sink>(
 
 /// Merges the partials of some files, and gives the exit status: those of a query, and 8 for a file
 /// that is not a partial of the query or cannot be merged with the others.
-pub(crate) fn merge_partials<R: Files + AllocGlobal, S: Sink, E: Sink>(
+pub(crate) fn merge_partials<R: Store + AllocGlobal, S: Sink, E: Sink>(
     rt: &R,
     asked: &Merge<'_>,
     out: &mut S,
@@ -189,7 +189,7 @@ pub(crate) fn merge_partials<R: Files + AllocGlobal, S: Sink, E: Sink>(
 }
 
 // Reads and checks the query of the partials, and finds the folder for them.
-fn query_of_partials<'a, R: Files + AllocGlobal>(
+fn query_of_partials<'a, R: Store + AllocGlobal>(
     rt: &R,
     asked: &Partials<'a>,
 ) -> Result<Vec<u8>, Undone<'a>> {
@@ -202,7 +202,7 @@ fn query_of_partials<'a, R: Files + AllocGlobal>(
 }
 
 // Loads a part of lineorder, with the dimensions of a part that was loaded before, if there is one.
-fn load_part<R: Files + AllocGlobal, P: Watch>(
+fn load_part<R: Store + AllocGlobal, P: Watch>(
     rt: &R,
     folder: &str,
     part: u16,
@@ -225,7 +225,7 @@ fn load_part<R: Files + AllocGlobal, P: Watch>(
 }
 
 // Keeps a partial under the name of its part in a folder.
-fn keep_partial<'a, R: Files + AllocGlobal>(
+fn keep_partial<'a, R: Store + AllocGlobal>(
     rt: &R,
     target: &str,
     name: &'a str,
@@ -246,7 +246,7 @@ fn keep_partial<'a, R: Files + AllocGlobal>(
 
 // Keeps the partial of a query over loaded tables under the name of its part, or writes it if there
 // is no folder for it.
-fn deliver_partial<'a, R: Files + AllocGlobal, S: Sink>(
+fn deliver_partial<'a, R: Store + AllocGlobal, S: Sink>(
     rt: &R,
     engine: &Engine,
     file: &[u8],
@@ -265,7 +265,7 @@ fn deliver_partial<'a, R: Files + AllocGlobal, S: Sink>(
 
 // Loads a part of lineorder and makes the partial over it. Returns the loaded tables, or the exit status
 // of what went wrong.
-fn make_partial<R: Files + AllocGlobal, P: Watch, S: Sink, E: Sink>(
+fn make_partial<R: Store + AllocGlobal, P: Watch, S: Sink, E: Sink>(
     rt: &R,
     asked: &Partials<'_>,
     file: &[u8],
@@ -298,7 +298,7 @@ fn make_partial<R: Files + AllocGlobal, P: Watch, S: Sink, E: Sink>(
 
 /// Makes the partials of the query of a file over parts of lineorder, and gives the exit status. The
 /// dimensions are loaded once. The first failure ends it; the partials before it are kept.
-pub(crate) fn make_partials<R: Files + AllocGlobal, P: Watch, S: Sink, E: Sink>(
+pub(crate) fn make_partials<R: Store + AllocGlobal, P: Watch, S: Sink, E: Sink>(
     rt: &R,
     asked: &Partials<'_>,
     progress: &mut P,

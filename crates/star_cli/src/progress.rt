@@ -1,5 +1,8 @@
 // How far the load of a folder is, shown on one line of a terminal.
 
+ghost use Rattle.std.specs.Prelude.{◌≡◌, Some};
+ghost use Rattle.star_cli.specs.Private.Reads.{name_of};
+
 use std::alloc::{AllocError, Global};
 use std::io::{Read, Write};
 use std::rt::Clock;
@@ -27,6 +30,8 @@ pub enum TableFile {
 }
 
 impl fmt::Display for TableFile {
+    ghost output = { λ file. Some (name_of file) };
+
     fn fmt<W: fmt::Write>(&self, f: &mut fmt::Formatter<W>) -> fmt::Result {
         match self {
             TableFile::Named(name) => f.write_str(name),
@@ -172,7 +177,9 @@ impl<'p, F, P> Watched<'p, F, P> {
         file: TableFile,
         size: u64,
         progress: &'p mut P,
-    ) -> Watched<'p, F, P> {
+    ) -> Watched<'p, F, P>
+        ensures { result.reader ≡ reader }
+    {
         Watched {
             reader,
             file,

@@ -1,9 +1,9 @@
 -- What each command asks of the engine, what is told of a fault or a failure and with which status,
 -- and what sessions and reports of files tell: each type is the one on the right.
 use Rattle.std.proofs.Common.{◌≡◌, ◌⊎◌, ◌≤◌, ◌&&◌, ◌↔◌, ℕ, Bool, true, false, List, [], ◌∷◌, Option, Some, None, Result, Ok, Err, arith, inl, inr, refl}
-use Rattle.std.specs.{Prelude.IfOk, Prelude.IsTrue, Prelude.codes, Borrow.Bor}
+use Rattle.std.specs.{Prelude.⊤, Prelude.IfOk, Prelude.IsTrue, Prelude.codes, Borrow.Bor}
 use Rattle.star_common.proofs.Tables.{Gives}
-use Rattle.star_schema.specs.{declared.limits.Limits.Limits, declared.table.TableId.TheVariants.Lineorder, Database.Database, Database.TableTexts, Loadable.IsLoadable, Loadable.database_of, Most.most_rows, Most.most_visits}
+use Rattle.star_schema.specs.{declared.limits.Limits.Limits, declared.table.TableId.TheVariants.Customer, declared.table.TableId.TheVariants.Lineorder, Database.TableTexts, Loadable.IsLoadable, Loadable.database_of, Most.most_rows, Most.most_visits}
 use Rattle.star_plan.specs.declared.fault.PlanFault.TheVariants.{JoinMissing}
 use Rattle.star_program.specs.declared.spelling.fault.TextFault.TheVariants.{BadLine}
 use Rattle.star_catalogue.specs.declared.fault.LoadFault.TheVariants.{DuplicateKey}
@@ -14,7 +14,7 @@ use Rattle.star_statements.specs.{Blanks.without_blanks, Questions.asked_by_text
 use Rattle.star_statements.specs.{declared.sources.ReadFault.TheVariants.OutOfMemory as NoMemory}
 use Rattle.star_engine.specs.declared.fault.EngineFault.TheVariants.{Load, OutOfMemory, Plan, Program, Query, Refused, Trial, Write}
 use Rattle.star_engine.specs.Queries.{IsExplained, IsNoQuery, IsQueryQuote, IsQueryQuoteOver, IsQueryTold, IsQueryToldOver, IsUnanswered, IsUnansweredOver}
-use Rattle.star_engine.specs.{declared.fault.EngineFault.EngineFault, Answered.Change, Answered.HasGained, Answered.HasGainedPart, Answered.IsAnswered, Bench.AllFit, Bench.IsBench, Executions.IsQuoteOf, Executions.IsToldOf, Executions.IsUntold, Loads.IsUnloaded, Loads.Loaded}
+use Rattle.star_engine.specs.{declared.fault.EngineFault.EngineFault, Answered.Change, Answered.HasGained, Answered.HasGainedPart, Answered.IsAnswered, Answered.OrMemory, Bench.AllFit, Bench.IsBench, Executions.IsQuoteOf, Executions.IsToldOf, Executions.IsUntold, Loads.IsUnloaded, Loads.Loaded, Loads.loaded_of}
 use Rattle.star_engine.specs.{Noted.IsNoted, QuoteTexts.IsQuoteTextOver, QuoteTexts.IsUnquotedOver, Tellings.IsJudgedOver}
 use Rattle.star_service.specs.Reports.{AreAllDelivered, AreAllJudged, AreDelivered, AreJudged, IsDelivered, IsJudged, IsJudgedLine, IsRefusedLine, IsReportKept, IsReportUnkept, named_line}
 use Rattle.star_service.specs.Sessions.{AreAllAnswered, AreRounds, IsAnswerTo, IsConversed, IsLineEnded, IsReportEnded, IsReported, IsRound, IsSession, IsSessionEnded, IsStatementUnread, IsStepEnded, IsUnwritten, may_go_on, parting_of}
@@ -22,7 +22,9 @@ use Rattle.star_service.specs.Shelves.{Adds, HasFailedAt, HasKeptNone, IsUnkept,
 use Rattle.star_service.specs.{Lines.IsFaultTold, Lines.IsTextTold, Lines.fault_line, Lines.fault_status, declared.reports.Errand.Errand, declared.reports.Halt.Halt, declared.sessions.Stop.TheVariants.Unread, declared.sessions.Stop.TheVariants.Unwritten}
 use Rattle.star_cli.specs.Answers.{IsBenched, IsEnded, IsExecuted, IsExplanation, IsGivenOf, IsListed, IsListedAndBenched, IsNoneRefused, IsOfTables, IsQueried, IsQuoted, IsTried, none_refused}
 use Rattle.star_cli.specs.Failures.{AreReportsEnded, IsFailureTold, IsTextOf, IsToldOn, failure_of_halt, status_of}
-use Rattle.star_cli.specs.{FolderLoads.AreLoadableRows, FolderLoads.IsFolderRefused, FolderLoads.IsWidest}
+use Rattle.star_cli.specs.FolderLoads.{AreTablesUnread, IsFolderRefused, IsFolderUnread, IsLoadedFrom, IsThere}
+use Rattle.star_cli.specs.Stores.{AreTablesIn, ArePartsFrom, IsAt, IsFile, IsGivenFile, IsTableFile, IsTextIn, IsWhole, AreParts, Known, part_name, path_in, table_name}
+use Rattle.star_cli.specs.declared.failure.Failure.TheVariants as failures
 use Rattle.star_examples.proofs.EngineAnswers.{Answer, Sink, grown, of_load, report, untouched, well}
 use Rattle.star_query.specs.declared.fault.QueryFault.TheVariants as parsing
 use Rattle.star_words.specs.declared.request.Task.TheVariants as task
@@ -67,10 +69,13 @@ module _ {S E : Type 0} (out : Change S) (err : Change E) (text : List ℕ) (sta
       ≡ ((out.new ≡ out.old) × (err.new ≡ err.old) × (status ≡ 1)))
       × (AreReportsEnded out err (Err halt) status
       ≡ IsFailureTold (failure_of_halt halt) out err status)
-      × (IsFolderRefused out err status
-      ≡ (((f : _) × IsFailureTold f out err status)
-      ⊎ ((out.new ≡ out.old) × ((f : EngineFault) × IsFaultTold err f status))))
-  ended = (refl, refl, refl, refl, refl, refl, refl)
+  ended = (refl, refl, refl, refl, refl, refl)
+
+  refused : (known : Known) (folder : List ℕ) → IsFolderRefused known folder out err status
+      ≡ (((f : _) × IsFolderUnread known folder f × IsFailureTold f out err status)
+      ⊎ ((out.new ≡ out.old) × (texts : TableTexts) × AreTablesIn known folder texts
+      × (f : EngineFault) × OrMemory (IsUnloaded most_rows texts) f × IsFaultTold err f status))
+  refused known folder = refl
 
 -- ---- what the engine is asked for, under the widest limits: `query` and `exec` alone write notes
 
@@ -119,15 +124,36 @@ module _ {S : Type 0} (out : Change S) (texts : TableTexts) (result : Result Boo
 
 -- ---- tables: which tasks load some; what a load gives
 
-module _ (folder path : Bor (List ℕ)) (limits : Limits) (loaded : Loaded) (d : Database) where
+module _ (folder path : Bor (List ℕ)) (limits : Limits) (loaded : Loaded) where
   folders : (IsOfTables task.Sample ≡ Unit {0}) × (IsOfTables (task.Explain path) ≡ ⊥)
       × (IsOfTables (task.Bench folder) ≡ Unit {0})
       × (IsOfTables (task.Trial folder path limits) ≡ (limits.rows ≡ most_rows))
-      × (AreLoadableRows d
-      ≡ ((texts : TableTexts) × IsLoadable most_rows texts × (d ≡ database_of texts)))
-      × (IsWidest loaded ≡ (AreLoadableRows loaded.database × (loaded.rows ≡ most_rows)
-      × (loaded.visits ≡ most_visits)))
-  folders = (refl, refl, refl, refl, refl, refl)
+      × ((known : Known) (name : List ℕ) → IsLoadedFrom known name loaded
+      ≡ ((texts : TableTexts) × AreTablesIn known name texts × IsLoadable most_rows texts
+      × (loaded ≡ loaded_of most_rows most_visits texts)))
+  folders = (refl, refl, refl, refl, λ known name. refl)
+
+-- ---- the files of a folder, by name: a table, lineorder's parts in order, the first that is unread
+
+files : Gives (path_in (codes "d")) ((table_name Customer, codes "d/customer.tbl")
+    ∷ (table_name Lineorder, codes "d/lineorder.tbl") ∷ (part_name 12, codes "d/lineorder.tbl.12") ∷ [])
+files = refl
+
+module _ (known : Known) (text : List (List ℕ)) (first second bytes : List ℕ) where
+  texts_in : (IsTextIn known (codes "d") Customer text ≡ IsWhole known (codes "d") Customer text)
+      × (IsTextIn known (codes "d") Lineorder text ≡ (IsWhole known (codes "d") Lineorder text
+      ⊎ (IsAt known (codes "d/lineorder.tbl") None × AreParts known (codes "d") text)))
+      × (ArePartsFrom known (codes "d") 1 (first ∷ second ∷ [])
+      ≡ (IsTableFile known (codes "d") (codes "lineorder.tbl.1") first
+      × (IsTableFile known (codes "d") (codes "lineorder.tbl.2") second × ⊤)))
+      × (IsGivenFile known (codes "q.sql") bytes ≡ IsFile known 16777216 (codes "q.sql") bytes)
+      × (AreTablesUnread known (codes "d") failures.OutOfMemory ≡ ⊤)
+      × (IsFolderUnread known [] (failures.Part 3) ≡ AreTablesUnread known [] (failures.Part 3))
+  texts_in = (refl, refl, refl, refl, refl, refl)
+
+-- a second part is not read as the first
+parts_in_order : ArePartsFrom (λ path. Some None) (codes "d") 1 (codes "7" ∷ []) → ⊥
+parts_in_order ((at, few), more) = cc
 
 -- ---- shelves of reports
 

@@ -4,11 +4,11 @@
 use crate::checks::{check_same, check_text};
 use crate::files::Folder;
 use crate::streams::Short;
-use star_cli::{StandardInput, Watch, command_to};
+use star_cli::{StandardInput, Store, Watch, command_to};
+use star_engine::sample;
 use std::alloc::{AllocError, Global};
 use std::io::Read;
 use std::process::Abort;
-use std::rt::Files;
 use std::test::Fail;
 
 /// How a command ended, and what its two streams took.
@@ -57,7 +57,7 @@ pub(crate) fn owned(alloc: Global, words: &[&str]) -> Result<Vec<String>, AllocE
 }
 
 /// Runs a command that reads an input and reports its load, over two streams that take so many bytes.
-pub(crate) fn run_watched<R: Files + AllocGlobal, I: Read + Drop, P: Watch>(
+pub(crate) fn run_watched<R: Store + AllocGlobal, I: Read + Drop, P: Watch>(
     rt: &R,
     words: &[String],
     input: StandardInput<I>,
@@ -77,7 +77,7 @@ pub(crate) fn run_watched<R: Files + AllocGlobal, I: Read + Drop, P: Watch>(
 }
 
 /// Runs a command that reads no input.
-pub(crate) fn run<R: Files + AllocGlobal>(
+pub(crate) fn run<R: Store + AllocGlobal>(
     rt: &R,
     words: &[&str],
     room: (usize, usize),
@@ -104,10 +104,7 @@ fn a_thousand_parts_are_read(rt: HostRuntime) -> Result<(), Fail> {
         ),
         (1_001, 6, "", "file lineorder.tbl.1001\n"),
     ] {
-        let folder = Folder {
-            parts,
-            ..Folder::sound(rt.alloc())
-        };
+        let folder = Folder::of(rt.alloc(), sample().date, parts)?;
         run(&folder, query, AMPLE)?.check(&rt, status, out, err, "parts")?;
     }
     Ok(())
@@ -115,7 +112,7 @@ fn a_thousand_parts_are_read(rt: HostRuntime) -> Result<(), Fail> {
 
 #[test]
 fn a_thousand_files_are_taken(rt: HostRuntime) -> Result<(), Fail> {
-    let folder = Folder::sound(rt.alloc());
+    let folder = Folder::sound(rt.alloc())?;
     for (count, status, front) in [
         (0, 2, "error: "),
         (1_000, 6, "file 0.sql\n"),
@@ -143,7 +140,7 @@ fn files_are_read_a_few_bytes_at_once(rt: HostRuntime) -> Result<(), Fail> {
     for at_once in [1, 7, usize::MAX] {
         let folder = Folder {
             at_once,
-            ..Folder::sound(rt.alloc())
+            ..Folder::sound(rt.alloc())?
         };
         let notes = "quote 5\nvisits 5 lookups 5 updates 1\n";
         run(&folder, query, AMPLE)?.check(&rt, 0, "revenue\n2000\n", notes, "few bytes")?;
@@ -168,11 +165,10 @@ const LINES: &[(&str, &str)] = &[
 fn check_file_first(rt: &(impl Abort + AllocGlobal), until_failure: usize) -> Result<(), Fail> {
     for (failing, line) in LINES {
         let folder = Folder {
-            date: NO_DATES,
             at_once: 16,
             failing,
             until_failure,
-            ..Folder::sound(rt.alloc())
+            ..Folder::of(rt.alloc(), NO_DATES, 2)?
         };
         run(&folder, ["check", "f"].as_slice(), AMPLE)?.check(rt, 6, "", line, failing)?;
     }
@@ -184,10 +180,7 @@ fn a_failed_read_comes_before_errors_of_contents(rt: HostRuntime) -> Result<(), 
     for until_failure in [0, 1, 8, 40] {
         check_file_first(&rt, until_failure)?;
     }
-    let faulty = Folder {
-        date: NO_DATES,
-        ..Folder::sound(rt.alloc())
-    };
+    let faulty = Folder::of(rt.alloc(), NO_DATES, 2)?;
     let line = "load 4 FieldCount table date record 1\n";
     run(&faulty, ["check", "f"].as_slice(), AMPLE)?.check(&rt, 3, "", line, "the dates")
 }
@@ -207,7 +200,7 @@ const SHORT: &[(&[&str], usize, usize, u8, &str)] = &[
 
 #[test]
 fn the_status_stays_if_streams_fail(rt: HostRuntime) -> Result<(), Fail> {
-    let folder = Folder::sound(rt.alloc());
+    let folder = Folder::sound(rt.alloc())?;
     for (words, out, err, status, line) in SHORT {
         let ran = run(&folder, words, (*out, *err))?;
         check_text(ran.err.as_slice(), line, "short streams")?;
@@ -231,7 +224,7 @@ const NAMES: &[(&str, &str)] = &[
 
 #[test]
 fn a_file_is_named_on_one_line(rt: HostRuntime) -> Result<(), Fail> {
-    let folder = Folder::sound(rt.alloc());
+    let folder = Folder::sound(rt.alloc())?;
     for (name, line) in NAMES {
         let ran = run(&folder, ["trial", "none", *name, "1"].as_slice(), AMPLE)?;
         ran.check(&rt, 6, "", line, name)?;

@@ -1,22 +1,33 @@
 // A folder in memory, whose files give few bytes at once, or fail in the middle.
 
+ghost use Rattle.std.specs.Prelude.{◌≡◌, Some, option_map};
+ghost use Rattle.std.specs.Option.{option_copied};
+ghost use Rattle.star_library_tests.specs.Folders.{bytes_at};
+
 use crate::checks::ABOVE_AVERAGE;
 use crate::streams::Choppy;
-use star_engine::{BenchmarkQuery, sample};
-use std::alloc::{Allocator, Global};
+use star_cli::Store;
+use star_engine::{BenchmarkQuery, FileFault, sample};
+use std::alloc::{AllocError, Allocator, Global};
 use std::fs::{Files, Metadata, OpenFile, OpenOptions};
 use std::io;
 use std::io::{Read, Seek, SeekFrom, Write};
+
+/// A file of a folder.
+#[derive(Drop)]
+pub(crate) struct Kept {
+    path: String,
+    bytes: &'static [u8],
+}
 
 /// The sample in a folder `f`, with lineorder in parts: the first has two lines, the last three,
 /// and those between none. The folder also has a query, `q.sql`, and a program, `p.star`. A read
 /// gives at most `at_once` bytes, and one of the file at the path `failing` fails once
 /// `until_failure` bytes of it have come.
-#[derive(Clone, Copy)]
+#[derive(Drop)]
 pub(crate) struct Folder {
     pub(crate) alloc: Global,
-    pub(crate) date: &'static [u8],
-    pub(crate) parts: u16,
+    pub(crate) files: Vec<Kept>,
     pub(crate) at_once: usize,
     pub(crate) failing: &'static str,
     pub(crate) until_failure: usize,
@@ -33,42 +44,85 @@ pub(crate) const THREE: &[u8] = b"\
     3|1|3|3|2|19971215|1-URGENT|0|50|3000|3700|0|3000|1000|8|19971215|TRUCK|\n\
     3|2|1|2|1|19971215|1-URGENT|0|1|700|3700|10|630|100|1|19971215|AIR|\n";
 
+// The bytes of the file at a path, if there is one.
+fn bytes_at(files: &[Kept], path: &str) -> Option<&'static [u8]>
+    ensures { option_copied result ≡ bytes_at files.now path.now }
+{
+    for file in files {
+        if file.path.as_str() == path {
+            return Some(file.bytes);
+        }
+    }
+    None
+}
+
+// Adds a file.
+fn keep(files: &mut Vec<Kept>, path: String, bytes: &'static [u8]) -> Result<(), AllocError> {
+    files.push(Kept { path, bytes })?;
+    Ok(())
+}
+
+// Adds the parts of lineorder.
+fn keep_parts(alloc: Global, files: &mut Vec<Kept>, parts: u16) -> Result<(), AllocError> {
+    for number in 1..=parts {
+        let bytes = match number {
+            1 => TWO,
+            number if number == parts => THREE,
+            _ => b"",
+        };
+        keep(files, format!(in alloc; "f/lineorder.tbl.{number}")?, bytes)?;
+    }
+    Ok(())
+}
+
 impl Folder {
     /// The sample in two parts, whose files are read at once and don't fail.
-    pub(crate) fn sound(alloc: Global) -> Folder {
-        Folder {
+    pub(crate) fn sound(alloc: Global) -> Result<Folder, AllocError> {
+        Folder::of(alloc, sample().date, 2)
+    }
+
+    /// The sample with other dates, in this many parts.
+    pub(crate) fn of(alloc: Global, date: &'static [u8], parts: u16) -> Result<Folder, AllocError> {
+        let texts = sample();
+        let mut files = Vec::new(alloc);
+        for (path, bytes) in [
+            ("f/date.tbl", date),
+            ("f/customer.tbl", texts.customer),
+            ("f/supplier.tbl", texts.supplier),
+            ("f/part.tbl", texts.part),
+            ("q.sql", BenchmarkQuery::Q11.text().as_bytes()),
+            ("p.star", ABOVE_AVERAGE.as_bytes()),
+        ] {
+            keep(&mut files, String::from_str(alloc, path)?, bytes)?;
+        }
+        keep_parts(alloc, &mut files, parts)?;
+        Ok(Folder {
             alloc,
-            date: sample().date,
-            parts: 2,
+            files,
             at_once: usize::MAX,
             failing: "",
             until_failure: 0,
-        }
+        })
     }
 
-    // The part of lineorder at a path, if there is one.
-    fn part_at(&self, path: &str) -> Option<&'static [u8]> {
-        let number = path.strip_prefix("f/lineorder.tbl.")?.parse::<u16>().ok()?;
-        match number {
-            1 => Some(TWO),
-            number if number == self.parts => Some(THREE),
-            number if number < self.parts => Some(b""),
-            _ => None,
-        }
-    }
-
-    // The bytes of the file at a path, if there is one.
-    fn text_at(&self, path: &str) -> Option<&'static [u8]> {
-        let texts = sample();
-        match path {
-            "f/date.tbl" => Some(self.date),
-            "f/customer.tbl" => Some(texts.customer),
-            "f/supplier.tbl" => Some(texts.supplier),
-            "f/part.tbl" => Some(texts.part),
-            "q.sql" => Some(BenchmarkQuery::Q11.text().as_bytes()),
-            "p.star" => Some(ABOVE_AVERAGE.as_bytes()),
-            _ => self.part_at(path),
-        }
+    // Opens the file at a path, if there is one.
+    fn opened(&self, path: &str) -> Option<Opened>
+        ensures { option_map (λ opened. opened.bytes.left.now) result
+            ≡ bytes_at self.now.files.items path.now }
+    {
+        let left = bytes_at(self.files.as_slice(), path)?;
+        let until_failure = if path == self.failing {
+            self.until_failure
+        } else {
+            usize::MAX
+        };
+        Some(Opened {
+            bytes: Choppy {
+                left,
+                at_once: self.at_once,
+                until_failure,
+            },
+        })
     }
 }
 
@@ -78,11 +132,15 @@ fn unsupported() -> io::Error {
 
 /// An open file, which can be read.
 #[derive(Drop)]
-pub(crate) struct Opened(Choppy<'static>);
+pub(crate) struct Opened {
+    bytes: Choppy<'static>,
+}
 
 impl Read for Opened {
+    ghost remaining = { λ opened. Some opened.bytes.left.now };
+
     fn read(&mut self, room: &mut [u8]) -> io::Result<usize> {
-        self.0.read(room)
+        self.bytes.read(room)
     }
 }
 
@@ -134,19 +192,10 @@ impl Files for Folder {
     type Dir = Opened;
 
     fn open_file(&self, _how: &OpenOptions, path: &str) -> io::Result<Opened> {
-        let Some(left) = self.text_at(path) else {
-            return Err(io::Error::from(io::ErrorKind::NotFound));
-        };
-        let is_failing = path == self.failing;
-        Ok(Opened(Choppy {
-            left,
-            at_once: self.at_once,
-            until_failure: if is_failing {
-                self.until_failure
-            } else {
-                usize::MAX
-            },
-        }))
+        match self.opened(path) {
+            Some(file) => Ok(file),
+            None => Err(io::Error::from(io::ErrorKind::NotFound)),
+        }
     }
 
     fn open_dir(&self, _path: &str) -> io::Result<Opened> {
@@ -183,5 +232,14 @@ impl Files for Folder {
 
     fn remove_dir_all<B: Allocator>(&self, _alloc: B, _path: &str) -> io::Result<()> {
         Err(unsupported())
+    }
+}
+
+// All is known of it.
+impl Store for Folder {
+    ghost known = { λ folder path. Some (bytes_at folder.files.items path) };
+
+    fn open_there(&self, path: &str) -> Result<Option<Opened>, FileFault> {
+        Ok(self.opened(path))
     }
 }

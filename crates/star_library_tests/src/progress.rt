@@ -125,7 +125,7 @@ impl Watch for Seen {
 fn seen_of(alloc: Global, failing: &'static str) -> Result<(u8, Seen), AllocError> {
     let folder = Folder {
         failing,
-        ..Folder::sound(alloc)
+        ..Folder::sound(alloc)?
     };
     let mut seen = Seen {
         begun: 0,

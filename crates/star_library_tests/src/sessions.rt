@@ -14,13 +14,8 @@ fn run_session<I: Read + Drop>(
     room: (usize, usize),
 ) -> Result<Ran, AllocError> {
     let words = owned(alloc, ["session", "f"].as_slice())?;
-    run_watched(
-        &Folder::sound(alloc),
-        words.as_slice(),
-        input,
-        &mut (),
-        room,
-    )
+    let folder = Folder::sound(alloc)?;
+    run_watched(&folder, words.as_slice(), input, &mut (), room)
 }
 
 const PROMPTED: &str = concat!(

@@ -1,5 +1,7 @@
 // Writers and readers that fail, or never end.
 
+ghost use Rattle.std.specs.Prelude.{Some};
+
 use std::alloc::{AllocError, Global};
 use std::io;
 use std::io::{Read, Write};
@@ -64,7 +66,7 @@ impl Read for Zeros {
     }
 }
 
-/// A reader of a text that gives at most `at_once` bytes at once, and fails after `until_failure`
+/// A reader of a text that gives at most `at_once` bytes at once, at least one, and fails where `until_failure`
 /// bytes. A text that ends before is read to its end.
 #[derive(Drop)]
 pub struct Choppy<'a> {
@@ -74,11 +76,13 @@ pub struct Choppy<'a> {
 }
 
 impl<'a> Read for Choppy<'a> {
+    ghost remaining = { λ choppy. Some choppy.left.now };
+
     fn read(&mut self, room: &mut [u8]) -> io::Result<usize> {
         if self.until_failure == 0 {
             return Err(io::Error::from(io::ErrorKind::Interrupted));
         }
-        let most = self.at_once.min(self.until_failure);
+        let most = self.at_once.max(1).min(self.until_failure);
         let count = room.len().min(self.left.len()).min(most);
         room[..count].copy_from_slice(&self.left[..count]);
         self.left = &self.left[count..];

@@ -107,7 +107,7 @@ fn check_reports(rt: &(impl Abort + AllocGlobal), case: Case) -> Result<(), Fail
     let (words, quote, report, _) = case;
     for room in 0..report.len() {
         let notes = format!(in rt.alloc(); "{quote}write {room}\n")?;
-        let ran = run(&Folder::sound(rt.alloc()), words, (room, 100))?;
+        let ran = run(&Folder::sound(rt.alloc())?, words, (room, 100))?;
         ran.check(rt, 6, first(report, room), notes.as_str(), quote)?;
     }
     Ok(())
@@ -119,10 +119,10 @@ fn check_notes(rt: &(impl Abort + AllocGlobal), case: Case) -> Result<(), Fail> 
     let notes = format!(in rt.alloc(); "{quote}{done}")?;
     for room in 0..notes.len() {
         let written = if room < quote.len() { "" } else { report };
-        let ran = run(&Folder::sound(rt.alloc()), words, (AMPLE.0, room))?;
+        let ran = run(&Folder::sound(rt.alloc())?, words, (AMPLE.0, room))?;
         ran.check(rt, 6, written, first(notes.as_str(), room), quote)?;
     }
-    let ran = run(&Folder::sound(rt.alloc()), words, AMPLE)?;
+    let ran = run(&Folder::sound(rt.alloc())?, words, AMPLE)?;
     ran.check(rt, 0, report, notes.as_str(), quote)
 }
 

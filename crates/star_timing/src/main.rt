@@ -2,14 +2,14 @@
 //! the benchmark's thirteen queries takes over them.
 #![tactic(auto)]
 
-use star_cli::load_engine;
+use star_cli::{Store, load_engine};
 use star_common::{Out, Sink, numeral_value, write_whole};
 use star_engine::{Engine, EngineFault, Question, THIRTEEN, run_text};
 use star_service::{MEMORY_LINE, MEMORY_STATUS, tell, tell_fault};
 use star_verify::Verified;
 use std::alloc::{AllocError, Global};
 use std::process::ExitCode;
-use std::rt::{Clock, Env, Files};
+use std::rt::{Clock, Env};
 use std::time::Instant;
 use std::{env, io};
 
@@ -134,7 +134,7 @@ fn asked(arguments: &[String]) -> Option<(&str, u64)> {
 }
 
 // Carries out the request of the arguments, and returns the exit status.
-fn answer<R: Env + Files + Clock + AllocGlobal, S: Sink, E: Sink>(
+fn answer<R: Env + Store + Clock + AllocGlobal, S: Sink, E: Sink>(
     rt: &R,
     out: &mut S,
     err: &mut E,

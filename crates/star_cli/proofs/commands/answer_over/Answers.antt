@@ -1,18 +1,16 @@
-use Rattle.std.proofs.Common.{[]}
-use Rattle.star_cli.specs.Commands.{task_answered}
-use Rattle.star_cli.proofs.Steps.{explained, of_tables, widely}
 use Rattle.star_cli.proofs.commands.answer_over.Goals as goal
 
 pub answer-requires : goal.answer-requires
-answer-requires g c = widely c.args.task c.in-Some.tables (rw c.in-Some.is at c.requires)
+answer-requires g c =
+    let (texts, are) = rw c.in-Some.is at c.requires in
+    (texts, are.0)
 
 pub returns-in-Some : goal.returns-in-Some
-returns-in-Some g c = λ rows.
-    let both = of_tables c.args.task c.in-Some.tables (rw c.in-Some.is at c.requires) rows in
-    task_answered both.0.0 c.as_slice.result.now (c.answer.ensures both.0.0 both.0.1 both.1)
+returns-in-Some g c = λ texts are rows.
+    let given = rw c.in-Some.is at are in
+    rw (← c.as_slice.ensures.value) (c.answer.ensures texts given.0 (given.1 rows))
 
 pub returns : goal.returns
-returns g c = λ rows.
-    let path = explained c.args.task (rw c.in-None.is at c.requires) in
-    rw path.1
-    (task_answered (λ table. []) c.as_slice-in-None.result.now (c.explain.ensures path.0 (λ table. [])))
+returns g c = λ texts are rows.
+    let given = rw c.in-None.is at are in
+    rw (given.1, ← c.as_slice-in-None.ensures.value) (c.explain.ensures given.0 texts)

@@ -2,4 +2,4 @@ use Rattle.std.proofs.Common.{refl}
 use Rattle.star_cli.proofs.commands.read_folder.Goals as goal
 
 pub returns : goal.returns
-returns g c = (c.in_ok-read_tables.field-0, refl, c.in_ok-read_tables.ensures)
+returns g c = (c.in_ok-read_tables.field-0, refl, c.in_ok-read_tables.ensures.read)
