@@ -1,9 +1,11 @@
 -- What a load under the widest limits gives.
-use Rattle.std.proofs.Common.{◌≡◌, ℕ, List, ap, subst}
+use Rattle.std.proofs.Common.{◌≡◌, ℕ, List, ap, subst, sym}
 use Rattle.std.specs.Prelude.{Result, Ok, Err, IfErr, IfOk, MatchResult}
-use Rattle.star_schema.specs.{Database.TableTexts, Loadable.IsLoadable, Most.most_rows, Most.most_visits}
+use Rattle.star_schema.specs.{declared.table.TableId.TheVariants.Lineorder, Database.TableTexts, Loadable.IsLoadable, Most.most_rows, Most.most_visits}
+use Rattle.star_reader.specs.Partway.{HasReadText, Reading}
+use Rattle.star_catalogue.specs.Pieces.{IsReadNextTo}
 use Rattle.star_engine.specs.{declared.fault.EngineFault.EngineFault, Answered.OrMemory, Loads.IsUnloaded, Loads.Loaded, Loads.loaded_of}
-use Rattle.star_cli.specs.{FolderLoads.AreTablesUnread, FolderLoads.IsFolderUnread, Private.Reads.IsWidest, Stores.Known, declared.failure.Failure.Failure, declared.failure.Failure.TheVariants.Words}
+use Rattle.star_cli.specs.{FolderLoads.AreTablesUnread, FolderLoads.IsFolderUnread, Private.Reads.IsWidest, ReadFolders.HasReadSome, Stores.Known, declared.failure.Failure.Failure, declared.failure.Failure.TheVariants.Words}
 
 abbrev pub IsLoadedOf : (rows visits : ℕ) → TableTexts → Result Loaded EngineFault → Type 0
 IsLoadedOf rows visits texts result = MatchResult result
@@ -41,3 +43,28 @@ is_widest texts (Ok engine) is = (
   ap (λ (l : Loaded). l.visits) is.1,
 )
 is_widest texts (Err fault) is = tt
+
+-- ---- another lineorder next to the dimensions of a load
+
+pub read_next : (loaded : Loaded) (reader : Reading) → IsWidest loaded
+    → HasReadSome reader Lineorder
+    → (texts : TableTexts) × (text : List (List ℕ))
+    × IsReadNextTo loaded.database reader loaded.rows texts text
+read_next loaded reader widest read = (
+  widest.0.0,
+  read.0,
+  record {
+    loadable = subst (λ n. IsLoadable n widest.0.0) (sym widest.1) widest.0.1;
+    rows = widest.0.2;
+    read = subst (λ n. HasReadText reader Lineorder n read.0) (sym widest.1) read.1;
+  },
+)
+
+pub widest_next : (loaded : Loaded) (texts : TableTexts) → IsWidest loaded
+    → (result : Result Loaded EngineFault)
+    → IfOk result (λ engine. IsLoadable loaded.rows texts)
+    → IfOk result (λ engine. engine ≡ loaded_of loaded.rows loaded.visits texts)
+    → IfErr result (OrMemory (IsUnloaded loaded.rows texts)) → IfOk result IsWidest
+widest_next loaded texts widest result loadable same refused =
+    is_widest texts result (of_widest texts loaded.rows loaded.visits widest.1 widest.2 result
+    loadable same refused)

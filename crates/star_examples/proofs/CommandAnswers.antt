@@ -1,7 +1,7 @@
 -- What each command asks of the engine, what is told of a fault or a failure and with which status,
 -- and what sessions and reports of files tell: each type is the one on the right.
-use Rattle.std.proofs.Common.{◌≡◌, ◌⊎◌, ◌≤◌, ◌&&◌, ◌↔◌, ℕ, Bool, true, false, List, [], ◌∷◌, Option, Some, None, Result, Ok, Err, arith, inl, inr, refl}
-use Rattle.std.specs.{Prelude.⊤, Prelude.IfOk, Prelude.IsTrue, Prelude.codes, Borrow.Bor}
+use Rattle.std.proofs.Common.{◌≡◌, ◌⊎◌, ◌≤◌, ◌&&◌, ◌↔◌, ◌++◌, ℕ, Bool, true, false, List, [], ◌∷◌, Option, Some, None, Result, Ok, Err, arith, inl, inr, refl}
+use Rattle.std.specs.{Prelude.decimal, Prelude.⊤, Prelude.IfOk, Prelude.IsTrue, Prelude.codes, Borrow.Bor}
 use Rattle.star_common.proofs.Tables.{Gives}
 use Rattle.star_schema.specs.{declared.limits.Limits.Limits, declared.table.TableId.TheVariants.Customer, declared.table.TableId.TheVariants.Lineorder, Database.TableTexts, Loadable.IsLoadable, Loadable.database_of, Most.most_rows, Most.most_visits}
 use Rattle.star_plan.specs.declared.fault.PlanFault.TheVariants.{JoinMissing}
@@ -24,7 +24,6 @@ use Rattle.star_cli.specs.Answers.{IsBenched, IsEnded, IsExecuted, IsExplanation
 use Rattle.star_cli.specs.Failures.{AreReportsEnded, IsFailureTold, IsTextOf, IsToldOn, failure_of_halt, status_of}
 use Rattle.star_cli.specs.FolderLoads.{AreTablesUnread, IsFolderRefused, IsFolderUnread, IsLoadedFrom, IsThere}
 use Rattle.star_cli.specs.Stores.{AreTablesIn, ArePartsFrom, IsAt, IsFile, IsGivenFile, IsTableFile, IsTextIn, IsWhole, AreParts, Known, part_name, path_in, table_name}
-use Rattle.star_cli.specs.declared.failure.Failure.TheVariants as failures
 use Rattle.star_examples.proofs.EngineAnswers.{Answer, Sink, grown, of_load, report, untouched, well}
 use Rattle.star_query.specs.declared.fault.QueryFault.TheVariants as parsing
 use Rattle.star_words.specs.declared.request.Task.TheVariants as task
@@ -136,7 +135,7 @@ module _ (folder path : Bor (List ℕ)) (limits : Limits) (loaded : Loaded) wher
 -- ---- the files of a folder, by name: a table, lineorder's parts in order, the first that is unread
 
 files : Gives (path_in (codes "d")) ((table_name Customer, codes "d/customer.tbl")
-    ∷ (table_name Lineorder, codes "d/lineorder.tbl") ∷ (part_name 12, codes "d/lineorder.tbl.12") ∷ [])
+    ∷ (table_name Lineorder, codes "d/lineorder.tbl") ∷ (part_name 12, codes "d/lineorder.tbl." ++ decimal 12) ∷ [])
 files = refl
 
 module _ (known : Known) (text : List (List ℕ)) (first second bytes : List ℕ) where
@@ -144,12 +143,11 @@ module _ (known : Known) (text : List (List ℕ)) (first second bytes : List ℕ
       × (IsTextIn known (codes "d") Lineorder text ≡ (IsWhole known (codes "d") Lineorder text
       ⊎ (IsAt known (codes "d/lineorder.tbl") None × AreParts known (codes "d") text)))
       × (ArePartsFrom known (codes "d") 1 (first ∷ second ∷ [])
-      ≡ (IsTableFile known (codes "d") (codes "lineorder.tbl.1") first
-      × (IsTableFile known (codes "d") (codes "lineorder.tbl.2") second × ⊤)))
+      ≡ (IsTableFile known (codes "d") (part_name 1) first
+      × (IsTableFile known (codes "d") (part_name 2) second × ⊤)))
       × (IsGivenFile known (codes "q.sql") bytes ≡ IsFile known 16777216 (codes "q.sql") bytes)
-      × (AreTablesUnread known (codes "d") failures.OutOfMemory ≡ ⊤)
-      × (IsFolderUnread known [] (failures.Part 3) ≡ AreTablesUnread known [] (failures.Part 3))
-  texts_in = (refl, refl, refl, refl, refl, refl)
+      × (AreTablesUnread known (codes "d") (failure_of_halt halts.OutOfMemory) ≡ ⊤)
+  texts_in = (refl, refl, refl, refl, refl)
 
 -- a second part is not read as the first
 parts_in_order : ArePartsFrom (λ path. Some None) (codes "d") 1 (codes "7" ∷ []) → ⊥

@@ -1,5 +1,6 @@
 // What many tests assert, in one place: each assert is dear to prove.
 
+pub(crate) use crate::files::ABOVE_AVERAGE;
 use star_catalogue::{Catalogue, LoadFault, Texts};
 use star_program::{Program, TextFault};
 use star_schema::Limits;
@@ -44,15 +45,6 @@ pub(crate) fn parsed(alloc: Global, text: &str) -> Result<Program, Fail> {
         Err(fault) => Err(Fail::from(format_args!("{fault} in {text}"))),
     }
 }
-
-/// Counts the lines that are priced above the average: two of the sample.
-pub(crate) const ABOVE_AVERAGE: &str = concat!(
-    "star program 1\nregisters 8\ngroup 0 plain : sum count\ngroup 1 plain : count\n",
-    "scan lineorder r0\n  r1 = load lo_extendedprice r0\n  put 0 : r1\nend\n",
-    "r2 = read 0 0 0\nr3 = read 0 1 0\n",
-    "scan lineorder r4\n  r5 = load lo_extendedprice r4\n  r6 = mul r5 r3\n  r7 = lt r2 r6\n",
-    "  keep r7\n  put 1 :\nend\nreport 1\nshow n aggregate 0\n",
-);
 
 /// Sums the discounts of one year.
 pub(crate) const DISCOUNTED_REVENUE: &str = concat!(

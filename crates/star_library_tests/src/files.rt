@@ -4,7 +4,6 @@ ghost use Rattle.std.specs.Prelude.{◌≡◌, Some, option_map};
 ghost use Rattle.std.specs.Option.{option_copied};
 ghost use Rattle.star_library_tests.specs.Folders.{bytes_at};
 
-use crate::checks::ABOVE_AVERAGE;
 use crate::streams::Choppy;
 use star_cli::Store;
 use star_engine::{BenchmarkQuery, FileFault, sample};
@@ -43,6 +42,15 @@ pub(crate) const THREE: &[u8] = b"\
     2|1|2|1|2|19940105|5-LOW|0|24|500|500|1|495|700|4|19940105|SHIP|\n\
     3|1|3|3|2|19971215|1-URGENT|0|50|3000|3700|0|3000|1000|8|19971215|TRUCK|\n\
     3|2|1|2|1|19971215|1-URGENT|0|1|700|3700|10|630|100|1|19971215|AIR|\n";
+
+/// Counts the lines that are priced above the average: two of the sample.
+pub(crate) const ABOVE_AVERAGE: &str = concat!(
+    "star program 1\nregisters 8\ngroup 0 plain : sum count\ngroup 1 plain : count\n",
+    "scan lineorder r0\n  r1 = load lo_extendedprice r0\n  put 0 : r1\nend\n",
+    "r2 = read 0 0 0\nr3 = read 0 1 0\n",
+    "scan lineorder r4\n  r5 = load lo_extendedprice r4\n  r6 = mul r5 r3\n  r7 = lt r2 r6\n",
+    "  keep r7\n  put 1 :\nend\nreport 1\nshow n aggregate 0\n",
+);
 
 // The bytes of the file at a path, if there is one.
 fn bytes_at(files: &[Kept], path: &str) -> Option<&'static [u8]>

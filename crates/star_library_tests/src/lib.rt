@@ -11,7 +11,6 @@ mod checks;
 mod columns;
 #[cfg(test)]
 mod commands;
-#[cfg(test)]
 mod files;
 #[cfg(test)]
 mod flat;
@@ -31,7 +30,6 @@ mod reading;
 mod scans;
 #[cfg(test)]
 mod sessions;
-#[cfg(test)]
 mod streams;
 #[cfg(test)]
 mod writes;

@@ -1,19 +1,13 @@
 -- The facts of two parts together are those of the whole.
-use Rattle.std.proofs.Common.{◌≡◌, ◌∙◌, ◌⊎◌, ℕ, ℤ, zero, suc, ◌+◌, List, [], ◌∷◌, ◌++◌, length, map, refl, sym, subst, ap, arith, inl, inr, ⊎_elim}
-use Rattle.star_merge_laws.proofs.Common.{All-append, All-contains, All-from_recursion, All-head, All-tail, All-weaker, AreFactsOf, ColumnId, Contains, Contains-append_left, Contains-append_right, Contains-permutation, Customer, Database, Date, Facts, HaveFacts, IsPermutation, IsPermutation-map, IsPermutation-sym, Lineorder, Part, Range, RowsWithFacts, Supplier, TableId, Value, all_facts, append-nil, clamps, contains_cases, contains_none, flat_map, fold-int_max_reached, fold-int_min_reached, greatest, greatest_above, greatest_is, greatest_there, hull, hull_of_rows, int_max, int_min, ints, joined_facts, least, least_below, least_is, least_there, length-append, length_permutation, numbers_at, numbers_of, of_each, rows_in, table_of, with_lineorder, ◌≤ℤ◌}
+use Rattle.std.proofs.Common.{◌≡◌, ◌⊎◌, ℕ, ℤ, ◌+◌, List, [], ◌∷◌, ◌++◌, length, map, refl, sym, subst, ap, arith, ⊎_elim}
+use Rattle.star_merge_laws.proofs.Common.{All-append, All-contains, All-from_recursion, All-head, All-tail, All-weaker, AreFactsOf, ColumnId, Contains, Contains-append_left, Contains-append_right, Contains-permutation, Database, Facts, HaveFacts, IsPermutation, IsPermutation-map, IsPermutation-sym, Range, RowsWithFacts, TableId, Value, all_facts, append-nil, clamps, contains_cases, contains_none, flat_map, fold-int_max_reached, fold-int_min_reached, greatest, greatest_above, greatest_is, greatest_there, hull, hull_of_rows, int_max, int_min, ints, joined_facts, least, least_below, least_is, least_there, length-append, length_permutation, numbers_at, numbers_of, of_each, rows_in, with_lineorder, ◌≤ℤ◌}
 use Rattle.star_merge_laws.proofs.LoadableParts.{numbers_joined}
 
 min_is_one : (x y : ℤ) → (int_min x y ≡ x) ⊎ (int_min x y ≡ y)
-min_is_one x y = ⊎_elim {C = (int_min x y ≡ x) ⊎ (int_min x y ≡ y)} inl
-    (λ c. inr (⊎_elim {C = int_min x y ≡ y} (λ e. sym e) (λ none. absurd (contains_none _ none))
-    (contains_cases y [] (int_min x y) c)))
-    (fold-int_min_reached x (y ∷ []) (int_min x y) refl)
+min_is_one x y = grind (arith, ints, ⊎_elim, contains_none, contains_cases, fold-int_min_reached)
 
 max_is_one : (x y : ℤ) → (int_max x y ≡ x) ⊎ (int_max x y ≡ y)
-max_is_one x y = ⊎_elim {C = (int_max x y ≡ x) ⊎ (int_max x y ≡ y)} inl
-    (λ c. inr (⊎_elim {C = int_max x y ≡ y} (λ e. sym e) (λ none. absurd (contains_none _ none))
-    (contains_cases y [] (int_max x y) c)))
-    (fold-int_max_reached x (y ∷ []) (int_max x y) refl)
+max_is_one x y = grind (arith, ints, ⊎_elim, contains_none, contains_cases, fold-int_max_reached)
 
 least_joined : (x : ℤ) (xs : List ℤ) (y : ℤ) (ys : List ℤ)
     → least ((x ∷ xs) ++ (y ∷ ys)) ≡ int_min (least (x ∷ xs)) (least (y ∷ ys))
@@ -57,22 +51,13 @@ range_over c rows =
     record { low = least (numbers_of c rows); high = greatest (numbers_of c rows) }
 
 hull_itself : (m n : ℕ) (r : Range) → hull_of_rows m n r r ≡ r
-hull_itself zero n r = refl
-hull_itself (suc m) zero r = refl
-hull_itself (suc m) (suc n) r =
-    let low : int_min r.low r.low ≡ r.low = omega (arith, ints, clamps) in
-    let high : int_max r.high r.high ≡ r.high = omega (arith, ints, clamps) in
-    λ i. record { low = low i; high = high i }
+hull_itself it n r = grind (arith, clamps)
 
 both_filled : (c : ColumnId) (x : List Value) (xs : List (List Value)) (y : List Value)
     (ys : List (List Value))
     → hull (range_over c (x ∷ xs)) (range_over c (y ∷ ys)) ≡ range_over c ((x ∷ xs) ++ (y ∷ ys))
 unfolding numbers_at
-both_filled c x xs y ys =
-    let same = numbers_joined c (x ∷ xs) (y ∷ ys) in
-    let low = sym (ap least same ∙ least_joined _ _ _ _) in
-    let high = sym (ap greatest same ∙ greatest_joined _ _ _ _) in
-    λ i. record { low = low i; high = high i }
+both_filled c x xs y ys = grind (arith, numbers_joined, least_joined, greatest_joined)
 
 over_both : (c : ColumnId) (xs ys : List (List Value))
     → hull_of_rows (length xs) (length ys) (range_over c xs) (range_over c ys)
@@ -86,23 +71,12 @@ module _ (database : Database) (xs ys : List (List Value)) where
       → hull_of_rows (length xs) (length ys) (range_over c (rows_in (with_lineorder database xs) t))
       (range_over c (rows_in (with_lineorder database ys) t))
       ≡ range_over c (rows_in (with_lineorder database (xs ++ ys)) t)
-  in_table c Date = hull_itself (length xs) (length ys) (range_over c database.date)
-  in_table c Customer = hull_itself (length xs) (length ys) (range_over c database.customer)
-  in_table c Supplier = hull_itself (length xs) (length ys) (range_over c database.supplier)
-  in_table c Part = hull_itself (length xs) (length ys) (range_over c database.part)
-  in_table c Lineorder = over_both c xs ys
+  in_table c it = grind (arith, hull_itself, over_both)
 
   pub facts_joined : (a b : Facts) → AreFactsOf (with_lineorder database xs) a
       → AreFactsOf (with_lineorder database ys) b
       → AreFactsOf (with_lineorder database (xs ++ ys)) (joined_facts a b)
-  facts_joined a b of_xs of_ys =
-      let count = length-append xs ys in
-      record {
-        rows = (λ i. of_xs.rows i + of_ys.rows i) ∙ sym count;
-        bounds = λ c.
-            (λ i. hull_of_rows (of_xs.rows i) (of_ys.rows i) (of_xs.bounds c i) (of_ys.bounds c i))
-            ∙ in_table c (table_of c);
-      }
+  facts_joined a b of_xs of_ys = grind (arith, length-append, in_table)
 
 module _ (database : Database) where
   abbrev IsTold : RowsWithFacts → Type 0
@@ -161,16 +135,9 @@ module _ (database : Database) (xs ys : List (List Value)) (h : IsPermutation xs
   same_in_table : (c : ColumnId) (t : TableId)
       → range_over c (rows_in (with_lineorder database xs) t)
       ≡ range_over c (rows_in (with_lineorder database ys) t)
-  same_in_table c Date = refl
-  same_in_table c Customer = refl
-  same_in_table c Supplier = refl
-  same_in_table c Part = refl
-  same_in_table c Lineorder = same_range c xs ys h
+  same_in_table c it = grind (arith, same_range)
 
   -- the facts don't hang on the order of lineorder's rows
   pub facts_reordered : (facts : Facts) → AreFactsOf (with_lineorder database xs) facts
       → AreFactsOf (with_lineorder database ys) facts
-  facts_reordered facts are = record {
-    rows = are.rows ∙ sym (length_permutation xs ys h);
-    bounds = λ c. are.bounds c ∙ same_in_table c (table_of c);
-  }
+  facts_reordered facts are = grind (arith, length_permutation, same_in_table)

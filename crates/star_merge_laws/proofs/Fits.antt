@@ -1,25 +1,16 @@
 -- A plan that fits the rows of lineorder fits those of a part that has a row.
-use Rattle.std.proofs.Common.{◌≡◌, ℕ, ℤ, zero, suc, ◌≤◌, Bool, true, ◌&&◌, List, [], ◌∷◌, ◌++◌, length, ◌≤ℤ◌, ◌+ℤ◌, ◌-ℤ◌, ◌*ℤ◌, refl, subst, arith}
-use Rattle.star_merge_laws.proofs.Common.{All-head, ColumnId, Database, Expression, Fits, IsOrdered, IsWithin, Measure, Plan, Range, Row, add, and_from, and_parts, bounds_in, clamps, column, constant, corner_range, count, differences_within, expression_range, fits_held, fits_i64, fits_i64_fits, fold, greatest, greatest_above, holds_high, holds_low, holds_within, hull_of_rows, int_max, int_min, ints, least, least_below, length-append, list_all, measure_fits, mul, nodes_fit, numbers_of, products_within, sub, sums_within, table_of, tables_with, within_hull_left, within_hull_right}
+use Rattle.std.proofs.Common.{◌≡◌, ℕ, ℤ, ◌≤◌, Bool, true, ◌&&◌, List, [], ◌∷◌, ◌++◌, length, ◌≤ℤ◌, ◌+ℤ◌, ◌-ℤ◌, ◌*ℤ◌, refl, subst, arith}
+use Rattle.star_merge_laws.proofs.Common.{All-head, ColumnId, Database, Expression, Fits, IsOrdered, IsWithin, Measure, Plan, Range, Row, add, and_from, and_parts, bounds_in, clamps, column, constant, corner_range, count, differences_within, expression_range, fits_held, fits_i64, fits_i64_fits, fold, greatest, greatest_above, holds_high, holds_low, holds_within, hull_of_rows, ints, least, least_below, length-append, list_all, measure_fits, mul, nodes_fit, numbers_of, products_within, sub, sums_within, table_of, tables_with, within_hull_left, within_hull_right}
 use Rattle.star_merge_laws.proofs.Facts.{in_table}
 
 corners_ordered : (op : ℤ → ℤ → ℤ) (a b : Range) → IsOrdered (corner_range op a b)
-corners_ordered op a b =
-    of_four (op a.low b.low) (op a.low b.high) (op a.high b.low) (op a.high b.high)
-  where
-    of_four : (x y z w : ℤ)
-        → int_min (int_min x y) (int_min z w) ≤ℤ int_max (int_max x y) (int_max z w)
-    of_four x y z w = omega (arith, ints, clamps)
+corners_ordered op a b = grind (arith, ints, clamps)
 
 -- ---- smaller ranges fit where greater ones do
 
 smaller_fits : (a b : Range) → IsOrdered a → IsWithin a b → fits_i64 b ≡ true → fits_i64 a ≡ true
 smaller_fits a b ordered inside h =
-    let fits = (fits_i64_fits b).0 h in
-    (fits_i64_fits a).1 (
-      fits_held b a.low fits (holds_within a b a.low inside (holds_low a ordered)),
-      fits_held b a.high fits (holds_within a b a.high inside (holds_high a ordered)),
-    )
+    grind (arith, fits_i64_fits, fits_held, holds_within, holds_low, holds_high)
 
 module _ (small great : ColumnId → Range) (ordered : (c : ColumnId) → IsOrdered (small c))
     (inside : (c : ColumnId) → IsWithin (small c) (great c)) where
@@ -51,10 +42,7 @@ module _ (small great : ColumnId → Range) (ordered : (c : ColumnId) → IsOrde
 
   both_nodes : (p q r s t u : Bool) → (p ≡ true → s ≡ true) → (q ≡ true → t ≡ true)
       → (r ≡ true → u ≡ true) → (p && (q && r)) ≡ true → (s && (t && u)) ≡ true
-  both_nodes p q r s t u one two three h =
-      let first = and_parts p (q && r) h in
-      let later = and_parts q r first.1 in
-      and_from s (t && u) (one first.0) (and_from t u (two later.0) (three later.1))
+  both_nodes p q r s t u one two three h = grind (arith, and_parts, and_from)
 
   nodes_smaller : (e : Expression ColumnId) → nodes_fit great e ≡ true → nodes_fit small e ≡ true
   nodes_smaller (column c) h = at_node (column c) h
@@ -99,20 +87,10 @@ within_itself r = record { from = omega (arith, ints); to = omega (arith, ints) 
 
 module _ (m n : ℕ) (a b : Range) where
   left_inside : 1 ≤ m → IsWithin a (hull_of_rows m n a b)
-  left_inside h = by m n h
-    where
-      by : (m n : ℕ) → 1 ≤ m → IsWithin a (hull_of_rows m n a b)
-      by zero n h = absurd (omega (arith, h))
-      by (suc m) zero h = within_itself a
-      by (suc m) (suc n) h = within_hull_left a b
+  left_inside h = grind (arith, within_itself, within_hull_left)
 
   right_inside : 1 ≤ n → IsWithin b (hull_of_rows m n a b)
-  right_inside h = by m n h
-    where
-      by : (m n : ℕ) → 1 ≤ n → IsWithin b (hull_of_rows m n a b)
-      by zero n h = within_itself b
-      by (suc m) zero h = absurd (omega (arith, h))
-      by (suc m) (suc n) h = within_hull_right a b
+  right_inside h = grind (arith, within_itself, within_hull_right)
 
 module _ (database : Database) (xs ys : List Row) where
   abbrev bounds_over : List Row → ColumnId → Range

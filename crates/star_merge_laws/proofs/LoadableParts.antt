@@ -1,6 +1,7 @@
 -- Parts whose keys lie apart can be loaded together.
 use Rattle.std.proofs.Common.{◌≡◌, ◌≢◌, ◌∙◌, ℕ, ℤ, suc, ◌+◌, ◌≤◌, true, List, [], ◌∷◌, ◌++◌, Option, Some, None, AllPairs, length, get_or, map, refl, sym, subst, ap, arith, ⊎_elim, true≢false}
-use Rattle.star_merge_laws.proofs.Common.{All, All-append, All-cons, All-head, All-nil, All-tail, AllPairs-cons, AreDisjoint, AreWithin, ColumnId, Contains, Customer, Database, Date, Equal, Greater, HasDistinctKeys, IsLoadable, IsLoadablePart, IsRecordOf, IsSound, IsTable, IsTotalOrder, Less, Lineorder, LineorderPart, LoCommitdate, LoCustkey, LoOrderdate, LoPartkey, LoSuppkey, Ordering, Part, RefersTo, Span, Supplier, TableId, TableTexts, Value, alike_right, append-nil, are_disjoint, column_of, database_of, flat_map-append, foreign_key, int_cmp_total, is_le, is_lt, key_list_cmp, key_numbers, key_of, keys_of, length-append, lists_total, map-append, numbers_at, numbers_of, or_cases, records_in, records_of, references, row_of, rows_in, rows_of, table_of, tied_itself, whole_text, with_lineorder, with_lineorder_text}
+use Rattle.star_merge_laws.proofs.Common.{All, All-append, All-cons, All-head, All-nil, All-tail, AllPairs-cons, AreDisjoint, AreWithin, ColumnId, Contains, Customer, Database, Date, Equal, Greater, HasDistinctKeys, IsLoadable, IsLoadablePart, IsRecordOf, IsSound, IsTable, IsTotalOrder, Less, Lineorder, LineorderPart, Ordering, Part, RefersTo, Span, Supplier, TableId, TableTexts, Value, alike_right, append-nil, are_disjoint, column_of, database_of, flat_map-append, foreign_key, int_cmp_total, is_le, is_lt, key_list_cmp, key_numbers, key_of, keys_of, length-append, lists_total, map-append, numbers_at, numbers_of, or_cases, records_in, records_of, references, row_of, rows_in, rows_of, table_of, tied_itself, whole_text, with_lineorder, with_lineorder_text}
+use Rattle.std.proofs.lemmas.Int.{ints}
 
 -- ---- lists
 
@@ -47,20 +48,10 @@ module _ {X : Type 0} (R : X → X → Type 0) where
 
 module _ {K : Type 0} (R : K → K → Ordering) (o : IsTotalOrder R) where
   upto_less : (a b c : K) → is_le (R a b) ≡ true → R b c ≡ Less → R a c ≡ Less
-  upto_less a b c h less = by (R a b) refl h
-    where
-      by : (r : Ordering) → R a b ≡ r → is_le r ≡ true → R a c ≡ Less
-      by Less e h = o.trans a b c e less
-      by Equal e h = o.congr a b c e ∙ less
-      by Greater e h = absurd (true≢false (sym h))
+  upto_less a b c h less = grind (arith, true≢false)
 
   pub less_upto : (a b c : K) → R a b ≡ Less → is_le (R b c) ≡ true → R a c ≡ Less
-  less_upto a b c less h = by (R b c) refl h
-    where
-      by : (r : Ordering) → R b c ≡ r → is_le r ≡ true → R a c ≡ Less
-      by Less e h = o.trans a b c less e
-      by Equal e h = sym (alike_right o b c a e) ∙ less
-      by Greater e h = absurd (true≢false (sym h))
+  less_upto a b c less h = grind (arith, alike_right, true≢false)
 
   not_itself : (a b : K) → R a b ≡ Less → a ≢ b
   not_itself a b less same =
@@ -78,27 +69,12 @@ order = lists_total int_cmp_total
 before_apart : (a b : Span) (k l : List ℤ) → is_lt (key_list_cmp a.high b.low) ≡ true
     → is_le (key_list_cmp k a.high) ≡ true → is_le (key_list_cmp b.low l) ≡ true
     → key_list_cmp k l ≡ Less
-before_apart a b k l less from upto =
-    less_upto key_list_cmp order k b.low l
-    (upto_less key_list_cmp order k a.high b.low from
-    (is_less (key_list_cmp a.high b.low) less)) upto
+before_apart a b k l less from upto = grind (arith, ints, less_upto, order, upto_less, is_less)
 
 keys_apart : (p q : Option Span) (ks ls : List (List ℤ)) → are_disjoint p q ≡ true → AreWithin p ks
     → AreWithin q ls → All (λ k. All (λ l. k ≢ l) ls) ks
-keys_apart None q ks ls apart first second =
-    subst (λ keys. All (λ k. All (λ l. k ≢ l) ls) keys) (sym first)
-    (All-nil (λ k. All (λ l. k ≢ l) ls))
-keys_apart (Some a) None ks ls apart first second =
-    λ i d within. subst (λ keys. All (λ l. get_or ks i d ≢ l) keys) (sym second)
-    (All-nil (λ l. get_or ks i d ≢ l))
-keys_apart (Some a) (Some b) ks ls apart first second =
-    λ i d in_ks j e in_ls. ⊎_elim
-    (λ less. not_itself key_list_cmp order (get_or ks i d) (get_or ls j e)
-    (before_apart a b (get_or ks i d) (get_or ls j e) less (first i d in_ks).1 (second j e in_ls).0))
-    (λ less same. not_itself key_list_cmp order (get_or ls j e) (get_or ks i d)
-    (before_apart b a (get_or ls j e) (get_or ks i d) less (second j e in_ls).1 (first i d in_ks).0)
-    (sym same))
-    (or_cases (is_lt (key_list_cmp a.high b.low)) (is_lt (key_list_cmp b.high a.low)) apart)
+keys_apart it q ks ls apart first second =
+    grind (arith, ints, ⊎_elim, not_itself, order, before_apart, or_cases)
 
 -- ---- rows, keys and numbers of two texts, one after the other
 
@@ -127,23 +103,14 @@ IsBeside _ = Unit {0}
 refers_beside : (c : ColumnId)
     → elim (references c) as (λ _. Type 0) [ Some t ↦ IsBeside t | None ↦ Unit {0} ]
 unfolding column_of
-refers_beside LoCustkey = tt
-refers_beside LoPartkey = tt
-refers_beside LoSuppkey = tt
-refers_beside LoOrderdate = tt
-refers_beside LoCommitdate = tt
-refers_beside _ = tt
+refers_beside it = grind arith
 
 pub referred_beside : (c : ColumnId) (t : TableId) → references c ≡ Some t → IsBeside t
 referred_beside c t e = rw e at (refers_beside c)
 
 pub rows_beside : (database : Database) (rows : List (List Value)) (t : TableId) → IsBeside t
     → rows_in (with_lineorder database rows) t ≡ rows_in database t
-rows_beside database rows Date h = refl
-rows_beside database rows Customer h = refl
-rows_beside database rows Supplier h = refl
-rows_beside database rows Part h = refl
-rows_beside database rows Lineorder h = absurd h
+rows_beside database rows it h = grind arith
 
 rows_of_fact : (database : Database) (rows : List (List Value)) (t : TableId) → t ≡ Lineorder
     → rows_in (with_lineorder database rows) t ≡ rows

@@ -65,10 +65,7 @@ module _ (t : TableId) (most : ℕ) where
   no_mark : (from : ℕ) (piece : List ℕ) → part_fault t most from piece ≡ None
       → starts_with nat_eq piece byte_order_mark ≡ false
   unfolding part_fault
-  no_mark from piece e = elim (cases_Bool (starts_with nat_eq piece byte_order_mark)) [
-    | inl marked ↦ let bad = rw marked at e in cc bad
-    | inr none ↦ none
-  ]
+  no_mark from piece e = grind (arith, cases_Bool)
 
   fine_pieces : (from : ℕ) (pieces : List (List ℕ)) → from ≤ most + 1
       → parts_fault t most from pieces ≡ None → AllByRecursion Fine pieces

@@ -1,6 +1,6 @@
 -- The answer that is made of partials is the query's answer over all their rows.
-use Rattle.std.proofs.Common.{◌≡◌, ◌∙◌, ◌↔◌, ℕ, ◌+◌, List, [], ◌∷◌, ◌++◌, map, refl, sym, subst, ap}
-use Rattle.star_merge_laws.proofs.Common.{Aggregate, All, All-cons, All-head, All-nil, All-tail, AreFactsOf, AreGroups, AreMerged, AreShards, Cell, Database, Entry, GroupRow, IsAnswer, IsMergedAnswer, IsPart, IsPartial, IsPermutation, IsPermutation-append, IsPermutation-map, IsPermutation-refl, IsPermutation-sym, IsPermutation-trans, IsPlainAnswer, IsResolved, IsWellNamed, Joined, Partial, Plain, Plan, Row, Shard, Tree, Value, aggregate_of, all_groups, all_of, all_rows, count_same, entries_reordered, entry_of, flat_map, functions_same, groups_of_partials, groups_reordered, kept_sound, length, length-flat_map, length_permutation, map-append, measures_of, no_fault, plan_rows, query_entry, rows_in, selected, selected_reordered, shard_partials, shard_rows, sum_by, sum_by-cons, tables_with, value_cmp, with_lineorder}
+use Rattle.std.proofs.Common.{◌≡◌, ◌∙◌, ◌↔◌, ℕ, ◌+◌, List, [], ◌∷◌, ◌++◌, map, refl, sym, subst, ap, arith}
+use Rattle.star_merge_laws.proofs.Common.{Aggregate, All, All-cons, All-head, All-nil, All-tail, AreFactsOf, AreGroups, AreMerged, AreShards, Cell, Database, Entry, GroupRow, IsAnswer, IsMergedAnswer, IsPart, IsPartial, IsPermutation, IsPermutation-append, IsPermutation-map, IsPermutation-refl, IsPermutation-sym, IsPermutation-trans, IsPlainAnswer, IsResolved, IsWellNamed, Joined, Partial, Plain, Plan, Row, Shard, Tree, Value, aggregate_of, all_groups, all_of, all_rows, count_same, entries_reordered, entry_of, flat_map, functions_same, groups_of_partials, groups_reordered, kept_sound, length, length-flat_map, length_permutation, map-append, measures_of, no_fault, plan_rows, query_entry, selected, selected_reordered, shard_partials, shard_rows, sum_by, sum_by-cons, tables_with, value_cmp, with_lineorder}
 use Rattle.star_merge_laws.specs.Merging.{Part}
 use Rattle.star_merge_laws.proofs.Merging.{merged_groups}
 use Rattle.star_merge_laws.proofs.Values.{once_in_order, value_decides}
@@ -75,10 +75,7 @@ module _ (database : Database) (q : Tree) (p : Plan) (named : IsWellNamed q)
 
   is_part : (shard : Shard) → IsPartial database q shard.rows shard.partial
       → IsPart value_cmp (length q.grouping.columns) gs (part_of shard)
-  is_part shard is = record {
-    groups = is.each_group;
-    once = once_in_order shard.partial.groups is.in_order;
-  }
+  is_part shard is = grind (arith, once_in_order)
 
   are_parts : (shards : List Shard) → AreShards database q shards
       → All (IsPart value_cmp (length q.grouping.columns) gs) (map part_of shards)
@@ -145,32 +142,14 @@ module _ (database : Database) (q : Tree) (p : Plan) (named : IsWellNamed q)
     pub merged_answer : (names : List (List ℕ)) (rows : List (List Cell))
         → IsMergedAnswer q (shard_partials shards) names rows
         ↔ IsAnswer (tables_with database (all_of (shard_rows shards))) q names rows
-    merged_answer names rows = (
-      λ a. record {
-        headed = a.headed;
-        groups = a.groups;
-        each_group = merged_are a.groups a.merged;
-        in_order = a.in_order;
-        cells = a.cells;
-      },
-      λ a. record {
-        headed = a.headed;
-        groups = a.groups;
-        merged = are_merged a.groups a.each_group;
-        in_order = a.in_order;
-        cells = a.cells;
-      },
-    )
+    merged_answer names rows = grind (arith, merged_are, are_merged)
 
   -- ---- a partial by the query's plan
 
   own_plain : (entries : List (Entry Value)) (groups : List (GroupRow Value))
       → AreGroups value_cmp Plain (length p.keys) (map aggregate_of p.measures) entries groups
       → AreGroups value_cmp Plain (length q.grouping.columns) gs entries groups
-  own_plain entries groups h =
-      subst (λ (X : Type 0). X)
-      (λ i. AreGroups value_cmp Plain (sym (count_same (rows_in database) q p named resolved) i)
-      (sym (functions_same q.items p.measures resolved.measures) i) entries groups) h
+  own_plain entries groups h = grind (arith, count_same, functions_same)
 
   pub plain_partial : (rows : List Row) (partial : Partial)
       → AreFactsOf (with_lineorder database rows) partial.facts

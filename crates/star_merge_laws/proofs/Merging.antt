@@ -76,13 +76,7 @@ module _ {K : Type 0} (cmp : K → K → Ordering)
       → belongs cmp group.keys row.keys ≡ true → is_among groups row ≡ false
   none_other group [] row plain are apart h = refl
   none_other group (other ∷ groups) row plain are apart h =
-      by (belongs cmp other.keys row.keys) refl (none_other group groups row plain are.1 apart.1 h)
-    where
-      by : (b : Bool) → belongs cmp other.keys row.keys ≡ b → is_among groups row ≡ false
-          → (b || is_among groups row) ≡ false
-      by true e later = absurd (apart.0
-          (own_keys group.keys row.keys plain h ∙ sym (own_keys other.keys row.keys are.0 e)))
-      by false e later = later
+      grind (arith, none_other group groups row plain are.1 apart.1 h, own_keys)
 
   none_kept : {X : Type 0} (xs : List X) → filter (λ x. false) xs ≡ []
   none_kept [] = refl
@@ -159,10 +153,7 @@ module _ {K : Type 0} (cmp : K → K → Ordering)
         → AllByRecursion (λ row. is_among groups row ≡ true) some_rows
         → filter (of_kept groups) some_rows ≡ filter (λ row. passes row.keys) some_rows
     covered groups [] all = refl
-    covered groups (row ∷ some_rows) all =
-        (λ i. cond (all.0 i && passes row.keys) (row ∷ filter (of_kept groups) some_rows)
-        (filter (of_kept groups) some_rows))
-        ∙ ap (λ xs. cond (passes row.keys) (row ∷ xs) xs) (covered groups some_rows all.1)
+    covered groups (row ∷ some_rows) all = grind (arith, covered groups some_rows all.1)
 
     pub summed_up : (groups : List (GroupRow K)) → ArePlain groups → AreApart groups
         → AllByRecursion (λ group. group.totals ≡ totals_of gs (members cmp group.keys rows)) groups
@@ -276,22 +267,8 @@ module _ {K : Type 0} (cmp : K → K → Ordering)
       hidden_or_own : (keys ms : List (Option K)) → IsMasked keys (shown ms)
           → IsGroup Plain count (all_rows parts) ms → IsTrue (is_grouping s keys)
           → IsGroup s count (all_rows parts) keys
-      hidden_or_own keys ms masked (plain, inl row) is = (
-        is,
-        inl (
-          row.0,
-          row.1,
-          subst (IsMasked keys)
-              (ap shown (shown_masked ms row.0.keys plain row.2) ∙ shown_of row.0.keys) masked,
-        ),
-      )
-      hidden_or_own keys ms masked (plain, inr none) is =
-          let empty : replicate {A = Option K} count None ≡ [] =
-          none_hidden count (subst (λ ks. is_grouping Plain ks ≡ true) none plain) in (
-            is,
-            inr (nothing_masked keys (subst (IsMasked keys) (ap shown (none ∙ empty)) masked)
-                ∙ sym empty),
-          )
+      hidden_or_own keys ms masked it is =
+          grind (arith, shown_masked, shown_of, none_hidden, nothing_masked)
 
       group_there : (keys : List (Option K)) → IsGroup s count (map as_row (all_groups parts)) keys
           → IsGroup s count (all_rows parts) keys

@@ -1,6 +1,7 @@
 -- Totals that are added up under all groupings are those of the groups.
-use Rattle.std.proofs.Common.{◌≡◌, ◌∙◌, ◌⊎◌, ℕ, Bool, true, false, ◌&&◌, List, [], ◌∷◌, ◌++◌, Option, Some, None, map, cond, refl, sym, subst, ap, inl, inr, ⊎_elim, true≢false, IsTrue}
-use Rattle.star_merge_laws.proofs.Common.{Aggregate, All, All-append, All-cons, All-contains, All-contains_itself, All-filter, All-map, All-nil, All-weaker, AreAddedUp, AreMerged, Contains, Contains-append_cases, Contains-append_left, Contains-append_right, Decides, Entry, Equal, Greater, GroupRow, IsGroup, IsMasked, Less, Ordering, Shape, added, all_added, and_parts, append-nil, are_same, as_row, belongs, contains_cases, contains_here, contains_later, contains_mapped, contains_none, filter, filter-append, filter_agree, filter_passes, flat_map, from_contains_map, is_eq, is_grouping, key_cmp, masks, merged_totals, ordering_then, parts_of, replicate, slice_cmp, total_over}
+use Rattle.std.proofs.Common.{◌≡◌, ◌∙◌, ◌⊎◌, ℕ, Bool, true, false, ◌&&◌, List, [], ◌∷◌, ◌++◌, Option, Some, None, map, cond, refl, sym, subst, ap, inl, inr, ⊎_elim, true≢false, IsTrue, arith}
+use Rattle.star_merge_laws.proofs.Common.{Aggregate, All, All-append, All-cons, All-contains, All-contains_itself, All-filter, All-map, All-nil, All-weaker, AreAddedUp, AreMerged, Contains, Contains-append_cases, Contains-append_left, Contains-append_right, Decides, Entry, Equal, Greater, GroupRow, IsGroup, IsMasked, Less, Ordering, Shape, added, all_added, and_parts, append-nil, are_same, as_row, belongs, contains_cases, contains_here, contains_later, contains_mapped, contains_none, filter, filter-append, filter_agree, filter_passes, flat_map, from_contains_map, is_eq, is_grouping, key_cmp, masks, ordering_then, parts_of, replicate, slice_cmp, total_over}
+use Rattle.std.proofs.lemmas.Grind.{common_steps}
 
 -- ---- lists
 
@@ -18,14 +19,7 @@ module _ {X : Type 0} where
   filter_twice : (p q : X → Bool) → ((x : X) → p x ≡ true → q x ≡ true) → (xs : List X)
       → filter p (filter q xs) ≡ filter p xs
   filter_twice p q implies [] = refl
-  filter_twice p q implies (x ∷ xs) = by (q x) refl (filter_twice p q implies xs)
-    where
-      by : (c : Bool) → q x ≡ c → filter p (filter q xs) ≡ filter p xs
-          → filter p (cond c (x ∷ filter q xs) (filter q xs))
-          ≡ cond (p x) (x ∷ filter p xs) (filter p xs)
-      by true f same = λ i. cond (p x) (x ∷ same i) (same i)
-      by false f same = same
-          ∙ sym (ap (λ b. cond b (x ∷ filter p xs) (filter p xs)) (contrary (p x) (q x) (implies x) f))
+  filter_twice p q implies (x ∷ xs) = grind (arith, filter_twice p q implies xs, contrary)
 
   contains_kept : (p : X → Bool) (xs : List X) (x : X) → Contains xs x → p x ≡ true
       → Contains (filter p xs) x
@@ -53,13 +47,7 @@ module _ {X Y : Type 0} where
   pub filter_mapped : (p : Y → Bool) (f : X → Y) (xs : List X)
       → filter p (map f xs) ≡ map f (filter (λ x. p (f x)) xs)
   filter_mapped p f [] = refl
-  filter_mapped p f (x ∷ xs) = by (p (f x)) (filter_mapped p f xs)
-    where
-      by : (b : Bool) → filter p (map f xs) ≡ map f (filter (λ x. p (f x)) xs)
-          → cond b (f x ∷ filter p (map f xs)) (filter p (map f xs))
-          ≡ map f (cond b (x ∷ filter (λ x. p (f x)) xs) (filter (λ x. p (f x)) xs))
-      by true e = ap (λ ys. f x ∷ ys) e
-      by false e = e
+  filter_mapped p f (x ∷ xs) = grind (arith, filter_mapped p f xs)
 
   none_mapped : (p : Y → Bool) (f : X → Y) → ((x : X) → p (f x) ≡ false) → (xs : List X)
       → filter p (map f xs) ≡ []
@@ -121,18 +109,9 @@ module _ {K : Type 0} (cmp : K → K → Ordering)
   only_mask [] [] = refl
   only_mask (None ∷ q) [] = refl
   only_mask (Some j ∷ q) [] = refl
-  only_mask [] (k ∷ ks) =
-      filter-append (are_same cmp []) (map (λ m. Some k ∷ m) (masks ks))
-      (map (λ m. None ∷ m) (masks ks))
-      ∙ (λ i. none_mapped (are_same cmp []) (λ m. Some k ∷ m) (λ m. refl) (masks ks) i
-      ++ none_mapped (are_same cmp []) (λ m. None ∷ m) (λ m. refl) (masks ks) i)
+  only_mask [] (k ∷ ks) = grind (arith, filter-append, masks, none_mapped)
   only_mask (None ∷ q) (k ∷ ks) =
-      filter-append (are_same cmp (None ∷ q)) (map (λ m. Some k ∷ m) (masks ks))
-      (map (λ m. None ∷ m) (masks ks))
-      ∙ (λ i. none_mapped (are_same cmp (None ∷ q)) (λ m. Some k ∷ m) (λ m. refl) (masks ks) i
-      ++ (filter_mapped (are_same cmp (None ∷ q)) (λ m. None ∷ m) (masks ks)
-      ∙ ap (map (λ m. None ∷ m)) (only_mask q ks)
-      ∙ map_cond (λ m. None ∷ m) (belongs cmp q ks) q) i)
+      grind (arith, common_steps, only_mask q ks, filter-append, masks, none_mapped, filter_mapped)
   only_mask (Some j ∷ q) (k ∷ ks) =
       filter-append (are_same cmp (Some j ∷ q)) (map (λ m. Some k ∷ m) (masks ks))
       (map (λ m. None ∷ m) (masks ks))
@@ -214,20 +193,7 @@ module _ {K : Type 0} (cmp : K → K → Ordering)
         ≡ total_over gs (parts_of cmp q groups)
     added_totals gs q is [] = refl
     added_totals gs q is (group ∷ groups) =
-        ap (total_over gs)
-        (filter-append (λ more. are_same cmp q more.keys) (added s group) (all_added s groups)
-        ∙ ap (λ front. front ++ filter (λ more. are_same cmp q more.keys) (all_added s groups))
-        (added_once q group is))
-        ∙ by (belongs cmp q (as_row group).keys) (added_totals gs q is groups)
-      where
-        by : (b : Bool)
-            → total_over gs (filter (λ more. are_same cmp q more.keys) (all_added s groups))
-            ≡ total_over gs (parts_of cmp q groups)
-            → total_over gs (cond b (under group q ∷ []) []
-            ++ filter (λ more. are_same cmp q more.keys) (all_added s groups))
-            ≡ total_over gs (cond b (group ∷ parts_of cmp q groups) (parts_of cmp q groups))
-        by true e = ap (merged_totals gs group.totals) e
-        by false e = e
+        grind (arith, added_totals gs q is groups, filter-append, added, all_added, added_once)
 
     -- what is added is a group
     pub added_group : (count : ℕ) (groups : List (GroupRow K)) (more : GroupRow K)

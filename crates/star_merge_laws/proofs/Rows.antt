@@ -1,7 +1,8 @@
 -- The rows that a plan selects of lineorder's rows are those that it selects of each part.
-use Rattle.std.proofs.Common.{◌≡◌, ◌∙◌, ℕ, ◌+◌, true, List, [], ◌∷◌, ◌++◌, Option, Some, None, refl, sym, ap, true≢false}
-use Rattle.star_merge_laws.proofs.Common.{Database, Join, Joined, Lineorder, Plan, Row, TableId, all_hold, all_of, and_parts, filter, filter-append, flat_map, flat_map-append, is_foreign, is_lone_key, joined_rows, key_of, list_all, matches, only_row, partners, plan_rows, references, refers, rows_in, sum_by, sum_by-append, sum_by-cons, table_of, table_same, tables_with, with_row}
+use Rattle.std.proofs.Common.{◌≡◌, ◌∙◌, ℕ, ◌+◌, true, List, [], ◌∷◌, ◌++◌, Option, Some, None, refl, sym, ap, true≢false, arith}
+use Rattle.star_merge_laws.proofs.Common.{Database, Join, Joined, Lineorder, Plan, Row, TableId, all_of, and_parts, filter, filter-append, flat_map, flat_map-append, is_foreign, joined_rows, list_all, matches, only_row, partners, plan_rows, references, refers, rows_in, sum_by, table_of, table_same, tables_with, with_row}
 use Rattle.star_merge_laws.proofs.LoadableParts.{IsBeside, referred_beside, rows_beside}
+use Rattle.std.proofs.lemmas.Grind.{common_steps}
 
 -- ---- joins are with other tables than lineorder
 
@@ -10,10 +11,7 @@ refers_to None t e = absurd (true≢false (sym e))
 refers_to (Some s) t e = ap Some (table_same s t e)
 
 key_beside : (j : Join) → is_foreign j.foreign j.key ≡ true → IsBeside (table_of j.key)
-key_beside j e = referred_beside j.foreign (table_of j.key)
-    (refers_to (references j.foreign) (table_of j.key)
-    (and_parts (refers (references j.foreign) (table_of j.key))
-    (is_lone_key j.key (key_of (table_of j.key))) e).0)
+key_beside j e = grind (arith, referred_beside, refers_to, references, and_parts)
 
 abbrev pub AreForeign : List Join → Type 0
 AreForeign js = list_all (λ j. is_foreign j.foreign j.key) js ≡ true
@@ -50,21 +48,12 @@ module _ (database : Database) where
         ≡ sum_by (λ part. sum_by count (joined_rows (tables_with database part) js)) parts
     counted_of_parts count [] = refl
     counted_of_parts count (part ∷ parts) =
-        ap (sum_by count) (joined_together part (all_of parts))
-        ∙ sum_by-append count (joined_rows (tables_with database part) js)
-        (joined_rows (tables_with database (all_of parts)) js)
-        ∙ ap (λ n. sum_by count (joined_rows (tables_with database part) js) + n)
-        (counted_of_parts count parts)
-        ∙ sym (sum_by-cons (λ rows. sum_by count (joined_rows (tables_with database rows) js)) part
-        parts)
+        grind (arith, common_steps, counted_of_parts count parts, joined_together, all_of)
 
   module _ (p : Plan) (foreign : AreForeign p.joins) where
     pub selected_together : (xs ys : List Row) → plan_rows (tables_with database (xs ++ ys)) p
         ≡ plan_rows (tables_with database xs) p ++ plan_rows (tables_with database ys) p
-    selected_together xs ys =
-        ap (filter (all_hold p.conjuncts)) (joined_together p.joins foreign xs ys)
-        ∙ filter-append (all_hold p.conjuncts) (joined_rows (tables_with database xs) p.joins)
-        (joined_rows (tables_with database ys) p.joins)
+    selected_together xs ys = grind (arith, joined_together, filter-append)
 
     pub selected_of_parts : (parts : List (List Row))
         → plan_rows (tables_with database (all_of parts)) p

@@ -59,11 +59,7 @@ before_all span (part ∷ parts) h =
 
 none_apart : (parts : List LineorderPart) → AllByRecursion (λ part. are_disjoint None part.span ≡ true) parts
 none_apart [] = tt
-none_apart (part ∷ parts) = (apart_alike None part.span ∙ by part.span, none_apart parts)
-  where
-    by : (o : Option Span) → are_disjoint o None ≡ true
-    by None = refl
-    by (Some a) = refl
+none_apart (part ∷ parts) = grind (arith, none_apart parts, apart_alike)
 
 abbrev Apart : LineorderPart → LineorderPart → Type 0
 Apart a b = are_disjoint a.span b.span ≡ true

@@ -1,25 +1,17 @@
 -- Aggregates over rows that pass one of two tests.
 use Rattle.std.proofs.Common.{◌≡◌, ◌∙◌, ℕ, ◌+◌, Bool, true, false, ◌&&◌, ◌||◌, List, [], ◌∷◌, ◌++◌, Option, Some, None, map, cond, refl, sym, ap, arith, true≢false}
-use Rattle.star_merge_laws.proofs.Common.{Aggregate, Count, Entry, Max, Min, Sum, aggregate, both, clamps, filter, int_max, int_min, ints, joined, joined_with, merged, merged_totals, pos, slice_index_or, totals_from, totals_of, ℤ, ◌+ℤ◌}
+use Rattle.star_merge_laws.proofs.Common.{Aggregate, Count, Entry, aggregate, both, clamps, filter, ints, joined, joined_with, merged, merged_totals, pos, slice_index_or, totals_from, totals_of, ℤ}
+use Rattle.std.proofs.lemmas.Grind.{common_steps}
 
 both_comm : (g : Aggregate) (x y : ℤ) → both g x y ≡ both g y x
-both_comm Sum x y = omega (arith, ints)
-both_comm Count x y = omega (arith, ints)
-both_comm Min x y = omega (arith, ints, clamps)
-both_comm Max x y = omega (arith, ints, clamps)
+both_comm it x y = grind (arith, ints, clamps)
 
 both_assoc : (g : Aggregate) (x y z : ℤ) → both g (both g x y) z ≡ both g x (both g y z)
-both_assoc Sum x y z = omega (arith, ints)
-both_assoc Count x y z = omega (arith, ints)
-both_assoc Min x y z = omega (arith, ints, clamps)
-both_assoc Max x y z = omega (arith, ints, clamps)
+both_assoc it x y z = grind (arith, common_steps, ints, clamps)
 
 pub merged_assoc : (g : Aggregate) (r s t : Option ℤ)
     → merged g (merged g r s) t ≡ merged g r (merged g s t)
-merged_assoc g None s t = refl
-merged_assoc g (Some x) None t = refl
-merged_assoc g (Some x) (Some y) None = refl
-merged_assoc g (Some x) (Some y) (Some z) = ap Some (both_assoc g x y z)
+merged_assoc g it s t = grind (arith, ints, both_assoc)
 
 pub merged_comm : (g : Aggregate) (r s : Option ℤ) → merged g r s ≡ merged g s r
 merged_comm g None None = refl
@@ -40,18 +32,12 @@ one_more g f z (Some y) is = ap Some (sym (is z y))
 -- an aggregate over one row more
 over_more : (g : Aggregate) (z : ℤ) (zs : List ℤ)
     → aggregate g (z ∷ zs) ≡ merged g (over_one g z) (aggregate g zs)
-over_more Count z zs = ap Some (omega (arith, ints))
-over_more Sum z zs = one_more Sum (λ x y. x +ℤ y) z (joined (λ x y. x +ℤ y) zs) (λ x y. refl)
-over_more Min z zs = one_more Min int_min z (joined int_min zs) (λ x y. refl)
-over_more Max z zs = one_more Max int_max z (joined int_max zs) (λ x y. refl)
+over_more it z zs = grind (arith, ints, one_more, joined)
 
 -- an aggregate over no rows adds nothing to one
 over_none : (g : Aggregate) (zs : List ℤ)
     → aggregate g zs ≡ merged g (aggregate g []) (aggregate g zs)
-over_none Count zs = ap Some (omega (arith, ints))
-over_none Sum zs = refl
-over_none Min zs = refl
-over_none Max zs = refl
+over_none it zs = grind (arith, ints)
 
 module _ {X : Type 0} (g : Aggregate) (number : X → ℤ) where
   abbrev over : List X → Option ℤ

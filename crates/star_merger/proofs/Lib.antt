@@ -5,5 +5,6 @@ pub mod Outcomes
 pub mod Whole
 pub mod Usable
 pub mod Results
+pub mod AnyOrder
 pub mod Told
 pub mod TextsApart

@@ -142,7 +142,7 @@ module _ (rows visits : ℕ) (texts : TableTexts) (query hash : List ℕ) where
       All-map (IsLoadablePart rows texts) _ shares (λ k d within.
       record { loadable = (are k d within).loadable; within = (are k d within).partial.span })
 
-  disjoint_parts : (shares : List TextShare) → AreDisjointSpans (spans_of (all_contents shares))
+  pub disjoint_parts : (shares : List TextShare) → AreDisjointSpans (spans_of (all_contents shares))
       → AreDisjoint (lineorder_parts shares)
   disjoint_parts shares disjoint =
       let parts = lineorder_parts shares in
@@ -159,12 +159,12 @@ module _ (rows visits : ℕ) (texts : TableTexts) (query hash : List ℕ) where
       → All IsOwn (share ∷ shares)
       → length (all_of (share_rows (row_shares (share ∷ shares)))) ≤ rows
       → (is_distinct ≡ true → AreDistinct (share ∷ shares))
-      → (is_distinct ≡ false → AreDisjointSpans (spans_of (all_contents (share ∷ shares))))
+      → (is_distinct ≡ false → AreDisjoint (lineorder_parts (share ∷ shares)))
       → IsLoadable rows (whole_texts texts (share ∷ shares))
   whole_loadable true share shares are few distinct disjoint =
       distinct_loadable rows texts _ (lineorder_parts shares) (loadable_parts (share ∷ shares) are)
       (distinct refl) (omega (arith, records_counted (share ∷ shares), few))
   whole_loadable false share shares are few distinct disjoint =
       parts_loadable rows texts _ (lineorder_parts shares) (loadable_parts (share ∷ shares) are)
-      (disjoint_parts (share ∷ shares) (disjoint refl))
+      (disjoint refl)
       (omega (arith, records_counted (share ∷ shares), few))

@@ -1,5 +1,5 @@
 -- What is written and what is due over all parts.
-use Rattle.std.proofs.Common.{◌≡◌, ◌∙◌, ◌<◌, ℕ, Bool, true, List, Some, ◌∷◌, ap, arith, length, subst, sym}
+use Rattle.std.proofs.Common.{◌≡◌, ◌∙◌, ◌<◌, ℕ, List, Some, ◌∷◌, ap, arith, length, subst, sym}
 use Rattle.std.specs.List.{All}
 use Rattle.star_schema.specs.declared.table.TableId.TheVariants.{Lineorder}
 use Rattle.star_schema.specs.{Database.Database, Database.TableTexts, Loadable.IsLoadable, Loadable.database_of}
@@ -12,10 +12,18 @@ use Rattle.star_merge_laws.specs.Tables.{all_of}
 use Rattle.star_merge_laws.proofs.Many.{too_many}
 use Rattle.star_engine.specs.{Loads.AreLoadedRows, Noted.Telling, Notes.quote_line, Queries.FitsRows, Queries.IsPlanOf, Queries.IsQueryQuote, Queries.IsQueryTold, Queries.IsQueryToldOver, Queries.IsUnanswered, Queries.IsUnfit, Queries.fact_rows}
 use Rattle.star_engine.specs.declared.fault.EngineFault.TheVariants as engine
-use Rattle.star_merger.specs.{Merged.spans_of, Private.Checked.AreChecked, Private.Outcomes.IsMergedOutcome, Private.Shares.AreShares, Private.Shares.Share, Private.Shares.contents_of_shares, Private.Shares.share_rows, Private.Shares.whole_of, Private.Written.IsMergedTelling, Private.Written.telling_of}
-use Rattle.star_merger.specs.TextShares.{AreDistinct, IsTextShare, TextShare, all_contents, whole_texts}
-use Rattle.star_merger.proofs.{Results.loaded_rows, TextParts.contents_same, TextParts.loadable_parts, TextParts.own_shares, TextParts.records_counted, TextParts.row_shares, TextParts.whole_loadable, TextParts.whole_same, Whole.told}
-use Rattle.star_verify.specs.declared.facts.Facts.{Facts}
+use Rattle.star_merger.specs.{Private.Outcomes.IsMergedOutcome, Private.Shares.AreShares, Private.Shares.Share, Private.Shares.contents_of_shares, Private.Shares.share_rows, Private.Shares.whole_of, Private.Written.IsMergedTelling, Private.Written.telling_of}
+use Rattle.star_merger.specs.TextShares.{IsTextShare, TextShare, all_contents, whole_texts}
+use Rattle.std.proofs.lemmas.List.Sorted.{All-permutation, IsPermutation-map, IsPermutation-sym, length_permutation}
+use Rattle.std.specs.List.Sorted.{IsPermutation}
+use Rattle.star_interval.specs.Range.{Range}
+use Rattle.star_schema.specs.declared.{column.ColumnId.ColumnId, table.TableId.TableId}
+use Rattle.star_merge_laws.specs.Parts.{AreDisjoint}
+use Rattle.star_merger.specs.Private.Shown.{HasFacts, IsUsable}
+use Rattle.star_merger.specs.TextShares.{lineorder_parts}
+use Rattle.star_merger.proofs.AnyOrder.{disjoint_moved, facts_moved, outcome_reordered, rows_moved}
+use Rattle.star_merger.proofs.TextParts.{row_share}
+use Rattle.star_merger.proofs.{Results.loaded_rows, TextParts.contents_same, TextParts.loadable_parts, TextParts.own_shares, TextParts.records_counted, TextParts.row_shares, TextParts.whole_same, Whole.told}
 
 told_over : (most visits count : ℕ) (note : List ℕ) (database : Database) (query : List ℕ)
     (p : Plan) (meant : IsPlanOf query p) (shares : List Share) (all : List Contents)
@@ -30,6 +38,53 @@ told_over most visits count note database query p meant shares all telling are s
     subst (IsQueryToldOver visits (whole_of database shares) query)
     (sym (is.told ∙ ap (λ note. telling_of note is.outcome) (quoted ∙ ap quote_line counted)))
     (told most database query p meant visits shares is.outcome are merged fits)
+
+-- the parts in another order
+module _ (rows visits : ℕ) (texts : TableTexts) (query hash : List ℕ) (xs ys : List TextShare)
+    (moved : IsPermutation xs ys) where
+  pub shares_moved : All (IsTextShare rows visits texts query hash) xs
+      → All (IsTextShare rows visits texts query hash) ys
+  shares_moved = All-permutation (IsTextShare rows visits texts query hash) xs ys moved
+
+  lines_moved : IsPermutation (all_of (share_rows (row_shares xs)))
+      (all_of (share_rows (row_shares ys)))
+  lines_moved =
+      rows_moved (row_shares xs) (row_shares ys) (IsPermutation-map row_share xs ys moved)
+
+  pub count_moved : length (all_of (share_rows (row_shares ys)))
+      ≡ length (all_of (share_rows (row_shares xs)))
+  count_moved =
+      length_permutation (all_of (share_rows (row_shares xs))) (all_of (share_rows (row_shares ys)))
+      lines_moved
+
+  pub known_moved : (counts : TableId → ℕ) (ranges : ColumnId → Range)
+      → HasFacts (whole_of (database_of texts) (row_shares xs)) counts ranges
+      → HasFacts (whole_of (database_of texts) (row_shares ys)) counts ranges
+  known_moved =
+      facts_moved (database_of texts) (all_of (share_rows (row_shares xs)))
+      (all_of (share_rows (row_shares ys))) lines_moved
+
+  pub parts_moved : AreDisjoint (lineorder_parts xs) → AreDisjoint (lineorder_parts ys)
+  parts_moved =
+      disjoint_moved (lineorder_parts xs) (lineorder_parts ys) (IsPermutation-map _ xs ys moved)
+
+  contents_moved : IsPermutation (all_contents xs) (all_contents ys)
+  contents_moved = IsPermutation-map (λ share. share.contents) xs ys moved
+
+  pub telling_moved : (p : Plan) (count : ℕ) (note : List ℕ) (telling : Telling)
+      → IsMergedTelling p (all_contents xs) count note telling
+      → IsMergedTelling p (all_contents ys) count note telling
+  telling_moved p count note telling is = record {
+    outcome = is.outcome;
+    merged = outcome_reordered p (all_contents xs) (all_contents ys) count is.outcome contents_moved
+        is.merged;
+    told = is.told;
+  }
+
+  pub usable_moved : All IsUsable (all_contents ys) → All IsUsable (all_contents xs)
+  usable_moved =
+      All-permutation IsUsable (all_contents ys) (all_contents xs)
+      (IsPermutation-sym (all_contents xs) (all_contents ys) contents_moved)
 
 module _ (rows visits : ℕ) (texts : TableTexts) (query hash : List ℕ) (share : TextShare)
     (shares : List TextShare)
@@ -54,13 +109,6 @@ module _ (rows visits : ℕ) (texts : TableTexts) (query hash : List ℕ) (share
           not_loadable = λ loadable. omega (arith, counted, many, (loadable.tables Lineorder).0);
         },
       )
-
-  pub loadable : (is_distinct : Bool) (facts : Facts)
-      → AreChecked rows whole_rows is_distinct (spans_of (all_contents (share ∷ shares))) facts
-      → (is_distinct ≡ true → AreDistinct (share ∷ shares)) → IsLoadable rows whole
-  loadable is_distinct facts checked distinct =
-      whole_loadable rows visits texts query hash is_distinct share shares are
-      (omega (arith, checked.known.sizes Lineorder, checked.few)) distinct checked.disjoint
 
   module _ (loads : IsLoadable rows whole) (p : Plan) (meant : IsPlanOf query p) where
     same : whole_rows ≡ database_of whole

@@ -1,6 +1,7 @@
 // The report of a query over all parts, from its partials.
 
 ghost use Rattle.std.specs.Prelude.{◌≡◌, ◌<◌, ◌∷◌, All, IfErr, ℕ, List, length, map, true};
+ghost use Rattle.std.specs.List.Sorted.{IsPermutation};
 ghost use Rattle.star_schema.specs.Database.{TableTexts};
 ghost use Rattle.star_partial.specs.Contents.{contents_of};
 ghost use Rattle.star_engine.specs.{Answered.change, Queries.IsQueryQuote, Queries.IsQueryTold, Queries.IsUnanswered};
@@ -71,13 +72,14 @@ impl Merger {
         out: &mut S,
         notes: &mut N,
     ) -> Result<(), PartialsFault>
-        // Of partials of parts with the same dimensions, and of any partials.
-        ensures merged { (query hash : List ℕ) (texts : TableTexts) (share : TextShare)
-            (shares : List TextShare) → IsMergerOf query self.now
+        // Of partials of parts with the same dimensions, in any order; and of any partials.
+        ensures merged { (query hash : List ℕ) (texts : TableTexts) (share other : TextShare)
+            (shares others : List TextShare) → IsMergerOf query self.now
             → All (IsTextShare limits.rows limits.visits texts query hash) (share ∷ shares)
             → map contents_of partials.now ≡ all_contents (share ∷ shares)
-            → (is_distinct ≡ true → AreDistinct (share ∷ shares))
-            → let whole = whole_texts texts (share ∷ shares) in
+            → IsPermutation (share ∷ shares) (other ∷ others)
+            → (is_distinct ≡ true → AreDistinct (other ∷ others))
+            → let whole = whole_texts texts (other ∷ others) in
             IsMerged (change S.contents S.is_failed out.old out.new)
             (change N.contents N.is_failed notes.old notes.new)
             (IsQueryQuote limits.rows whole query)

@@ -2,20 +2,21 @@ use Rattle.std.proofs.Common.{◌≡◌, ◌∙◌, List, None, ◌∷◌, arith
 use Rattle.std.specs.List.{All}
 use Rattle.star_schema.specs.Loadable.{database_of}
 use Rattle.star_schema.specs.declared.table.TableId.TheVariants.{Lineorder}
-use Rattle.star_partial.specs.Contents.{Contents, contents_of}
+use Rattle.star_schema.specs.Sizes.{size_of}
+use Rattle.star_partial.specs.Contents.{Contents, bounds_at, contents_of}
 use Rattle.star_program.specs.World.{World}
 use Rattle.star_safety.specs.Admissible.{first_refusal}
 use Rattle.star_verify.specs.{Facts.AreFacts, Views.refusal_view}
 use Rattle.star_world.specs.WorldOf.{world_of}
 use Rattle.star_compile_laws.specs.Compiled.{compiled}
 use Rattle.star_engine.specs.{Answered.change, Queries.IsQueryQuote, Queries.IsQueryTold, Queries.IsUnanswered}
-use Rattle.star_merger.specs.{Merged.IsOverlap, Merged.spans_of, Private.Checked.AreChecked, Private.Outcomes.IsUnmerged, Private.Shown.IsUsable, Private.Written.IsMergedTelling}
-use Rattle.star_merger.specs.TextShares.{whole_texts}
+use Rattle.star_merger.specs.{Merged.IsOverlap, Merged.spans_of, Private.Checked.AreDisjointSpans, Private.Outcomes.IsUnmerged, Private.Shown.IsUsable, Private.Written.IsMergedTelling}
+use Rattle.star_merger.specs.TextShares.{all_contents, whole_texts}
 use Rattle.star_merger.proofs.JoinedFacts.{are_facts}
 use Rattle.star_merger.proofs.Results.{as_noted, merged_as, none_fits, not_checked, only_overflow, refused_after, unfit, unprinted, unprinted_same}
 use Rattle.star_merger.proofs.TextBytes.{quote_some}
-use Rattle.star_merger.proofs.TextParts.{all_dimensions, contents_same, own_shares, row_share, row_shares}
-use Rattle.star_merger.proofs.Told.{loadable, loaded, quote_due, refusal_due, telling_due, too_many_due, whole_rows}
+use Rattle.star_merger.proofs.TextParts.{all_dimensions, contents_same, disjoint_parts, own_shares, row_share, row_shares, whole_loadable}
+use Rattle.star_merger.proofs.Told.{count_moved, known_moved, loaded, parts_moved, quote_due, refusal_due, shares_moved, telling_due, telling_moved, too_many_due, usable_moved, whole_rows}
 use Rattle.star_merger.proofs.Usable.{usable}
 use Rattle.star_merger.proofs.Whole.{own_facts}
 use Rattle.star_merger.proofs.merger.Merger.merge.Goals as goal
@@ -30,51 +31,63 @@ write_refused-requires g c =
     (quote_some c.from-rows.result)
 
 pub returns-in-Err-clause-merged : goal.returns-in-Err-clause-merged
-returns-in-Err-clause-merged g c = λ query hash texts share shares is are same distinct.
+returns-in-Err-clause-merged g c = λ query hash texts share other shares others is are same moved distinct.
     let rows = c.args.limits.rows in
     let visits = c.args.limits.visits in
-    let whole = whole_texts texts (share ∷ shares) in
-    let own = own_shares rows visits texts query hash (share ∷ shares) are in
+    let xs = share ∷ shares in
+    let ys = other ∷ others in
+    let whole = whole_texts texts ys in
+    let own = own_shares rows visits texts query hash xs are in
+    let are_ys = shares_moved rows visits texts query hash xs ys moved are in
+    let count = count_moved rows visits texts query hash xs ys moved in
     not_checked (change g.S.Sink.contents g.S.Sink.is_failed c.args.out.now c.args.out.now)
     (change g.N.Sink.contents g.N.Sink.is_failed c.args.notes.now c.args.notes.now)
     (IsQueryQuote rows whole query) (IsQueryTold rows visits whole query)
     (IsUnanswered rows visits whole query) rows
     (whole_rows rows visits texts query hash share shares are) c.args.is_distinct
     (spans_of (map contents_of c.args.partials.now)) c.in-Err.fault
-    (too_many_due rows visits texts query hash share shares are is.p is.meant) refl refl
+    (λ fault is_many many. too_many_due rows visits texts query hash other others are_ys is.p is.meant
+    fault is_many (omega (arith, count, many))) refl refl
     (c.in-Err.ensures hash (database_of texts) (row_share share) (row_shares shares)
-    (same ∙ contents_same (share ∷ shares))
-    (own_facts visits (database_of texts) query is.p is.meant (row_shares (share ∷ shares)) own)
-    (all_dimensions rows visits texts query hash (share ∷ shares) c.args.partials.now are same))
+    (same ∙ contents_same xs)
+    (own_facts visits (database_of texts) query is.p is.meant (row_shares xs) own)
+    (all_dimensions rows visits texts query hash xs c.args.partials.now are same))
 
 pub returns-in-Ok-forecast-clause-merged : goal.returns-in-Ok-forecast-clause-merged
-returns-in-Ok-forecast-clause-merged g c = λ query hash texts share shares is are same distinct.
+returns-in-Ok-forecast-clause-merged g c = λ query hash texts share other shares others is are same moved distinct.
     let rows = c.args.limits.rows in
     let visits = c.args.limits.visits in
-    let whole = whole_texts texts (share ∷ shares) in
-    let over = whole_rows rows visits texts query hash share shares are in
+    let xs = share ∷ shares in
+    let ys = other ∷ others in
+    let whole = whole_texts texts ys in
+    let are_ys = shares_moved rows visits texts query hash xs ys moved are in
+    let over = whole_rows rows visits texts query hash other others are_ys in
     let facts = c.in-Ok.facts in
     let all = map contents_of c.args.partials.now in
-    let own = own_shares rows visits texts query hash (share ∷ shares) are in
+    let own = own_shares rows visits texts query hash xs are in
     let checked = c.in-Ok.ensures hash (database_of texts) (row_share share) (row_shares shares)
-    (same ∙ contents_same (share ∷ shares))
-    (own_facts visits (database_of texts) query is.p is.meant (row_shares (share ∷ shares)) own)
-    (all_dimensions rows visits texts query hash (share ∷ shares) c.args.partials.now are same) in
-    let loads = loadable rows visits texts query hash share shares are c.args.is_distinct facts
-    (subst (λ (all : List Contents). AreChecked rows over c.args.is_distinct (spans_of all) facts) same
-    checked) distinct in
+    (same ∙ contents_same xs)
+    (own_facts visits (database_of texts) query is.p is.meant (row_shares xs) own)
+    (all_dimensions rows visits texts query hash xs c.args.partials.now are same) in
+    let known = known_moved rows visits texts query hash xs ys moved (size_of facts.sizes)
+    (bounds_at facts.bounds) checked.known in
+    let loads = whole_loadable rows visits texts query hash c.args.is_distinct other others are_ys
+    (omega (arith, known.sizes Lineorder, checked.few)) distinct
+    (λ not. parts_moved rows visits texts query hash xs ys moved
+    (disjoint_parts rows visits texts query hash xs
+    (subst (λ (all : List Contents). AreDisjointSpans (spans_of all)) same (checked.disjoint not)))) in
     let none : first_refusal (world_of over) visits (compiled is.p) ≡ None =
     subst (λ program. first_refusal (world_of over) visits program ≡ None) is.program
     (c.in-Ok-forecast.ensures.accepted (world_of over)
-    (are_facts over facts (omega arith) checked.known)) in
+    (are_facts over facts (omega arith) known)) in
     let fits = none_fits visits over query is.p is.meant
     (c.queries_that_fit_are_answered.ensures.accepted visits over query is.p
-    (loaded rows visits texts query hash share shares are loads is.p is.meant) is.meant)
+    (loaded rows visits texts query hash other others are_ys loads is.p is.meant) is.meant)
     (c.admissible_programs_within_the_limit_are_not_refused.ensures (world_of over) visits
     (compiled is.p)) none in
     let count = c.from-rows.result in
     let note = c.as_bytes.result.now in
-    let counted = c.from-rows.ensures ∙ checked.known.sizes Lineorder in
+    let counted = c.from-rows.ensures ∙ known.sizes Lineorder in
     let quoted = c.as_bytes.ensures.value ∙ c.in-Ok-quote_note.ensures in
     merged_as (change g.S.Sink.contents g.S.Sink.is_failed c.args.out.now c.write_merged.new.out)
     (change g.N.Sink.contents g.N.Sink.is_failed c.args.notes.now c.write_merged.new.notes)
@@ -82,34 +95,46 @@ returns-in-Ok-forecast-clause-merged g c = λ query hash texts share shares is a
     (IsMergedTelling is.p all count note) (IsQueryTold rows visits whole query)
     (λ fault. ⊥) (IsUnanswered rows visits whole query) (IsUnmerged all)
     (IsOverlap c.args.is_distinct (spans_of all)) c.write_merged.result
-    (λ text e. quote_due rows visits texts query hash share shares are loads is.p is.meant count note
+    (λ text e. quote_due rows visits texts query hash other others are_ys loads is.p is.meant count note
     text counted quoted e)
-    (λ telling told. telling_due rows visits texts query hash share shares are loads is.p is.meant count
-    note all telling same counted quoted fits told)
+    (λ telling told. telling_due rows visits texts query hash other others are_ys loads is.p is.meant
+    count note (all_contents ys) telling refl counted quoted fits
+    (telling_moved rows visits texts query hash xs ys moved is.p count note telling
+    (subst (λ all. IsMergedTelling is.p all count note telling) same told)))
     (λ fault never. absurd never)
     (only_overflow all c.args.is_distinct (spans_of all)
-    (subst (All IsUsable) (sym (same ∙ contents_same (share ∷ shares)))
-    (usable visits (database_of texts) query is.p is.meant (row_shares (share ∷ shares)) own fits)))
+    (subst (All IsUsable) (sym same)
+    (usable_moved rows visits texts query hash xs ys moved
+    (subst (All IsUsable) (sym (contents_same ys))
+    (usable visits (database_of texts) query is.p is.meant (row_shares ys)
+    (own_shares rows visits texts query hash ys are_ys) fits)))))
     (c.write_merged.ensures.merged query is)
 
 pub returns-clause-merged : goal.returns-clause-merged
-returns-clause-merged g c = λ query hash texts share shares is are same distinct.
+returns-clause-merged g c = λ query hash texts share other shares others is are same moved distinct.
     let rows = c.args.limits.rows in
     let visits = c.args.limits.visits in
-    let whole = whole_texts texts (share ∷ shares) in
-    let over = whole_rows rows visits texts query hash share shares are in
+    let xs = share ∷ shares in
+    let ys = other ∷ others in
+    let whole = whole_texts texts ys in
+    let are_ys = shares_moved rows visits texts query hash xs ys moved are in
+    let over = whole_rows rows visits texts query hash other others are_ys in
     let facts = c.in-Ok.facts in
     let all = map contents_of c.args.partials.now in
-    let own = own_shares rows visits texts query hash (share ∷ shares) are in
+    let own = own_shares rows visits texts query hash xs are in
     let checked = c.in-Ok.ensures hash (database_of texts) (row_share share) (row_shares shares)
-    (same ∙ contents_same (share ∷ shares))
-    (own_facts visits (database_of texts) query is.p is.meant (row_shares (share ∷ shares)) own)
-    (all_dimensions rows visits texts query hash (share ∷ shares) c.args.partials.now are same) in
-    let loads = loadable rows visits texts query hash share shares are c.args.is_distinct facts
-    (subst (λ (all : List Contents). AreChecked rows over c.args.is_distinct (spans_of all) facts) same
-    checked) distinct in
+    (same ∙ contents_same xs)
+    (own_facts visits (database_of texts) query is.p is.meant (row_shares xs) own)
+    (all_dimensions rows visits texts query hash xs c.args.partials.now are same) in
+    let known = known_moved rows visits texts query hash xs ys moved (size_of facts.sizes)
+    (bounds_at facts.bounds) checked.known in
+    let loads = whole_loadable rows visits texts query hash c.args.is_distinct other others are_ys
+    (omega (arith, known.sizes Lineorder, checked.few)) distinct
+    (λ not. parts_moved rows visits texts query hash xs ys moved
+    (disjoint_parts rows visits texts query hash xs
+    (subst (λ (all : List Contents). AreDisjointSpans (spans_of all)) same (checked.disjoint not)))) in
     let laws = c.queries_that_fit_are_answered.ensures in
-    let known = are_facts over facts (omega arith) checked.known in
+    let facts_known = are_facts over facts (omega arith) known in
     let note = c.as_bytes-in-Err-forecast.result.now in
     let out = change g.S.Sink.contents g.S.Sink.is_failed c.args.out.now c.args.out.now in
     let notes = change g.N.Sink.contents g.N.Sink.is_failed c.args.notes.now
@@ -123,19 +148,19 @@ returns-clause-merged g c = λ query hash texts share shares is are same distinc
     ((w : World) → AreFacts w facts
     → first_refusal w visits c.args.self.now.program ≡ refusal_view c.in-Err-forecast.refusal)
     c.write_refused.result c.in-Err-forecast.ensures.refused
-    (λ told not_memory. refusal_due rows visits texts query hash share shares are loads is.p is.meant
+    (λ told not_memory. refusal_due rows visits texts query hash other others are_ys loads is.p is.meant
     c.in-Err-forecast.refusal
     (unfit visits over query is.p is.meant
     (laws.accepted visits over query is.p
-    (loaded rows visits texts query hash share shares are loads is.p is.meant) is.meant)
+    (loaded rows visits texts query hash other others are_ys loads is.p is.meant) is.meant)
     (c.admissible_programs_within_the_limit_are_not_refused.ensures (world_of over) visits
     (compiled is.p)) c.in-Err-forecast.refusal (laws.costly visits over is.p)
     (laws.wide visits over query is.p is.meant) (laws.first visits over query is.p is.meant)
     (subst (λ program. first_refusal (world_of over) visits program
-    ≡ refusal_view c.in-Err-forecast.refusal) is.program (told (world_of over) known)) not_memory))
+    ≡ refusal_view c.in-Err-forecast.refusal) is.program (told (world_of over) facts_known)) not_memory))
     refl
-    (quote_due rows visits texts query hash share shares are loads is.p is.meant c.from-rows.result
-    note note (c.from-rows.ensures ∙ checked.known.sizes Lineorder)
+    (quote_due rows visits texts query hash other others are_ys loads is.p is.meant c.from-rows.result
+    note note (c.from-rows.ensures ∙ known.sizes Lineorder)
     (c.as_bytes-in-Err-forecast.ensures.value ∙ c.in-Ok-quote_note.ensures) refl)
     c.write_refused.ensures))
 
