@@ -3,11 +3,11 @@ use Rattle.std.proofs.Common.{◌≡◌, ℕ, List, Bool, true, false, inl, refl
 use Rattle.std.specs.Prelude.{◌↔◌, Result, Err, IfOk, IsTrue}
 use Rattle.star_schema.specs.{Database.TableTexts, Loadable.IsLoadable, Loadable.database_of, Most.most_rows, Most.most_visits, declared.limits.Limits.Limits}
 use Rattle.star_verify.specs.declared.refusal.Refusal.{Refusal}
-use Rattle.star_engine.specs.Queries.{IsExplained, IsNoQuery, IsQueryQuote, IsQueryTold, IsUnanswered}
+use Rattle.star_engine.specs.Queries.{IsExplained, IsQueryError, IsQueryQuote, IsQueryRun, IsQueryRunError}
 use Rattle.star_engine.specs.{declared.fault.EngineFault.EngineFault, declared.fault.EngineFault.TheVariants.Refused, declared.question.Question.Question, Answered.Change, Answered.IsAnswered, Answered.IsUntouched, Answered.OrMemory, Bench.AllFit, Bench.IsBench, Bench.IsBenchOver}
-use Rattle.star_engine.specs.{Executions.IsQuoteOf, Executions.IsToldOf, Executions.IsUntold, Listing.IsListing, Listing.IsListingOver, Loads.IsUnloaded, Noted.IsNoted, Noted.Telling, Questions.Asks, QuoteTexts.IsQuoteText, QuoteTexts.IsUnquoted, QuoteTexts.is_program_file}
-use Rattle.star_engine.specs.{Trials.IsNoTrial, Trials.IsTrialReport, Private.TextSteps.IsQuoteOfTexts, Private.TextSteps.IsToldOfTexts, Private.TextSteps.IsUntoldOfTexts}
-use Rattle.star_engine.proofs.TellingLemmas.{never_refused, none, unloaded, unquoted_none, unquoted_tables}
+use Rattle.star_engine.specs.{Executions.IsQuoteOf, Executions.IsRunError, Executions.IsRunOf, Listing.IsListing, Listing.IsListingOver, Loads.IsLoadError, Questions.Asks, QuoteTexts.IsQuoteError, QuoteTexts.IsQuoteText, QuoteTexts.is_program_file, WithNotes.IsAnsweredWithNotes, WithNotes.RunText}
+use Rattle.star_engine.specs.{Trials.IsTrialError, Trials.IsTrialReport, Private.TextSteps.IsQuoteOfTexts, Private.TextSteps.IsRunOfTexts, Private.TextSteps.IsRunErrorOfTexts}
+use Rattle.star_engine.proofs.RunTextLemmas.{never_refused, none, unloaded, unquoted_none, unquoted_tables}
 use Rattle.star_engine.proofs.{Answering.stopped, Loaded.answered_over, Noting.noted_stopped, QueryFaults.or_memory, Trials.no_trial_none, Trials.no_trial_unloaded}
 use Rattle.star_cli.specs.Answers.{IsBenched, IsGivenOf, IsListed, IsListedAndBenched, IsNoneRefused, IsOfTables, IsQuoted, none_refused}
 use Rattle.star_cli.specs.{Private.Asking.AsksFor, Private.Asking.IsNotAsked, declared.answers.Asked.Asked}
@@ -20,13 +20,13 @@ use Rattle.star_cli.specs.declared.answers.Asked.TheVariants as asked
 -- the faults that are due
 abbrev pub IsDueOf : Task → TableTexts → (file : List ℕ) → EngineFault → Type 0
 IsDueOf (Query folder path) texts file fault =
-    IsUnanswered most_rows most_visits texts file fault
-IsDueOf (Explain path) texts file fault = IsNoQuery file fault
-IsDueOf (Exec folder path) texts file fault = IsUntold most_rows most_visits texts file fault
-IsDueOf (Quote folder path) texts file fault = IsUnquoted most_rows texts file fault
+    IsQueryRunError most_rows most_visits texts file fault
+IsDueOf (Explain path) texts file fault = IsQueryError file fault
+IsDueOf (Exec folder path) texts file fault = IsRunError most_rows most_visits texts file fault
+IsDueOf (Quote folder path) texts file fault = IsQuoteError most_rows texts file fault
 IsDueOf (Trial folder path limits) texts file fault =
-    IsNoTrial limits.rows texts file limits.visits fault
-IsDueOf _ texts file fault = IsUnloaded most_rows texts fault
+    IsTrialError limits.rows texts file limits.visits fault
+IsDueOf _ texts file fault = IsLoadError most_rows texts fault
 
 module _ {S N : Type 0} (out : Change S) (notes : Change N) (same : IsUntouched out)
     (still : IsUntouched notes) (texts : TableTexts) (file : List ℕ) (fault : EngineFault)
@@ -37,48 +37,53 @@ module _ {S N : Type 0} (out : Change S) (notes : Change N) (same : IsUntouched 
   stops A IsText IsDue on =
       stopped A out IsText IsDue fault same (or_memory IsBefore IsDue fault on is)
 
-  notes_stop : (IsQuote : List ℕ → Type 0) (IsTold : Telling → Type 0)
+  notes_stop : (IsQuote : List ℕ → Type 0) (IsRun : RunText → Type 0)
       (IsDue : EngineFault → Type 0) → ((f : EngineFault) → IsBefore f → IsDue f)
-      → IsNoneRefused (IsNoted out notes IsQuote IsTold IsDue) (Err fault)
-  notes_stop IsQuote IsTold IsDue on = (
+      → IsNoneRefused (IsAnsweredWithNotes out notes IsQuote IsRun IsDue) (Err fault)
+  notes_stop IsQuote IsRun IsDue on = (
     Err fault,
-    noted_stopped out notes IsQuote IsTold IsBefore IsDue fault same still never on is,
+    noted_stopped out notes IsQuote IsRun IsBefore IsDue fault same still never on is,
     refl,
   )
 
   pub given_up : (task : Task) → ((f : EngineFault) → IsBefore f → IsDueOf task texts file f)
       → IsGivenOf task texts file out notes (Err fault)
   given_up Sample on = (
-    inl (fault, stops (Unit {0}) (IsListing most_rows texts) (IsUnloaded most_rows texts) on, refl),
+    inl (
+      fault,
+      stops (Unit {0}) (IsListing most_rows texts)
+          (IsLoadError most_rows texts) on,
+      refl,
+    ),
     still,
   )
   given_up (Check folder) on = (
     (
       Err fault,
-      stops (Unit {0}) (IsListing most_rows texts) (IsUnloaded most_rows texts) on,
+      stops (Unit {0}) (IsListing most_rows texts) (IsLoadError most_rows texts) on,
       refl,
     ),
     still,
   )
   given_up (Bench folder) on = (
     record {
-      answered = stops Bool (IsBench most_rows most_visits texts) (IsUnloaded most_rows texts) on;
+      answered = stops Bool (IsBench most_rows most_visits texts) (IsLoadError most_rows texts) on;
       fits = tt;
     },
     still,
   )
   given_up (Query folder path) on =
-      notes_stop (IsQueryQuote most_rows texts file) (IsQueryTold most_rows most_visits texts file)
-      (IsUnanswered most_rows most_visits texts file) on
+      notes_stop (IsQueryQuote most_rows texts file) (IsQueryRun most_rows most_visits texts file)
+      (IsQueryRunError most_rows most_visits texts file) on
   given_up (Explain path) on =
-      ((Err fault, stops (Unit {0}) (IsExplained file) (IsNoQuery file) on, refl), still)
+      ((Err fault, stops (Unit {0}) (IsExplained file) (IsQueryError file) on, refl), still)
   given_up (Exec folder path) on =
-      notes_stop (IsQuoteOf most_rows texts file) (IsToldOf most_rows most_visits texts file)
-      (IsUntold most_rows most_visits texts file) on
+      notes_stop (IsQuoteOf most_rows texts file) (IsRunOf most_rows most_visits texts file)
+      (IsRunError most_rows most_visits texts file) on
   given_up (Quote folder path) on = (
     (
       Err fault,
-      stops (Unit {0}) (IsQuoteText most_rows texts file) (IsUnquoted most_rows texts file) on,
+      stops (Unit {0}) (IsQuoteText most_rows texts file) (IsQuoteError most_rows texts file) on,
       refl,
     ),
     still,
@@ -87,7 +92,7 @@ module _ {S N : Type 0} (out : Change S) (notes : Change N) (same : IsUntouched 
     (
       Err fault,
       stops (Unit {0}) (IsTrialReport limits.rows texts file limits.visits)
-          (IsNoTrial limits.rows texts file limits.visits) on,
+          (IsTrialError limits.rows texts file limits.visits) on,
       refl,
     ),
     still,
@@ -115,7 +120,7 @@ never_asked _ file refusal is = is
 
 -- the tables can't be loaded
 pub not_loaded : (task : Task) (texts : TableTexts) (file : List ℕ) (what : Asked)
-    → AsksFor task file what → IsOfTables task → (f : EngineFault) → IsUnloaded most_rows texts f
+    → AsksFor task file what → IsOfTables task → (f : EngineFault) → IsLoadError most_rows texts f
     → IsDueOf task texts file f
 not_loaded Sample texts file what asks of_tables f is = is
 not_loaded (Check folder) texts file what asks of_tables f is = is
@@ -128,7 +133,7 @@ not_loaded (Quote folder path) texts file (asked.Quote question) asks of_tables 
     unquoted_tables (is_program_file file) most_rows texts file question.program asks f is
 not_loaded (Trial folder path limits) texts file (asked.Trial question given) asks of_tables f is =
     no_trial_unloaded limits.rows texts file limits.visits question.program asks.0 f
-    (subst (λ rows. IsUnloaded rows texts f) (sym of_tables) is)
+    (subst (λ rows. IsLoadError rows texts f) (sym of_tables) is)
 not_loaded _ texts file what asks of_tables f is = absurd asks
 
 -- ---- what an engine answers
@@ -141,7 +146,7 @@ module _ {S : Type 0} (out : Change S) (texts : TableTexts)
       → IsListed out texts answer
   listed answer is =
       answered_over most_rows texts (database_of texts) loadable refl out IsListingOver
-      (λ database fault. ⊥) (IsUnloaded most_rows texts) answer
+      (λ database fault. ⊥) (IsLoadError most_rows texts) answer
       (λ fault loadable never. absurd never) is
 
   pub benched : (result : Result Bool EngineFault)
@@ -150,7 +155,7 @@ module _ {S : Type 0} (out : Change S) (texts : TableTexts)
       → IsBenched out texts result
   benched result is fits = record {
     answered = answered_over most_rows texts (database_of texts) loadable refl out
-        (IsBenchOver most_visits) (λ database fault. ⊥) (IsUnloaded most_rows texts) result
+        (IsBenchOver most_visits) (λ database fault. ⊥) (IsLoadError most_rows texts) result
         (λ fault loadable never. absurd never) is;
     fits = fits;
   }
@@ -182,9 +187,9 @@ module _ {S N : Type 0} (out : Change S) (notes : Change N) (texts : TableTexts)
   pub answer_given : (task : Task) (question : Question) (answer : Result (Unit {0}) EngineFault)
       → AsksFor task file (asked.Answer question)
       → ((is_program : Bool) → Asks is_program file question
-      → IsNoted out notes (IsQuoteOfTexts is_program most_rows texts file)
-      (IsToldOfTexts is_program most_rows most_visits texts file)
-      (IsUntoldOfTexts is_program most_rows most_visits texts file) answer)
+      → IsAnsweredWithNotes out notes (IsQuoteOfTexts is_program most_rows texts file)
+      (IsRunOfTexts is_program most_rows most_visits texts file)
+      (IsRunErrorOfTexts is_program most_rows most_visits texts file) answer)
       → result ≡ none_refused answer → IsGivenOf task texts file out notes result
   answer_given (Query folder path) question answer asks is whole =
       (answer, is false asks, whole)
@@ -204,16 +209,16 @@ module _ {S N : Type 0} (out : Change S) (notes : Change N) (texts : TableTexts)
       (answer : Result (Unit {0}) EngineFault) → AsksFor task file (asked.Trial question given)
       → IsOfTables task → (Asks true file question
       → IsAnswered out (IsTrialReport most_rows texts file given.visits)
-      (IsNoTrial most_rows texts file given.visits) answer)
+      (IsTrialError most_rows texts file given.visits) answer)
       → result ≡ none_refused answer → IsUntouched notes
       → IsGivenOf task texts file out notes result
   trial_given (Trial folder path limits) question given answer asks of_tables is whole still = (
     (
       answer,
       subst (λ rows. IsAnswered out (IsTrialReport rows texts file limits.visits)
-          (IsNoTrial rows texts file limits.visits) answer) (sym of_tables)
+          (IsTrialError rows texts file limits.visits) answer) (sym of_tables)
           (subst (λ (l : Limits). IsAnswered out (IsTrialReport most_rows texts file l.visits)
-          (IsNoTrial most_rows texts file l.visits) answer) asks.1 (is asks.0)),
+          (IsTrialError most_rows texts file l.visits) answer) asks.1 (is asks.0)),
       whole,
     ),
     still,

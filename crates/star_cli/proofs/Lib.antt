@@ -1,4 +1,4 @@
-mod Telling
+mod PrintingFailures
 mod WorkedFailures
 pub mod Giving
 pub mod Loading

@@ -4,25 +4,25 @@ use Rattle.std.specs.Prelude.{Result, Ok, Err, IfErr, IfOk, MatchResult}
 use Rattle.star_schema.specs.{declared.table.TableId.TheVariants.Lineorder, Database.TableTexts, Loadable.IsLoadable, Most.most_rows, Most.most_visits}
 use Rattle.star_reader.specs.Partway.{HasReadText, Reading}
 use Rattle.star_catalogue.specs.Pieces.{IsReadNextTo}
-use Rattle.star_engine.specs.{declared.fault.EngineFault.EngineFault, Answered.OrMemory, Loads.IsUnloaded, Loads.Loaded, Loads.loaded_of}
+use Rattle.star_engine.specs.{declared.fault.EngineFault.EngineFault, Answered.OrMemory, Loads.IsLoadError, Loads.Loaded, Loads.loaded_of}
 use Rattle.star_cli.specs.{FolderLoads.AreTablesUnread, FolderLoads.IsFolderUnread, Private.Reads.IsWidest, ReadFolders.HasReadSome, Stores.Known, declared.failure.Failure.Failure, declared.failure.Failure.TheVariants.Words}
 
 abbrev pub IsLoadedOf : (rows visits : ℕ) → TableTexts → Result Loaded EngineFault → Type 0
 IsLoadedOf rows visits texts result = MatchResult result
     (λ engine. IsLoadable rows texts × (engine ≡ loaded_of rows visits texts))
-    (OrMemory (IsUnloaded rows texts))
+    (OrMemory (IsLoadError rows texts))
 
 in_one : (rows visits : ℕ) (texts : TableTexts) (result : Result Loaded EngineFault)
     → IfOk result (λ engine. IsLoadable rows texts)
     → IfOk result (λ engine. engine ≡ loaded_of rows visits texts)
-    → IfErr result (OrMemory (IsUnloaded rows texts)) → IsLoadedOf rows visits texts result
+    → IfErr result (OrMemory (IsLoadError rows texts)) → IsLoadedOf rows visits texts result
 in_one rows visits texts (Ok engine) loadable loaded refused = (loadable, loaded)
 in_one rows visits texts (Err fault) loadable loaded refused = refused
 
 pub of_widest : (texts : TableTexts) (rows visits : ℕ) → rows ≡ most_rows → visits ≡ most_visits
     → (result : Result Loaded EngineFault) → IfOk result (λ engine. IsLoadable rows texts)
     → IfOk result (λ engine. engine ≡ loaded_of rows visits texts)
-    → IfErr result (OrMemory (IsUnloaded rows texts))
+    → IfErr result (OrMemory (IsLoadError rows texts))
     → IsLoadedOf most_rows most_visits texts result
 of_widest texts rows visits is_rows is_visits result loadable loaded refused =
     subst (λ n. IsLoadedOf most_rows n texts result) is_visits
@@ -64,7 +64,7 @@ pub widest_next : (loaded : Loaded) (texts : TableTexts) → IsWidest loaded
     → (result : Result Loaded EngineFault)
     → IfOk result (λ engine. IsLoadable loaded.rows texts)
     → IfOk result (λ engine. engine ≡ loaded_of loaded.rows loaded.visits texts)
-    → IfErr result (OrMemory (IsUnloaded loaded.rows texts)) → IfOk result IsWidest
+    → IfErr result (OrMemory (IsLoadError loaded.rows texts)) → IfOk result IsWidest
 widest_next loaded texts widest result loadable same refused =
     is_widest texts result (of_widest texts loaded.rows loaded.visits widest.1 widest.2 result
     loadable same refused)

@@ -4,10 +4,10 @@ use Rattle.std.specs.Prelude.{Result, Ok, Err, MatchResult, Option}
 use Rattle.std.specs.Io.Buffered.{reader_buffer, reader_capacity, reader_inner, reader_remaining}
 use Rattle.std.specs.{Borrow.Bor, List.AllZip, Io.KnownBytes.prepend_known, declared.io.BufReader.BufReader}
 use Rattle.star_engine.specs.{Answered.Change, Answered.change, Loads.Loaded}
-use Rattle.star_service.specs.{Reports.AreAllDelivered, Reports.AreAllJudged, Sessions.IsSession, declared.reports.Errand.Errand, declared.reports.Halt.Halt}
+use Rattle.star_service.specs.{Reports.AreAllJobsForecast, Reports.AreAllJobsRun, Sessions.IsSession, declared.reports.Halt.Halt, declared.reports.ReportJob.ReportJob}
 use Rattle.star_words.specs.{Requests.HasMostRows, declared.request.Reports.Reports, declared.request.Request.TheVariants.Answer, declared.request.Task.Task}
 use Rattle.star_cli.specs.Commands.{AreReportsDone, Input, IsErrandAt, IsFileOf, IsHeld, IsTaskUnread, folder_of, path_of, reports_made, reports_quoted}
-use Rattle.star_cli.specs.{Answers.IsOfTables, FolderLoads.AreTablesUnread, FolderLoads.IsLoadedFrom, Stores.Known, Private.Errands.IsErrandFor, Private.Errands.IsReadFrom, declared.commands.Read.Read, declared.errands.ReadFile.ReadFile, declared.failure.Failure.Failure}
+use Rattle.star_cli.specs.{Answers.IsOfTables, FolderLoads.AreTablesUnread, FolderLoads.IsLoadedFrom, Stores.Known, Private.Errands.IsErrandFor, Private.Errands.IsReadFrom, declared.commands.Read.Read, declared.jobs.ReadFile.ReadFile, declared.failure.Failure.Failure}
 use Rattle.star_cli.proofs.Zips.{zip_on}
 use Rattle.star_cli.specs.Failures.{AreReportsEnded}
 use Rattle.star_cli.specs.Private.Steps.{HasBoth, HasTables, IsKept, IsOneUnread, IsReadFor}
@@ -91,32 +91,32 @@ held out err status loaded input old left failed same is =
 
 -- ---- reports
 
-errand_at : (known : Known) (path : Bor (List ℕ)) (file : ReadFile) (errand : Errand)
-    → IsReadFrom known path file → IsErrandFor file errand → IsErrandAt known path errand
-errand_at known path file errand read is = record {
+errand_at : (known : Known) (path : Bor (List ℕ)) (file : ReadFile) (job : ReportJob)
+    → IsReadFrom known path file → IsErrandFor file job → IsErrandAt known path job
+errand_at known path file job read is = record {
   file = rw is.bytes read.bytes;
   asks = rw is.bytes read.asks;
   name = rw is.name read.name;
 }
 
 pub reports_by : {S E : Type 0} (K : Type 0) (out : Change S) (err : Change E) (status : ℕ)
-    (known : Known) (asked : Reports) (files : List ReadFile) (errands : List Errand) (loaded : Loaded)
-    (result : Result Bool Halt) (told : S) (is_quote : Bool) → asked.is_quote ≡ is_quote
-    → AllZip (IsReadFrom known) asked.files.items files → AllZip IsErrandFor files errands
+    (known : Known) (asked : Reports) (files : List ReadFile) (jobs : List ReportJob) (loaded : Loaded)
+    (result : Result Bool Halt) (printed : S) (is_quote : Bool) → asked.is_quote ≡ is_quote
+    → AllZip (IsReadFrom known) asked.files.items files → AllZip IsErrandFor files jobs
     → IsLoadedFrom known asked.folder.now loaded
-    → (is_quote ≡ true → AreAllJudged loaded errands (record out { new = told }) result)
-    → (is_quote ≡ false → IsKept {K = K} (λ shelf. AreAllDelivered loaded errands shelf
-    (record out { new = told }) result))
-    → AreReportsEnded (record out { old = told }) err result status
+    → (is_quote ≡ true → AreAllJobsForecast loaded jobs (record out { new = printed }) result)
+    → (is_quote ≡ false → IsKept {K = K} (λ sink. AreAllJobsRun loaded jobs sink
+    (record out { new = printed }) result))
+    → AreReportsEnded (record out { old = printed }) err result status
     → AreReportsDone K known asked out err status
-reports_by K out err status known asked files errands loaded result told true same read are from
-    judged kept ended =
-    reports_quoted errands loaded result told same
+reports_by K out err status known asked files jobs loaded result printed true same read are from
+    judged stored ended =
+    reports_quoted jobs loaded result printed same
     (zip_on (IsReadFrom known) IsErrandFor (IsErrandAt known) (errand_at known) asked.files.items files
-    errands read are) from (judged refl) ended
-reports_by K out err status known asked files errands loaded result told false same read are from
-    judged kept ended =
-    let (shelf, delivered) = kept refl in
-    reports_made errands loaded shelf result told same
+    jobs read are) from (judged refl) ended
+reports_by K out err status known asked files jobs loaded result printed false same read are from
+    judged stored ended =
+    let (sink, delivered) = stored refl in
+    reports_made jobs loaded sink result printed same
     (zip_on (IsReadFrom known) IsErrandFor (IsErrandAt known) (errand_at known) asked.files.items files
-    errands read are) from delivered ended
+    jobs read are) from delivered ended

@@ -6,7 +6,7 @@ use Rattle.star_common.proofs.Tables.{Gives}
 use Rattle.star_words.specs.Faults.{words_fault_text}
 use Rattle.star_query.specs.{FaultTexts.query_fault_text, declared.fault.QueryFault.TheVariants.Unexpected}
 use Rattle.star_engine.specs.{FaultTexts.engine_fault_text, declared.fault.EngineFault.TheVariants.Query}
-use Rattle.star_cli.specs.declared.failure.Failure.TheVariants.{Words, File, Part, Unnamed, NamedTwice, OfFile, Unkept, Unwritten, OutOfMemory}
+use Rattle.star_cli.specs.declared.failure.Failure.TheVariants.{Words, File, Part, Unnamed, NamedTwice, OfFile, Unstored, Unwritten, OutOfMemory}
 use Rattle.star_cli.specs.{Failures.failure_of_file, Failures.failure_of_halt, Failures.failure_text, Failures.status_of}
 use Rattle.star_service.specs.Names.{printed_name}
 use Rattle.star_words.specs.declared.fault.WordsFault.TheVariants as words
@@ -36,15 +36,15 @@ module _ (name : Bor (List ℕ)) where
         OfFile name (Query (Unexpected 20)),
         Some (printed_name name.now ++ codes ": query 24 Unexpected at 20\n"),
       )
-      ∷ (Unkept name 10, Some (printed_name name.now ++ codes ": write 10\n"))
+      ∷ (Unstored name 10, Some (printed_name name.now ++ codes ": write 10\n"))
       ∷ (Unwritten 7, Some (codes "write 7\n")) ∷ [])
       × Gives status_of (
       (Words words.NotText, 2) ∷ (Words words.OutOfMemory, 7) ∷ (Words words.EmptyFolder, 2) ∷ (Words words.NoCommand, 2)
       ∷ (File name, 6) ∷ (Part 2, 6) ∷ (OutOfMemory, 7) ∷ (Unnamed name, 2) ∷ (NamedTwice name, 2)
-      ∷ (OfFile name (Query (Unexpected 20)), 4) ∷ (Unkept name 10, 6) ∷ (Unwritten 7, 6) ∷ [])
+      ∷ (OfFile name (Query (Unexpected 20)), 4) ∷ (Unstored name 10, 6) ∷ (Unwritten 7, 6) ∷ [])
       × Gives (failure_of_file name) ((engine.OutOfMemory, OutOfMemory)
       ∷ (Query (Unexpected 20), OfFile name (Query (Unexpected 20))) ∷ [])
       × Gives failure_of_halt ((halts.OutOfMemory, OutOfMemory)
-      ∷ (halts.Unkept name 10, Unkept name 10) ∷ (halts.Unwritten 7, Unwritten 7) ∷ [])
+      ∷ (halts.Unstored name 10, Unstored name 10) ∷ (halts.Unwritten 7, Unwritten 7) ∷ [])
   unfolding failure_text words_fault_text engine_fault_text query_fault_text digits
   lines = (refl, refl, refl, refl)

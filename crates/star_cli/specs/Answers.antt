@@ -1,10 +1,10 @@
 -- What a task asks of the bytes that were read for it.
 use Rattle.std.specs.Prelude.{◌≡◌, ◌⊎◌, ◌↔◌, ℕ, Bool, true, false, IsTrue, List, Result, Ok, Err, IfOk}
 use Rattle.star_schema.specs.{declared.limits.Limits.Limits, Most.most_rows, Most.most_visits, Database.TableTexts, Loadable.database_of}
-use Rattle.star_engine.specs.Queries.{IsExplained, IsNoQuery, IsQueryQuote, IsQueryTold, IsUnanswered}
-use Rattle.star_engine.specs.{declared.fault.EngineFault.EngineFault, Answered.Change, Answered.IsAnswered, Answered.IsUntouched, Bench.AllFit, Bench.IsBench, Executions.IsQuoteOf, Executions.IsToldOf, Executions.IsUntold, Listing.IsListing, Loads.IsUnloaded, Noted.IsNoted}
-use Rattle.star_engine.specs.{QuoteTexts.IsQuoteText, QuoteTexts.IsUnquoted, Trials.IsNoTrial, Trials.IsTrialReport}
-use Rattle.star_service.specs.Lines.{IsFaultTold}
+use Rattle.star_engine.specs.Queries.{IsExplained, IsQueryError, IsQueryQuote, IsQueryRun, IsQueryRunError}
+use Rattle.star_engine.specs.{declared.fault.EngineFault.EngineFault, Answered.Change, Answered.IsAnswered, Answered.IsUntouched, Bench.AllFit, Bench.IsBench, Executions.IsQuoteOf, Executions.IsRunOf, Executions.IsRunError, Listing.IsListing, Loads.IsLoadError, WithNotes.IsAnsweredWithNotes}
+use Rattle.star_engine.specs.{QuoteTexts.IsQuoteError, QuoteTexts.IsQuoteText, Trials.IsTrialError, Trials.IsTrialReport}
+use Rattle.star_service.specs.Lines.{IsFaultPrinted}
 use Rattle.star_words.specs.declared.request.Task.TheVariants.{Sample, Check, Bench, Query, Explain, Exec, Quote, Trial}
 use Rattle.star_words.specs.{declared.request.Task.Task}
 
@@ -22,12 +22,12 @@ IsNoneRefused IsAnswer result =
 abbrev pub IsListed : {S : Type 0} → Change S → TableTexts
     → Result (Unit {0}) EngineFault → Type 0
 IsListed out texts answer =
-    IsAnswered out (IsListing most_rows texts) (IsUnloaded most_rows texts) answer
+    IsAnswered out (IsListing most_rows texts) (IsLoadError most_rows texts) answer
 
 -- the queries of the benchmark are answered over them, and the answer is whether each fits
 pub record IsBenched {S : Type 0} (out : Change S) (texts : TableTexts)
     (result : Result Bool EngineFault) : Type 0 where
-  pub answered : IsAnswered out (IsBench most_rows most_visits texts) (IsUnloaded most_rows texts)
+  pub answered : IsAnswered out (IsBench most_rows most_visits texts) (IsLoadError most_rows texts)
       result
   pub fits : IfOk result (λ fits. IsTrue fits ↔ AllFit most_visits (database_of texts))
 
@@ -43,34 +43,35 @@ IsListedAndBenched {S} out texts result =
 abbrev pub IsQueried : {S N : Type 0} → Change S → Change N → TableTexts → List ℕ
     → Result (Unit {0}) EngineFault → Type 0
 IsQueried out notes texts file answer =
-    IsNoted out notes (IsQueryQuote most_rows texts file)
-    (IsQueryTold most_rows most_visits texts file)
-    (IsUnanswered most_rows most_visits texts file) answer
+    IsAnsweredWithNotes out notes (IsQueryQuote most_rows texts file)
+    (IsQueryRun most_rows most_visits texts file)
+    (IsQueryRunError most_rows most_visits texts file) answer
 
 -- the program of the query of a file is written
 abbrev pub IsExplanation : {S : Type 0} → Change S → List ℕ
     → Result (Unit {0}) EngineFault → Type 0
-IsExplanation out file answer = IsAnswered out (IsExplained file) (IsNoQuery file) answer
+IsExplanation out file answer = IsAnswered out (IsExplained file) (IsQueryError file) answer
 
 -- the program of a file is verified and run over them, with notes
 abbrev pub IsExecuted : {S N : Type 0} → Change S → Change N → TableTexts → List ℕ
     → Result (Unit {0}) EngineFault → Type 0
 IsExecuted out notes texts file answer =
-    IsNoted out notes (IsQuoteOf most_rows texts file) (IsToldOf most_rows most_visits texts file)
-    (IsUntold most_rows most_visits texts file) answer
+    IsAnsweredWithNotes out notes (IsQuoteOf most_rows texts file)
+    (IsRunOf most_rows most_visits texts file)
+    (IsRunError most_rows most_visits texts file) answer
 
 -- the quote of the query, or of the program, of a file over them is printed
 abbrev pub IsQuoted : {S : Type 0} → Change S → TableTexts → List ℕ
     → Result (Unit {0}) EngineFault → Type 0
 IsQuoted out texts file answer =
-    IsAnswered out (IsQuoteText most_rows texts file) (IsUnquoted most_rows texts file) answer
+    IsAnswered out (IsQuoteText most_rows texts file) (IsQuoteError most_rows texts file) answer
 
 -- the program of a file is run over them under these limits
 abbrev pub IsTried : {S : Type 0} → Limits → Change S → TableTexts → List ℕ
     → Result (Unit {0}) EngineFault → Type 0
 IsTried limits out texts file answer =
     IsAnswered out (IsTrialReport limits.rows texts file limits.visits)
-    (IsNoTrial limits.rows texts file limits.visits) answer
+    (IsTrialError limits.rows texts file limits.visits) answer
 
 -- the engine's answer over five texts and a file: only `query` and `exec` write notes
 abbrev pub IsGivenOf : {S N : Type 0} → Task → TableTexts → List ℕ → Change S → Change N
@@ -105,7 +106,7 @@ IsOfTables _ = Unit {0}
 abbrev pub IsEnded : {E : Type 0} → Change E → Result Bool EngineFault → ℕ → Type 0
 IsEnded err (Ok true) status = IsUntouched err × (status ≡ 0)
 IsEnded err (Ok false) status = IsUntouched err × (status ≡ 1)
-IsEnded err (Err fault) status = IsFaultTold err fault status
+IsEnded err (Err fault) status = IsFaultPrinted err fault status
 
 -- the engine's answer over five texts and a file, with its notes on standard error, and after
 -- them how the program ends

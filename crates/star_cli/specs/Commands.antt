@@ -2,11 +2,11 @@
 use Rattle.std.specs.Prelude.{◌≡◌, ◌⊎◌, ℕ, Bool, true, false, List, [], Option, Some, None, Result, IfSome, codes, if◌then◌else◌}
 use Rattle.std.specs.{Borrow.Bor, List.AllZip, List.Contains, Path.path_file_stem}
 use Rattle.star_schema.specs.Database.{TableTexts}
-use Rattle.star_engine.specs.{Answered.Change, Answered.OrMemory, Loads.Loaded, Questions.Asks, QuoteTexts.IsUnquotedOver, QuoteTexts.is_program_file, declared.question.Question.Question}
-use Rattle.star_service.specs.{Lines.IsTextTold, Reports.AreAllDelivered, Reports.AreAllJudged, Sessions.IsSession, Shelves.Shelving, declared.reports.Errand.Errand, declared.reports.Halt.Halt}
+use Rattle.star_engine.specs.{Answered.Change, Answered.OrMemory, Loads.Loaded, Questions.Asks, QuoteTexts.IsQuoteErrorOver, QuoteTexts.is_program_file, declared.question.Question.Question}
+use Rattle.star_service.specs.{Lines.IsTextPrinted, ReportSinks.SinkChange, Reports.AreAllJobsForecast, Reports.AreAllJobsRun, Sessions.IsSession, declared.reports.Halt.Halt, declared.reports.ReportJob.ReportJob}
 use Rattle.star_words.specs.{Requests.IsRequest, Requests.IsWordsFault, declared.fault.WordsFault.WordsFault, declared.request.Merge.Merge as MergeAsked, declared.request.Partials.Partials as PartialsAsked, declared.request.Reports.Reports as ReportsAsked, declared.request.Request.TheVariants.Answer, declared.request.Request.TheVariants.Merge, declared.request.Request.TheVariants.Partial, declared.request.Request.TheVariants.Reports, declared.request.Request.TheVariants.Session, declared.request.Task.Task}
 use Rattle.star_words.specs.declared.request.Task.TheVariants.{Sample, Check, Bench, Query, Explain, Exec, Quote, Trial}
-use Rattle.star_cli.specs.Failures.{AreReportsEnded, IsFailureTold, IsUnread}
+use Rattle.star_cli.specs.Failures.{AreReportsEnded, IsFailurePrinted, IsReadError}
 use Rattle.star_cli.specs.{Answers.IsExitOf, Stores.AreTablesIn, Stores.IsGivenFile, Stores.Known, FolderLoads.AreTablesUnread, FolderLoads.IsFolderRefused, FolderLoads.IsLoadedFrom, declared.failure.Failure.Failure}
 use Rattle.star_cli.specs.declared.failure.Failure.TheVariants.{NamedTwice, OfFile, OutOfMemory, Unnamed, Words}
 
@@ -41,7 +41,7 @@ IsFileOf known task file = IfSome (path_of task) (λ path. IsGivenFile known pat
 -- its file can't be read; or else one of its tables
 abbrev pub IsTaskUnread : Known → Task → Failure → Type 0
 IsTaskUnread known task failure = (failure ≡ OutOfMemory)
-    ⊎ (((path : List ℕ) × (path_of task ≡ Some path) × IsUnread path failure)
+    ⊎ (((path : List ℕ) × (path_of task ≡ Some path) × IsReadError path failure)
     ⊎ ((file : List ℕ) × IsFileOf known task file × (folder : List ℕ)
     × (folder_of task ≡ Some folder) × AreTablesUnread known folder failure))
 
@@ -52,7 +52,7 @@ pub data IsTaskDone {S E : Type 0} (known : Known) (task : Task) (out : Change S
       → IsFileOf known task file → IsExitOf task texts file out err status
       → IsTaskDone known task out err status
   task_unread : (failure : Failure) → IsTaskUnread known task failure
-      → IsFailureTold failure out err status → IsTaskDone known task out err status
+      → IsFailurePrinted failure out err status → IsTaskDone known task out err status
 
 -- ---- a session
 
@@ -72,18 +72,18 @@ greeting_of is_terminal = if is_terminal then codes "loading the tables\n" else 
 abbrev pub IsHeld : {S E : Type 0} → Loaded → Input → Change S → Change E → ℕ → Type 0
 IsHeld loaded input out err status = ((left : Option (List ℕ)) × ((failed : Bool)
     × IsSession loaded input.is_terminal input.bytes left failed out err status))
-    ⊎ IsFailureTold OutOfMemory out err status
+    ⊎ IsFailurePrinted OutOfMemory out err status
 
 -- the tables of a folder are loaded, and a session is held over them
 pub data IsSessionDone {S E : Type 0} (known : Known) (folder : List ℕ) (input : Input)
     (out : Change S) (err : Change E) (status : ℕ) : Type 0 where
   session_held : (greeted : E) (loaded : Loaded)
-      → IsTextTold (record err { new = greeted }) (greeting_of input.is_terminal)
+      → IsTextPrinted (record err { new = greeted }) (greeting_of input.is_terminal)
       → IsLoadedFrom known folder loaded
       → IsHeld loaded input out (record err { old = greeted }) status
       → IsSessionDone known folder input out err status
   session_refused : (greeted : E)
-      → IsTextTold (record err { new = greeted }) (greeting_of input.is_terminal)
+      → IsTextPrinted (record err { new = greeted }) (greeting_of input.is_terminal)
       → IsFolderRefused known folder out (record err { old = greeted }) status
       → IsSessionDone known folder input out err status
 
@@ -91,18 +91,18 @@ pub data IsSessionDone {S E : Type 0} (known : Known) (folder : List ℕ) (input
 
 -- a file that is a query or a program; the name of its report is the last part of its path, without
 -- its last ending
-pub record IsErrandAt (known : Known) (path : Bor (List ℕ)) (errand : Errand) : Type 0 where
-  pub file : IsGivenFile known path.now errand.file.now
-  pub asks : (question : Question) × Asks (is_program_file errand.file.now) errand.file.now question
-  pub name : path_file_stem path.now ≡ Some errand.name.now
+pub record IsErrandAt (known : Known) (path : Bor (List ℕ)) (job : ReportJob) : Type 0 where
+  pub file : IsGivenFile known path.now job.file.now
+  pub asks : (question : Question) × Asks (is_program_file job.file.now) job.file.now question
+  pub name : path_file_stem path.now ≡ Some job.name.now
 
 -- no report can be made of a file
 abbrev pub IsPathRefused : Known → (path : Bor (List ℕ)) → Failure → Type 0
 IsPathRefused known path (Unnamed it) = (it ≡ path) × (path_file_stem path.now ≡ None)
 IsPathRefused known path (NamedTwice name) = path_file_stem path.now ≡ Some name.now
 IsPathRefused known path (OfFile it fault) = (it ≡ path) × ((file : List ℕ)
-    × IsGivenFile known path.now file × OrMemory (IsUnquotedOver file) fault)
-IsPathRefused known path failure = IsUnread path.now failure
+    × IsGivenFile known path.now file × OrMemory (IsQuoteErrorOver file) fault)
+IsPathRefused known path failure = IsReadError path.now failure
 
 -- of one of some files
 abbrev pub IsOneRefused : Known → (paths : List (Bor (List ℕ))) → Failure → Type 0
@@ -113,24 +113,25 @@ IsOneRefused known paths failure =
 -- files are printed
 pub data AreReportsDone {S E : Type 0} (K : Type 0) (known : Known) (asked : ReportsAsked)
     (out : Change S) (err : Change E) (status : ℕ) : Type 0 where
-  reports_made : (errands : List Errand) (loaded : Loaded) (shelf : Shelving K)
-      (result : Result Bool Halt) (told : S) → asked.is_quote ≡ false
-      → AllZip (IsErrandAt known) asked.files.items errands
+  reports_made : (jobs : List ReportJob) (loaded : Loaded) (sink : SinkChange K)
+      (result : Result Bool Halt) (printed : S) → asked.is_quote ≡ false
+      → AllZip (IsErrandAt known) asked.files.items jobs
       → IsLoadedFrom known asked.folder.now loaded
-      → AreAllDelivered loaded errands shelf (record out { new = told }) result
-      → AreReportsEnded (record out { old = told }) err result status
+      → AreAllJobsRun loaded jobs sink (record out { new = printed }) result
+      → AreReportsEnded (record out { old = printed }) err result status
       → AreReportsDone K known asked out err status
-  reports_quoted : (errands : List Errand) (loaded : Loaded) (result : Result Bool Halt) (told : S)
-      → asked.is_quote ≡ true → AllZip (IsErrandAt known) asked.files.items errands
+  reports_quoted : (jobs : List ReportJob) (loaded : Loaded) (result : Result Bool Halt)
+      (printed : S)
+      → asked.is_quote ≡ true → AllZip (IsErrandAt known) asked.files.items jobs
       → IsLoadedFrom known asked.folder.now loaded
-      → AreAllJudged loaded errands (record out { new = told }) result
-      → AreReportsEnded (record out { old = told }) err result status
+      → AreAllJobsForecast loaded jobs (record out { new = printed }) result
+      → AreReportsEnded (record out { old = printed }) err result status
       → AreReportsDone K known asked out err status
   reports_unloaded : IsFolderRefused known asked.folder.now out err status
       → AreReportsDone K known asked out err status
   reports_unready : (failure : Failure)
-      → IsOneRefused known asked.files.items failure ⊎ IsUnread asked.target.now failure
-      → IsFailureTold failure out err status → AreReportsDone K known asked out err status
+      → IsOneRefused known asked.files.items failure ⊎ IsReadError asked.target.now failure
+      → IsFailurePrinted failure out err status → AreReportsDone K known asked out err status
 
 -- ---- the command
 
@@ -138,7 +139,8 @@ pub data AreReportsDone {S E : Type 0} (K : Type 0) (known : Known) (asked : Rep
 pub data IsCommandDone {S E : Type 0} (K : Type 0) (known : Known) (words : List (List ℕ))
     (input : Input) (out : Change S) (err : Change E) (status : ℕ) : Type 0 where
   no_command : (fault : WordsFault) → IsWordsFault words fault
-      → IsFailureTold (Words fault) out err status → IsCommandDone K known words input out err status
+      → IsFailurePrinted (Words fault) out err status
+      → IsCommandDone K known words input out err status
   an_answer : (task : Task) → IsRequest words (Answer task) → IsTaskDone known task out err status
       → IsCommandDone K known words input out err status
   a_session : (folder : Bor (List ℕ)) → IsRequest words (Session folder)

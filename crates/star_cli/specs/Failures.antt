@@ -2,9 +2,9 @@
 use Rattle.std.specs.Prelude.{◌≡◌, ◌==◌, ◌++◌, ◌⊎◌, ℕ, List, Bool, true, false, Option, Some, Result, Ok, Err, IfSome, codes, decimal, ⊤}
 use Rattle.std.specs.{Borrow.Bor}
 use Rattle.star_engine.specs.{Answered.Change, Answered.IsUntouched, FaultTexts.engine_fault_text, declared.fault.EngineFault.EngineFault}
-use Rattle.star_service.specs.{Lines.IsTextTold, Lines.fault_status, Names.printed_name, declared.reports.Halt.Halt}
+use Rattle.star_service.specs.{Lines.IsTextPrinted, Lines.fault_status, Names.printed_name, declared.reports.Halt.Halt}
 use Rattle.star_words.specs.Faults.{words_fault_status, words_fault_text}
-use Rattle.star_cli.specs.declared.failure.Failure.TheVariants.{Words, File, Part, Unnamed, NamedTwice, OfFile, Unkept, Unwritten, OutOfMemory}
+use Rattle.star_cli.specs.declared.failure.Failure.TheVariants.{Words, File, Part, Unnamed, NamedTwice, OfFile, Unstored, Unwritten, OutOfMemory}
 use Rattle.star_cli.specs.{declared.failure.Failure.Failure}
 use Rattle.star_engine.specs.declared.fault.EngineFault.TheVariants as engine
 use Rattle.star_service.specs.declared.reports.Halt.TheVariants as halts
@@ -17,7 +17,7 @@ failure_of_file path fault = OfFile path fault
 -- what ends reports before the last
 abbrev pub failure_of_halt : Halt → Failure
 failure_of_halt halts.OutOfMemory = OutOfMemory
-failure_of_halt (halts.Unkept name sent) = Unkept name sent
+failure_of_halt (halts.Unstored name sent) = Unstored name sent
 failure_of_halt (halts.Unwritten sent) = Unwritten sent
 
 -- its line, if that is known: for arguments it may be the parser's
@@ -31,7 +31,7 @@ failure_text (NamedTwice name) =
     Some (codes "error: two reports are named " ++ (printed_name name.now ++ codes "\n"))
 failure_text (OfFile path fault) =
     Some (printed_name path.now ++ (codes ": " ++ (engine_fault_text fault ++ codes "\n")))
-failure_text (Unkept name sent) =
+failure_text (Unstored name sent) =
     Some (printed_name name.now ++ (codes ": write " ++ (decimal sent ++ codes "\n")))
 failure_text (Unwritten sent) = Some (codes "write " ++ (decimal sent ++ codes "\n"))
 failure_text OutOfMemory = Some (codes "memory\n")
@@ -45,17 +45,17 @@ status_of (Part number) = 6
 status_of (Unnamed path) = 2
 status_of (NamedTwice name) = 2
 status_of (OfFile path fault) = fault_status fault
-status_of (Unkept name sent) = 6
+status_of (Unstored name sent) = 6
 status_of (Unwritten sent) = 6
 status_of OutOfMemory = 7
 
 -- ---- failures to read
 
 -- the file at a path can't be read, or memory runs out
-abbrev pub IsUnread : (path : List ℕ) → Failure → Type 0
-IsUnread path (File name) = name.now ≡ path
-IsUnread path OutOfMemory = ⊤
-IsUnread path failure = ⊥
+abbrev pub IsReadError : (path : List ℕ) → Failure → Type 0
+IsReadError path (File name) = name.now ≡ path
+IsReadError path OutOfMemory = ⊤
+IsReadError path failure = ⊥
 
 -- ---- printing it
 
@@ -64,17 +64,17 @@ abbrev pub IsTextOf : Failure → List ℕ → Type 0
 IsTextOf failure text = IfSome (failure_text failure) (λ line. text ≡ line)
 
 -- a text is printed on standard output, or else on standard error; the other is as it was
-abbrev pub IsToldOn : {S E : Type 0} → Bool → Change S → Change E → List ℕ → Type 0
-IsToldOn true out err text = IsTextTold out text × IsUntouched err
-IsToldOn false out err text = IsUntouched out × IsTextTold err text
+abbrev pub IsPrintedOn : {S E : Type 0} → Bool → Change S → Change E → List ℕ → Type 0
+IsPrintedOn true out err text = IsTextPrinted out text × IsUntouched err
+IsPrintedOn false out err text = IsUntouched out × IsTextPrinted err text
 
 -- a failure is printed, on standard output if it is none, and has its status; or out of memory
 -- if there is no memory for its text
-abbrev pub IsFailureTold : {S E : Type 0} → Failure → Change S → Change E → ℕ → Type 0
-IsFailureTold failure out err status = (told : Failure)
-    × ((told ≡ failure) ⊎ (told ≡ OutOfMemory))
-    × ((text : List ℕ) × IsTextOf told text × IsToldOn (status == 0) out err text)
-    × (status ≡ status_of told)
+abbrev pub IsFailurePrinted : {S E : Type 0} → Failure → Change S → Change E → ℕ → Type 0
+IsFailurePrinted failure out err status = (printed : Failure)
+    × ((printed ≡ failure) ⊎ (printed ≡ OutOfMemory))
+    × ((text : List ℕ) × IsTextOf printed text × IsPrintedOn (status == 0) out err text)
+    × (status ≡ status_of printed)
 
 -- ---- the end of reports
 
@@ -83,4 +83,4 @@ IsFailureTold failure out err status = (told : Failure)
 abbrev pub AreReportsEnded : {S E : Type 0} → Change S → Change E → Result Bool Halt → ℕ → Type 0
 AreReportsEnded out err (Ok true) status = IsUntouched out × IsUntouched err × (status ≡ 0)
 AreReportsEnded out err (Ok false) status = IsUntouched out × IsUntouched err × (status ≡ 1)
-AreReportsEnded out err (Err halt) status = IsFailureTold (failure_of_halt halt) out err status
+AreReportsEnded out err (Err halt) status = IsFailurePrinted (failure_of_halt halt) out err status

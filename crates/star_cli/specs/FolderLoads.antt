@@ -3,10 +3,10 @@ use Rattle.std.specs.Prelude.{◌≡◌, ◌⊎◌, ◌≤◌, ◌+◌, ⊤, ℕ
 use Rattle.star_schema.specs.declared.table.TableId.TheVariants.{Date, Customer, Supplier, Part, Lineorder}
 use Rattle.star_schema.specs.{Most.most_rows, Most.most_visits, Database.TableTexts, Loadable.IsLoadable, declared.table.TableId.TableId}
 use Rattle.star_words.specs.declared.fault.WordsFault.TheVariants.{EmptyFolder}
-use Rattle.star_engine.specs.{declared.fault.EngineFault.EngineFault, Answered.Change, Answered.IsUntouched, Answered.OrMemory, Loads.IsUnloaded, Loads.Loaded, Loads.loaded_of}
-use Rattle.star_service.specs.Lines.{IsFaultTold}
+use Rattle.star_engine.specs.{declared.fault.EngineFault.EngineFault, Answered.Change, Answered.IsUntouched, Answered.OrMemory, Loads.IsLoadError, Loads.Loaded, Loads.loaded_of}
+use Rattle.star_service.specs.Lines.{IsFaultPrinted}
 use Rattle.star_cli.specs.declared.failure.Failure.TheVariants as failures
-use Rattle.star_cli.specs.{Failures.IsFailureTold, Stores.ArePartsFrom, Stores.AreTablesIn, Stores.IsAt, Stores.IsTextIn, Stores.Known, Stores.path_in, Stores.table_name, declared.failure.Failure.Failure}
+use Rattle.star_cli.specs.{Failures.IsFailurePrinted, Stores.ArePartsFrom, Stores.AreTablesIn, Stores.IsAt, Stores.IsTextIn, Stores.Known, Stores.path_in, Stores.table_name, declared.failure.Failure.Failure}
 
 -- ---- files that can't be read
 
@@ -55,7 +55,8 @@ IsLoadedFrom known folder loaded = (texts : TableTexts) × AreTablesIn known fol
 abbrev pub IsFolderRefused : {S E : Type 0} → Known → (folder : List ℕ) → Change S → Change E → ℕ
     → Type 0
 IsFolderRefused known folder out err status =
-    ((failure : Failure) × IsFolderUnread known folder failure × IsFailureTold failure out err status)
+    ((failure : Failure) × IsFolderUnread known folder failure
+    × IsFailurePrinted failure out err status)
     ⊎ (IsUntouched out × (texts : TableTexts) × AreTablesIn known folder texts
-    × (fault : EngineFault) × OrMemory (IsUnloaded most_rows texts) fault
-    × IsFaultTold err fault status)
+    × (fault : EngineFault) × OrMemory (IsLoadError most_rows texts) fault
+    × IsFaultPrinted err fault status)

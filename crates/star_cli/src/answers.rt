@@ -13,7 +13,7 @@ use crate::loads::engine_of;
 use star_common::Sink;
 use star_engine::{Engine, EngineFault, Question, ReadTables, explain_query};
 use star_schema::Limits;
-use star_service::tell_fault;
+use star_service::print_fault;
 use star_words::Task;
 use std::alloc::Global;
 
@@ -122,7 +122,7 @@ fn end<E: Sink>(alloc: Global, given: Result<bool, EngineFault>, err: &mut E) ->
     match given {
         Ok(true) => 0,
         Ok(false) => 1,
-        Err(fault) => tell_fault(alloc, err, &fault),
+        Err(fault) => print_fault(alloc, err, &fault),
     }
 }
 

@@ -5,25 +5,25 @@ ghost use Rattle.std.specs.List.{AllZip};
 ghost use Rattle.star_schema.specs.Database.{TableTexts};
 ghost use Rattle.star_words.specs.{Requests.HasMostRows, declared.request.Request.TheVariants.Answer};
 ghost use Rattle.star_engine.specs.Answered.{change};
-ghost use Rattle.star_service.specs.Reports.{AreAllDelivered, AreAllJudged};
+ghost use Rattle.star_service.specs.Reports.{AreAllJobsForecast, AreAllJobsRun};
 ghost use Rattle.star_cli.specs.Commands.{AreReportsDone, IsCommandDone, IsHeld, IsOneRefused, IsSessionDone, IsTaskDone, IsTaskUnread};
 ghost use Rattle.star_cli.specs.Private.Steps.{AreTablesFor, HasBoth, HasTables, IsKept, IsOneUnread, IsReadFor};
-ghost use Rattle.star_cli.specs.{Private.Errands.IsReadFrom, Answers.IsExitOf, Failures.IsUnread, FolderLoads.AreTablesUnread, FolderLoads.IsLoadedFrom, declared.directory.Directory.Directory};
+ghost use Rattle.star_cli.specs.{Private.Errands.IsReadFrom, Answers.IsExitOf, Failures.IsReadError, FolderLoads.AreTablesUnread, FolderLoads.IsLoadedFrom, declared.directory.Directory.Directory};
 ghost use Rattle.star_cli.specs.Commands as spec;
 
 use crate::answers::{answer, explain};
 use crate::directory::Directory;
-use crate::errands::{ReadFile, errands_of, read_files};
 use crate::failure::{Failure, end};
 use crate::files::{find_folder, read_file, read_tables, sample_tables};
 use crate::input::StandardInput;
+use crate::jobs::{ReadFile, jobs_of, read_files};
 use crate::loads::load_engine;
 use crate::partials::{make_partials, merge_partials};
 use crate::progress::Watch;
 use crate::store::Store;
 use star_common::{Out, Sink};
 use star_engine::{Engine, ReadTables};
-use star_service::{Errand, Halt, deliver_all, hold, judge_all, tell};
+use star_service::{Halt, ReportJob, forecast_jobs, print, run_jobs, run_session};
 use star_statements::Source;
 use star_words::{Reports, Request, Task, WordsFault, request_of};
 use std::alloc::{AllocError, Global};
@@ -132,12 +132,12 @@ fn answer_task<R: Store + AllocGlobal, P: Watch, S: Sink, E: Sink>(
 {
     match read_for(rt, task, progress) {
         Ok(read) => answer_over(rt.alloc(), task, read, out, err),
-        Err(failure) => failure.tell(rt.alloc(), out, err),
+        Err(failure) => failure.print(rt.alloc(), out, err),
     }
 }
 
 // Holds a session over loaded tables.
-fn hold_over<I: io::Read + Drop, S: Sink, E: Sink>(
+fn run_session_over<I: io::Read + Drop, S: Sink, E: Sink>(
     alloc: Global,
     engine: &Engine,
     input: StandardInput<I>,
@@ -153,7 +153,7 @@ fn hold_over<I: io::Read + Drop, S: Sink, E: Sink>(
         is_terminal,
     } = input;
     match BufReader::new(alloc, reader) {
-        Ok(reader) => hold(
+        Ok(reader) => run_session(
             alloc,
             engine,
             &mut Source::new(reader),
@@ -161,7 +161,7 @@ fn hold_over<I: io::Read + Drop, S: Sink, E: Sink>(
             out,
             err,
         ),
-        Err(_) => Failure::OutOfMemory.tell(alloc, out, err),
+        Err(_) => Failure::OutOfMemory.print(alloc, out, err),
     }
 }
 
@@ -177,7 +177,7 @@ fn greeting_of(is_terminal: bool) -> &'static str
 }
 
 // Holds a session over the tables of a folder.
-fn hold_session<R: Store + AllocGlobal, I: io::Read + Drop, P: Watch, S: Sink, E: Sink>(
+fn start_session<R: Store + AllocGlobal, I: io::Read + Drop, P: Watch, S: Sink, E: Sink>(
     rt: &R,
     folder: &str,
     input: StandardInput<I>,
@@ -190,9 +190,9 @@ fn hold_session<R: Store + AllocGlobal, I: io::Read + Drop, P: Watch, S: Sink, E
         (change S.contents S.is_failed out.old out.new)
         (change E.contents E.is_failed err.old err.new) result }
 {
-    tell(err, greeting_of(input.is_terminal).as_bytes());
+    print(err, greeting_of(input.is_terminal).as_bytes());
     match load_engine(rt, folder, progress, out, err) {
-        Ok(engine) => hold_over(rt.alloc(), &engine, input, out, err),
+        Ok(engine) => run_session_over(rt.alloc(), &engine, input, out, err),
         Err(status) => status,
     }
 }
@@ -203,25 +203,25 @@ fn report_over<'f, R: Store + AllocGlobal, S: Sink>(
     rt: &R,
     engine: &Engine,
     asked: &Reports<'_>,
-    errands: &[Errand<'f>],
+    jobs: &[ReportJob<'f>],
     out: &mut S,
 ) -> Result<bool, Halt<'f>>
-    ensures quoted { asked.now.is_quote ≡ true → AreAllJudged engine.now errands.now
+    ensures quoted { asked.now.is_quote ≡ true → AreAllJobsForecast engine.now jobs.now
         (change S.contents S.is_failed out.old out.new) result }
     ensures made { asked.now.is_quote ≡ false
-        → IsKept {K = Directory R} (λ shelf. AreAllDelivered engine.now errands.now shelf
+        → IsKept {K = Directory R} (λ sink. AreAllJobsRun engine.now jobs.now sink
         (change S.contents S.is_failed out.old out.new) result) }
 {
     if asked.is_quote {
-        return judge_all(rt.alloc(), engine, errands, out);
+        return forecast_jobs(rt.alloc(), engine, jobs, out);
     }
-    let mut shelf = Directory {
+    let mut sink = Directory {
         rt,
         folder: asked.target,
         ending: "report",
         failed_at: None,
     };
-    deliver_all(rt.alloc(), engine, errands, &mut shelf, out)
+    run_jobs(rt.alloc(), engine, jobs, &mut sink, out)
 }
 
 // Makes the reports of files over loaded tables, and returns the exit status.
@@ -239,12 +239,12 @@ fn report_loaded<R: Store + AllocGlobal, S: Sink, E: Sink>(
         (change S.contents S.is_failed out.old out.new)
         (change E.contents E.is_failed err.old err.new) result }
 {
-    match errands_of(rt.alloc(), files) {
-        Ok(errands) => {
-            let made = report_over(rt, engine, asked, errands.as_slice(), out);
+    match jobs_of(rt.alloc(), files) {
+        Ok(jobs) => {
+            let made = report_over(rt, engine, asked, jobs.as_slice(), out);
             end(rt.alloc(), made, out, err)
         }
-        Err(_) => Failure::OutOfMemory.tell(rt.alloc(), out, err),
+        Err(_) => Failure::OutOfMemory.print(rt.alloc(), out, err),
     }
 }
 
@@ -277,7 +277,7 @@ fn ready<'a, R: Store + AllocGlobal>(
         (λ files. AllZip (IsReadFrom (R.known rt.now)) asked.now.files.items files.items) }
     ensures refused { IfErr result (λ failure.
         IsOneRefused (R.known rt.now) asked.now.files.items failure
-        ⊎ IsUnread asked.now.target.now failure) }
+        ⊎ IsReadError asked.now.target.now failure) }
 {
     let files = read_files(rt, asked.files.as_slice())?;
     find_folder(rt, asked.target)?;
@@ -298,7 +298,7 @@ fn make_reports<R: Store + AllocGlobal, P: Watch, S: Sink, E: Sink>(
 {
     match ready(rt, asked) {
         Ok(files) => report_read(rt, asked, files.as_slice(), progress, out, err),
-        Err(failure) => failure.tell(rt.alloc(), out, err),
+        Err(failure) => failure.print(rt.alloc(), out, err),
     }
 }
 
@@ -332,11 +332,11 @@ pub fn command<R: Store + AllocGlobal, I: io::Read + Drop, P: Watch, S: Sink, E:
 {
     let request = match request_of(rt.alloc(), words) {
         Ok(request) => request,
-        Err(fault) => return Failure::Words(fault).tell(rt.alloc(), out, err),
+        Err(fault) => return Failure::Words(fault).print(rt.alloc(), out, err),
     };
     match request {
         Request::Answer(task) => answer_task(rt, task, progress, out, err),
-        Request::Session { folder } => hold_session(rt, folder, input, progress, out, err),
+        Request::Session { folder } => start_session(rt, folder, input, progress, out, err),
         Request::Reports(asked) => make_reports(rt, &asked, progress, out, err),
         Request::Partial(asked) => make_partials(rt, &asked, progress, out, err),
         Request::Merge(asked) => merge_partials(rt, &asked, out, err),
@@ -395,6 +395,6 @@ pub fn run<R: Env + Store + AllocGlobal, I: io::Read + Drop, P: Watch, W: Write,
             &mut answers,
             &mut notes,
         ),
-        Err(error) => failure_of_words(&error).tell(rt.alloc(), &mut answers, &mut notes),
+        Err(error) => failure_of_words(&error).print(rt.alloc(), &mut answers, &mut notes),
     }
 }

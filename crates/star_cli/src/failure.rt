@@ -3,12 +3,12 @@
 ghost use Rattle.std.specs.Prelude.{◌≡◌, ◌==◌, IfOk, string_bytes};
 ghost use Rattle.star_common.specs.Memory.{TellsMemory};
 ghost use Rattle.star_engine.specs.Answered.{change};
-ghost use Rattle.star_cli.specs.Failures.{AreReportsEnded, IsFailureTold, IsTextOf, IsToldOn, failure_of_file, failure_of_halt, failure_text, status_of};
+ghost use Rattle.star_cli.specs.Failures.{AreReportsEnded, IsFailurePrinted, IsPrintedOn, IsTextOf, failure_of_file, failure_of_halt, failure_text, status_of};
 ghost use Rattle.star_cli.specs.declared.failure.Failure.TheVariants.{OutOfMemory, Words};
 
 use star_common::Sink;
 use star_engine::{EngineFault, FaultLine};
-use star_service::{Halt, MEMORY_LINE, MEMORY_STATUS, Shown, status_of, tell};
+use star_service::{Halt, MEMORY_LINE, MEMORY_STATUS, Shown, print, status_of};
 use star_words::WordsFault;
 use std::alloc::{AllocError, Global};
 use std::fmt;
@@ -30,7 +30,7 @@ pub(crate) enum Failure<'a> {
     /// The file at this path is no query and no program.
     OfFile(&'a str, EngineFault),
     /// The report of this name was not kept: a write failed, this many bytes into the report.
-    Unkept(&'a str, u64),
+    Unstored(&'a str, u64),
     /// A line was not printed: a write failed, this many bytes into the line.
     Unwritten(u64),
     /// Memory was refused.
@@ -59,7 +59,7 @@ impl<'a> From<Halt<'a>> for Failure<'a> {
     fn from(halt: Halt<'a>) -> Failure<'a> {
         match halt {
             Halt::OutOfMemory => Failure::OutOfMemory,
-            Halt::Unkept { name, sent } => Failure::Unkept(name, sent),
+            Halt::Unstored { name, sent } => Failure::Unstored(name, sent),
             Halt::Unwritten { sent } => Failure::Unwritten(sent),
         }
     }
@@ -85,7 +85,7 @@ impl<'a> fmt::Display for Failure<'a> {
                 Shown(name)
             ),
             Failure::OfFile(path, fault) => writeln!(f, "{}: {}", Shown(path), FaultLine(fault)),
-            Failure::Unkept(name, sent) => writeln!(f, "{}: write {sent}", Shown(name)),
+            Failure::Unstored(name, sent) => writeln!(f, "{}: write {sent}", Shown(name)),
             Failure::Unwritten(sent) => writeln!(f, "write {sent}"),
             Failure::OutOfMemory => f.write_str(MEMORY_LINE),
         }
@@ -111,7 +111,7 @@ impl<'a> Failure<'a> {
             Failure::Words(fault) => fault.status(),
             Failure::Unnamed(_) | Failure::NamedTwice(_) => 2,
             Failure::File(_) | Failure::Part(_) => 6,
-            Failure::Unkept(_, _) | Failure::Unwritten(_) => 6,
+            Failure::Unstored(_, _) | Failure::Unwritten(_) => 6,
             Failure::OfFile(_, fault) => status_of(fault),
             Failure::OutOfMemory => MEMORY_STATUS,
         }
@@ -125,18 +125,18 @@ impl<'a> Failure<'a> {
     }
 
     // Its text is printed on `out` if the status is 0, otherwise on `err`.
-    fn tell_text<S: Sink, E: Sink>(&self, text: &[u8], out: &mut S, err: &mut E) -> u8
-        ensures told { IsToldOn (result == 0) (change S.contents S.is_failed out.old out.new)
+    fn print_text<S: Sink, E: Sink>(&self, text: &[u8], out: &mut S, err: &mut E) -> u8
+        ensures printed { IsPrintedOn (result == 0) (change S.contents S.is_failed out.old out.new)
             (change E.contents E.is_failed err.old err.new) text.now }
         ensures status { result ≡ status_of self.now }
     {
         match self.status() {
             0 => {
-                tell(out, text);
+                print(out, text);
                 0
             }
             status => {
-                tell(err, text);
+                print(err, text);
                 status
             }
         }
@@ -145,14 +145,14 @@ impl<'a> Failure<'a> {
     /// Prints the failure, help and the version on `out` and all else on `err`, and returns the
     /// exit status. A failed write changes no status; a text for which there is no memory is
     /// reported as out of memory.
-    pub(crate) fn tell<S: Sink, E: Sink>(&self, alloc: Global, out: &mut S, err: &mut E) -> u8
-        ensures { IsFailureTold self.now (change S.contents S.is_failed out.old out.new)
+    pub(crate) fn print<S: Sink, E: Sink>(&self, alloc: Global, out: &mut S, err: &mut E) -> u8
+        ensures { IsFailurePrinted self.now (change S.contents S.is_failed out.old out.new)
             (change E.contents E.is_failed err.old err.new) result }
     {
         match self.text(alloc) {
-            Ok(text) => self.tell_text(text.as_bytes(), out, err),
+            Ok(text) => self.print_text(text.as_bytes(), out, err),
             Err(_) => {
-                tell(err, MEMORY_LINE.as_bytes());
+                print(err, MEMORY_LINE.as_bytes());
                 MEMORY_STATUS
             }
         }
@@ -173,6 +173,6 @@ pub(crate) fn end<S: Sink, E: Sink>(
     match made {
         Ok(true) => 0,
         Ok(false) => 1,
-        Err(halt) => Failure::from(halt).tell(alloc, out, err),
+        Err(halt) => Failure::from(halt).print(alloc, out, err),
     }
 }

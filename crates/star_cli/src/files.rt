@@ -4,7 +4,7 @@ ghost use Rattle.std.specs.Prelude.{◌≡◌, ◌≤◌, ◌⊎◌, None, IfErr
 ghost use Rattle.star_schema.specs.declared.table.TableId.{TableId};
 ghost use Rattle.star_cli.specs.Private.Reads.{AreAllRead, ArePartsFed, ArePartsUnread, IsFed, IsLineorderFed, IsLineorderRead, IsLineorderUnread, IsReadIn, IsTableUnread, failure_named, name_of};
 ghost use Rattle.star_cli.specs.Stores.{IsAt, IsFile, IsGivenFile, part_name, path_in, table_name};
-ghost use Rattle.star_cli.specs.{Failures.IsUnread, FolderLoads.AreTablesUnread, ReadFolders.AreReadIn, ReadFolders.AreWidelyRead, ReadFolders.HasReadSome, declared.failure.Failure.TheVariants.OutOfMemory, declared.failure.Failure.TheVariants.Part};
+ghost use Rattle.star_cli.specs.{Failures.IsReadError, FolderLoads.AreTablesUnread, ReadFolders.AreReadIn, ReadFolders.AreWidelyRead, ReadFolders.HasReadSome, declared.failure.Failure.TheVariants.OutOfMemory, declared.failure.Failure.TheVariants.Part};
 
 use crate::failure::Failure;
 use crate::progress::{TableFile, Watch, Watched};
@@ -26,7 +26,7 @@ const MOST_PARTS: u16 = 1_000;
 const MOST_FILE_BYTES: u64 = 16_777_216;
 
 // The size that the system reports of an open file, if it is a regular file.
-fn told_size(file: &impl OpenFile) -> u64 {
+fn reported_size(file: &impl OpenFile) -> u64 {
     match file.metadata() {
         Ok(metadata) if metadata.is_file() => metadata.len(),
         _ => 0,
@@ -47,7 +47,7 @@ fn read_there<R: Store + AllocGlobal>(
     let Some(file) = rt.open_there(path)? else {
         return Ok(None);
     };
-    let expected = told_size(&file);
+    let expected = reported_size(&file);
     if expected > most {
         return Err(FileFault::Failed);
     }
@@ -73,7 +73,7 @@ fn read_at_most<'a, R: Store + AllocGlobal>(
     most: u64,
 ) -> Result<Vec<u8>, Failure<'a>>
     ensures read { IfOk result (λ bytes. IsFile (R.known rt.now) most path.now bytes.items) }
-    ensures unread { IfErr result (IsUnread path.now) }
+    ensures unread { IfErr result (IsReadError path.now) }
 {
     match read_there(rt, path, most) {
         Ok(Some(bytes)) => Ok(bytes),
@@ -88,7 +88,7 @@ pub(crate) fn read_file<'a, R: Store + AllocGlobal>(
     path: &'a str,
 ) -> Result<Vec<u8>, Failure<'a>>
     ensures read { IfOk result (λ bytes. IsGivenFile (R.known rt.now) path.now bytes.items) }
-    ensures unread { IfErr result (IsUnread path.now) }
+    ensures unread { IfErr result (IsReadError path.now) }
 {
     read_at_most(rt, path, MOST_FILE_BYTES)
 }
@@ -134,7 +134,7 @@ fn feed_there<R: Store + AllocGlobal, P: Watch>(
     let Some(opened) = rt.open_there(path)? else {
         return Ok(false);
     };
-    let size = told_size(&opened);
+    let size = reported_size(&opened);
     if size > MOST_TABLE_BYTES {
         return Err(FileFault::Failed);
     }
@@ -396,7 +396,7 @@ pub(crate) fn sample_tables(alloc: Global) -> Result<ReadTables, AllocError>
 
 /// Sees to it that a folder is there, which a failure names as the words do.
 pub(crate) fn find_folder<'a, R: Files>(rt: &R, folder: &'a str) -> Result<(), Failure<'a>>
-    ensures { IfErr result (IsUnread folder.now) }
+    ensures { IfErr result (IsReadError folder.now) }
 {
     match fs::metadata(rt, folder) {
         Ok(metadata) if metadata.is_dir() => Ok(()),

@@ -5,10 +5,10 @@
 mod answers;
 mod commands;
 mod directory;
-mod errands;
 mod failure;
 mod files;
 mod input;
+mod jobs;
 pub mod law;
 mod loads;
 mod partials;

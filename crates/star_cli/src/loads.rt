@@ -3,7 +3,7 @@
 ghost use Rattle.std.specs.Prelude.{◌≡◌, IfErr, IfOk, MatchResult, OnOk};
 ghost use Rattle.star_schema.specs.{Database.TableTexts, Loadable.IsLoadable, Most.most_rows, Most.most_visits};
 ghost use Rattle.star_catalogue.specs.Pieces.{AreRead};
-ghost use Rattle.star_engine.specs.{Answered.IsUntouched, Answered.OrMemory, Answered.change, Loads.IsUnloaded, Loads.loaded_of};
+ghost use Rattle.star_engine.specs.{Answered.IsUntouched, Answered.OrMemory, Answered.change, Loads.IsLoadError, Loads.loaded_of};
 ghost use Rattle.star_cli.specs.{FolderLoads.IsFolderRefused, FolderLoads.IsFolderUnread, FolderLoads.IsLoadedFrom, Private.Reads.IsWidest, ReadFolders.AreReadIn, ReadFolders.AreWidelyRead};
 
 use crate::failure::Failure;
@@ -13,7 +13,7 @@ use crate::store::Store;
 use star_common::Sink;
 use star_engine::{Engine, EngineFault, ReadTables};
 use star_schema::Limits;
-use star_service::tell_fault;
+use star_service::print_fault;
 use star_words::WordsFault;
 use std::alloc::Global;
 
@@ -23,7 +23,7 @@ pub(crate) fn engine_of(alloc: Global, read: ReadTables) -> Result<Engine, Engin
     ensures loaded { (texts : TableTexts) → AreRead read most_rows texts → MatchResult result
         (λ engine. IsLoadable most_rows texts
         × (engine ≡ loaded_of most_rows most_visits texts))
-        (OrMemory (IsUnloaded most_rows texts)) }
+        (OrMemory (IsLoadError most_rows texts)) }
     ensures widest { IfOk result (λ engine. IsWidest engine) }
 {
     Engine::of_read(alloc, read, Limits::widest())
@@ -58,16 +58,16 @@ pub fn load_engine<R: Store + AllocGlobal, P: Watch, S: Sink, E: Sink>(
     ensures engine { IfOk result (IsLoadedFrom (R.known rt.now) folder.now) }
     ensures silent { OnOk result (IsUntouched (change S.contents S.is_failed out.old out.new)
         × IsUntouched (change E.contents E.is_failed err.old err.new)) }
-    ensures told { IfErr result (IsFolderRefused (R.known rt.now) folder.now
+    ensures printed { IfErr result (IsFolderRefused (R.known rt.now) folder.now
         (change S.contents S.is_failed out.old out.new)
         (change E.contents E.is_failed err.old err.new)) }
 {
     let read = match read_named(rt, folder, progress) {
         Ok(read) => read,
-        Err(failure) => return Err(failure.tell(rt.alloc(), out, err)),
+        Err(failure) => return Err(failure.print(rt.alloc(), out, err)),
     };
     match engine_of(rt.alloc(), read) {
         Ok(engine) => Ok(engine),
-        Err(unloaded) => Err(tell_fault(rt.alloc(), err, &unloaded)),
+        Err(unloaded) => Err(print_fault(rt.alloc(), err, &unloaded)),
     }
 }

@@ -15,7 +15,7 @@ use star_common::Sink;
 use star_engine::{Engine, EngineFault, Question};
 use star_merger::{Merger, Partial, PartialFault, PartialsFault, partial_text, write_partial};
 use star_schema::Limits;
-use star_service::{Shelf, ShelfFault, Shown, tell, tell_fault};
+use star_service::{ReportSink, ReportSinkFault, Shown, print, print_fault};
 use star_words::{Merge, Partials};
 use std::alloc::{AllocError, Global};
 use std::fmt;
@@ -67,7 +67,7 @@ impl<'a> fmt::Display for PartialLine<'a> {
 }
 
 // Prints the line of a fault of a partial, and returns its exit status.
-fn tell_partial<S: Sink, E: Sink>(
+fn print_partial<S: Sink, E: Sink>(
     alloc: Global,
     line: PartialLine<'_>,
     out: &mut S,
@@ -75,10 +75,10 @@ fn tell_partial<S: Sink, E: Sink>(
 ) -> u8 {
     match format!(in alloc; "{line}") {
         Ok(text) => {
-            tell(err, text.as_bytes());
+            print(err, text.as_bytes());
             PARTIAL_STATUS
         }
-        Err(_) => Failure::from(AllocError).tell(alloc, out, err),
+        Err(_) => Failure::from(AllocError).print(alloc, out, err),
     }
 }
 
@@ -92,12 +92,12 @@ impl<'a> Undone<'a> {
     }
 
     // Prints the failure, and returns the exit status.
-    fn tell<S: Sink, E: Sink>(self, alloc: Global, out: &mut S, err: &mut E) -> u8 {
+    fn print<S: Sink, E: Sink>(self, alloc: Global, out: &mut S, err: &mut E) -> u8 {
         match self {
-            Undone::Failure(failure) => failure.tell(alloc, out, err),
-            Undone::Fault(fault) => tell_fault(alloc, err, &fault),
+            Undone::Failure(failure) => failure.print(alloc, out, err),
+            Undone::Fault(fault) => print_fault(alloc, err, &fault),
             Undone::Partial { name, fault, other } => {
-                tell_partial(alloc, PartialLine { name, fault, other }, out, err)
+                print_partial(alloc, PartialLine { name, fault, other }, out, err)
             }
         }
     }
@@ -184,7 +184,7 @@ pub(crate) fn merge_partials<R: Store + AllocGlobal, S: Sink, E: Sink>(
 ) -> u8 {
     match merge_read(rt, asked, out, err) {
         Ok(()) => 0,
-        Err(fault) => fault.tell(rt.alloc(), out, err),
+        Err(fault) => fault.print(rt.alloc(), out, err),
     }
 }
 
@@ -237,10 +237,10 @@ fn keep_partial<'a, R: Store + AllocGlobal>(
         ending: "partial",
         failed_at: None,
     };
-    match directory.keep(rt.alloc(), name, partial) {
+    match directory.store(rt.alloc(), name, partial) {
         Ok(()) => Ok(()),
-        Err(ShelfFault::OutOfMemory) => Err(Failure::OutOfMemory),
-        Err(ShelfFault::Write { sent }) => Err(Failure::Unkept(name, sent)),
+        Err(ReportSinkFault::OutOfMemory) => Err(Failure::OutOfMemory),
+        Err(ReportSinkFault::Write { sent }) => Err(Failure::Unstored(name, sent)),
     }
 }
 
@@ -280,19 +280,19 @@ fn make_partial<R: Store + AllocGlobal, P: Watch, S: Sink, E: Sink>(
 {
     let name = match format!(in rt.alloc(); "{part}") {
         Ok(name) => name,
-        Err(_) => return Err(Failure::OutOfMemory.tell(rt.alloc(), out, err)),
+        Err(_) => return Err(Failure::OutOfMemory.print(rt.alloc(), out, err)),
     };
     let loaded = match load_part(rt, asked.folder, part, loaded, progress) {
         Ok(loaded) => loaded,
-        Err(failure) => return Err(failure.tell(rt.alloc(), out, err)),
+        Err(failure) => return Err(failure.print(rt.alloc(), out, err)),
     };
     match loaded {
         Ok(engine) => match deliver_partial(rt, &engine, file, asked.target, &name, out) {
             Ok(()) => Ok(engine),
-            Err(fault) => Err(fault.tell(rt.alloc(), out, err)),
+            Err(fault) => Err(fault.print(rt.alloc(), out, err)),
         },
-        Err(fault) if asked.target.is_none() => Err(tell_fault(rt.alloc(), err, &fault)),
-        Err(fault) => Err(Failure::of_file(&name, fault).tell(rt.alloc(), out, err)),
+        Err(fault) if asked.target.is_none() => Err(print_fault(rt.alloc(), err, &fault)),
+        Err(fault) => Err(Failure::of_file(&name, fault).print(rt.alloc(), out, err)),
     }
 }
 
@@ -307,7 +307,7 @@ pub(crate) fn make_partials<R: Store + AllocGlobal, P: Watch, S: Sink, E: Sink>(
 ) -> u8 {
     let file = match query_of_partials(rt, asked) {
         Ok(file) => file,
-        Err(fault) => return fault.tell(rt.alloc(), out, err),
+        Err(fault) => return fault.print(rt.alloc(), out, err),
     };
     let mut loaded = None;
     for part in &asked.parts {

@@ -126,17 +126,17 @@ module _ {A : Type 0} (p : A → Bool) (xs : List A) (first left : ℕ) (d : A)
       (get_or-map p (chunk first 64 xs) place d false (omega (arith, long, there.within))
       ∙ ap p (get_or-chunk first 64 xs place d there.within))
 
-  module _ (alive kept one : ℕ) (fits : alive < 2 ^ 64)
+  module _ (bitmap kept one : ℕ) (fits : bitmap < 2 ^ 64)
       (is : one ≡ cond (p (get_or xs (first + place) d)) 1 0)
-      (so_far : bit_and left mask + kept ≡ bit_and alive mask) where
+      (so_far : bit_and left mask + kept ≡ bit_and bitmap mask) where
     added : one * 2 ^ place % 2 ^ 64 ≡ mask / 2 ^ place % 2 * 2 ^ place
     added =
         ap (λ b. b * 2 ^ place % 2 ^ 64) (is ∙ sym bit_is)
         ∙ mod-eq_of_lt (omega (arith, there.parted, and_le_l left mask, small))
 
     pub kept_fits : kept + one * 2 ^ place % 2 ^ 64 < 2 ^ 64
-    kept_fits = omega (arith, added, there.parted, so_far, and_le_l alive mask, fits)
+    kept_fits = omega (arith, added, there.parted, so_far, and_le_l bitmap mask, fits)
 
     pub kept_more : bit_and (bit_and left (left - 1)) mask + (kept + one * 2 ^ place % 2 ^ 64)
-        ≡ bit_and alive mask
+        ≡ bit_and bitmap mask
     kept_more = omega (arith, added, there.parted, so_far)

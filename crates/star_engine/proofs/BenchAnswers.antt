@@ -10,40 +10,40 @@ use Rattle.star_program.specs.declared.program.Parts.{Parts}
 use Rattle.star_compile_laws.specs.Compiled.{compiled}
 use Rattle.star_engine.specs.Bench.{AreSections, IsBenchOver, IsFinding, IsSection, named_quote}
 use Rattle.star_engine.specs.{declared.fault.EngineFault.EngineFault, declared.thirteen.BenchmarkQuery.BenchmarkQuery, declared.thirteen.BenchmarkQuery.TheVariants.Q11, declared.thirteen.TheConstants.THIRTEEN, Answered.Change, Answered.IsAnswered, Answered.IsWritten, Executions.quote_over}
-use Rattle.star_engine.specs.{Notes.quote_line, Queries.FitsRows, Queries.IsPlanOf, Queries.fact_rows, Questions.IsProgramOfQuery, Thirteen.query_name, Thirteen.query_text, Private.BenchSteps.IsRunFound, Private.QuerySteps.IsJudged}
-use Rattle.star_engine.proofs.QueryAnswers.{refusal_told}
+use Rattle.star_engine.specs.{Notes.quote_line, Queries.FitsRows, Queries.IsPlanOf, Queries.fact_rows, Questions.IsProgramOfQuery, Thirteen.query_name, Thirteen.query_text, Private.BenchSteps.IsRunFound, Private.QuerySteps.HasProgramLaws}
+use Rattle.star_engine.proofs.QueryAnswers.{refusal_shown}
 use Rattle.star_engine.specs.declared.fault.EngineFault.TheVariants as engine
 
 -- ---- one query
 
 module _ (most : ℕ) (database : Database) (query : List ℕ) (p : Plan) (meant : IsPlanOf query p)
-    (laws : IsJudged most database query p) where
+    (laws : HasProgramLaws most database query p) where
   found_told : (fits : Bool) (text : List ℕ) → IsRunFound database most (compiled p) fits text
       → IsFinding most database query text
-  found_told true text (telling, told, printed) =
+  found_told true text (run, told, printed) =
       inl (
         laws.accepted.1 told.accepted,
         rw (printed ∙ told.reported)
             (laws.printed told.yields.s told.yields.ended told.outcome told.yields.told),
       )
   found_told false text (refusal, refused, printed) =
-      inr (refusal, refusal_told most database query p meant laws refusal refused, printed)
+      inr (refusal, refusal_shown most database query p meant laws refusal refused, printed)
 
   judgement : (fits : Bool) (text : List ℕ) → IsRunFound database most (compiled p) fits text
       → IsTrue fits ↔ FitsRows most database query
-  judgement true text (telling, told, printed) =
+  judgement true text (run, told, printed) =
       ((λ is. laws.accepted.1 told.accepted), (λ fits. refl))
   judgement false text (refusal, refused, printed) =
-      let told = refusal_told most database query p meant laws refusal refused in
+      let told = refusal_shown most database query p meant laws refusal refused in
       ((λ is. absurd (cc)), (λ fits. absurd (told.unfit fits)))
 
-pub section_told : (most : ℕ) (database : Database) (q : BenchmarkQuery) (program : Parts)
-    → ((p : Plan) → IsPlanOf (query_text q) p → IsJudged most database (query_text q) p)
+pub section_written : (most : ℕ) (database : Database) (q : BenchmarkQuery) (program : Parts)
+    → ((p : Plan) → IsPlanOf (query_text q) p → HasProgramLaws most database (query_text q) p)
     → IsProgramOfQuery (query_text q) program → (fits : Bool) (found section : List ℕ)
     → IsRunFound database most program fits found
     → section ≡ named_quote q (quote_over database program) ++ found
     → IsSection most database q section × (IsTrue fits ↔ FitsRows most database (query_text q))
-section_told most database q program judged is fits found section finding printed =
+section_written most database q program judged is fits found section finding printed =
     let query = query_text q in
     let laws = judged is.p is.meant in
     let made : IsRunFound database most (compiled is.p) fits found =

@@ -2,7 +2,7 @@
 use Rattle.std.proofs.Common.{◌≡◌, ℕ, List, refl}
 use Rattle.std.specs.Prelude.{Result, Ok, Err, IfErr, OnOk}
 use Rattle.star_engine.specs.Answered.{Change, HasWritten, IsAnswered, IsBrokenOff, IsRefused, IsUntouched}
-use Rattle.star_engine.specs.Noted.{HasTold, IsNoted, IsTellingBrokenOff, IsTellingRefused, IsTellingUntold, Telling}
+use Rattle.star_engine.specs.WithNotes.{HasWrittenRun, IsAnsweredWithNotes, IsRunBrokenOff, IsRunRefused, IsRunUnwritten, RunText}
 use Rattle.star_engine.specs.{declared.fault.EngineFault.EngineFault, declared.fault.EngineFault.TheVariants.OutOfMemory, declared.fault.EngineFault.TheVariants.Refused, declared.fault.EngineFault.TheVariants.Write}
 
 -- ---- a text
@@ -44,48 +44,51 @@ module _ {S A : Type 0} (sink : Change S) (IsText : List ℕ → Type 0)
 -- ---- a report with its notes
 
 module _ {S N : Type 0} (out : Change S) (notes : Change N) (IsQuote : List ℕ → Type 0)
-    (IsTold : Telling → Type 0) (IsDue : EngineFault → Type 0) where
-  pub has_told : (result : Result (Unit {0}) EngineFault)
-      → IsNoted out notes IsQuote IsTold IsDue result → OnOk result (HasTold out notes IsTold)
-  has_told (Ok answer) noted = noted
-  has_told (Err fault) noted = tt
+    (IsRun : RunText → Type 0) (IsDue : EngineFault → Type 0) where
+  pub has_written_run : (result : Result (Unit {0}) EngineFault)
+      → IsAnsweredWithNotes out notes IsQuote IsRun IsDue result
+      → OnOk result (HasWrittenRun out notes IsRun)
+  has_written_run (Ok answer) noted = noted
+  has_written_run (Err fault) noted = tt
 
   -- of the report alone
   pub has_reported : (result : Result (Unit {0}) EngineFault) (IsReport : List ℕ → Type 0)
-      → ((telling : Telling) → IsTold telling → IsReport telling.report)
-      → IsNoted out notes IsQuote IsTold IsDue result → OnOk result (HasWritten out IsReport)
+      → ((run : RunText) → IsRun run → IsReport run.report)
+      → IsAnsweredWithNotes out notes IsQuote IsRun IsDue result
+      → OnOk result (HasWritten out IsReport)
   has_reported (Ok answer) IsReport reported noted =
       (noted.0.report, reported noted.0 noted.1, noted.2)
   has_reported (Err fault) IsReport reported noted = tt
 
-  pub is_telling_broken_off : (result : Result (Unit {0}) EngineFault)
-      → IsNoted out notes IsQuote IsTold IsDue result
-      → IfErr result (IsTellingBrokenOff out notes IsQuote IsTold)
-  is_telling_broken_off (Ok answer) noted = tt
-  is_telling_broken_off (Err (Write sent)) noted = noted
-  is_telling_broken_off (Err fault) noted = tt
+  pub is_run_broken_off : (result : Result (Unit {0}) EngineFault)
+      → IsAnsweredWithNotes out notes IsQuote IsRun IsDue result
+      → IfErr result (IsRunBrokenOff out notes IsQuote IsRun)
+  is_run_broken_off (Ok answer) noted = tt
+  is_run_broken_off (Err (Write sent)) noted = noted
+  is_run_broken_off (Err fault) noted = tt
 
-  pub is_telling_refused : (result : Result (Unit {0}) EngineFault)
-      → IsNoted out notes IsQuote IsTold IsDue result
-      → IfErr result (IsTellingRefused out notes IsQuote IsDue)
-  is_telling_refused (Ok answer) noted = tt
-  is_telling_refused (Err OutOfMemory) noted = tt
-  is_telling_refused (Err (Write sent)) noted = tt
-  is_telling_refused (Err (Refused refusal)) noted = noted
-  is_telling_refused (Err fault) noted = noted
+  pub is_run_refused : (result : Result (Unit {0}) EngineFault)
+      → IsAnsweredWithNotes out notes IsQuote IsRun IsDue result
+      → IfErr result (IsRunRefused out notes IsQuote IsDue)
+  is_run_refused (Ok answer) noted = tt
+  is_run_refused (Err OutOfMemory) noted = tt
+  is_run_refused (Err (Write sent)) noted = tt
+  is_run_refused (Err (Refused refusal)) noted = noted
+  is_run_refused (Err fault) noted = noted
 
-  pub is_telling_untold : (result : Result (Unit {0}) EngineFault)
-      → IsNoted out notes IsQuote IsTold IsDue result
-      → result ≡ Err OutOfMemory → IsTellingUntold out notes IsQuote
-  is_telling_untold (Ok answer) noted same = cc
-  is_telling_untold (Err OutOfMemory) noted same = noted
-  is_telling_untold (Err fault) noted same = cc
+  pub is_run_unwritten : (result : Result (Unit {0}) EngineFault)
+      → IsAnsweredWithNotes out notes IsQuote IsRun IsDue result
+      → result ≡ Err OutOfMemory → IsRunUnwritten out notes IsQuote
+  is_run_unwritten (Ok answer) noted same = cc
+  is_run_unwritten (Err OutOfMemory) noted same = noted
+  is_run_unwritten (Err fault) noted same = cc
 
-  pub is_noted : (result : Result (Unit {0}) EngineFault) → OnOk result (HasTold out notes IsTold)
-      → IfErr result (IsTellingBrokenOff out notes IsQuote IsTold)
-      → IfErr result (IsTellingRefused out notes IsQuote IsDue)
-      → (result ≡ Err OutOfMemory → IsTellingUntold out notes IsQuote)
-      → IsNoted out notes IsQuote IsTold IsDue result
+  pub is_noted : (result : Result (Unit {0}) EngineFault)
+      → OnOk result (HasWrittenRun out notes IsRun)
+      → IfErr result (IsRunBrokenOff out notes IsQuote IsRun)
+      → IfErr result (IsRunRefused out notes IsQuote IsDue)
+      → (result ≡ Err OutOfMemory → IsRunUnwritten out notes IsQuote)
+      → IsAnsweredWithNotes out notes IsQuote IsRun IsDue result
   is_noted (Ok answer) told broken refused memory = told
   is_noted (Err OutOfMemory) told broken refused memory = memory refl
   is_noted (Err (Write sent)) told broken refused memory = broken

@@ -1,4 +1,4 @@
--- What is told of a program that is checked and then run.
+-- What is printed of a program that is checked and then run.
 use Rattle.std.proofs.Common.{◌≡◌, ◌≤◌, ◌<◌, ℕ, List, Some, None, arith, inl, inr, length, refl, ◌∙◌}
 use Rattle.std.specs.Prelude.{◌↔◌}
 use Rattle.star_common.specs.Memory.{UnlessMemory}
@@ -7,8 +7,8 @@ use Rattle.star_program.specs.declared.program.Parts.{Parts}
 use Rattle.star_safety.specs.Admissible.{first_refusal, IsAdmissible}
 use Rattle.star_verify.specs.{declared.refusal.Refusal.Refusal, Views.refusal_view}
 use Rattle.star_world.specs.WorldOf.{world_of}
-use Rattle.star_engine.specs.{declared.fault.EngineFault.EngineFault, declared.fault.EngineFault.TheVariants.Refused, Answered.OrMemory, Executions.IsProgramTold, Executions.IsRefusal, Executions.IsUntoldOver, Executions.quote_over, Faults.fault_of_refusal, Loads.HoldsOfFile}
-use Rattle.star_engine.specs.{Loads.IsProgramOf, Noted.Telling, Notes.counts_line, Notes.quote_line, Private.Steps.IsNotVerified}
+use Rattle.star_engine.specs.{declared.fault.EngineFault.EngineFault, declared.fault.EngineFault.TheVariants.Refused, Answered.OrMemory, Executions.IsProgramRun, Executions.IsRefusal, Executions.IsRunErrorOver, Executions.quote_over, Faults.fault_of_refusal, Loads.HoldsOfFile}
+use Rattle.star_engine.specs.{Loads.IsProgramOf, Notes.counts_line, Notes.quote_line, Private.Steps.IsNotVerified, WithNotes.RunText}
 use Rattle.star_engine.proofs.Trials.{report_some}
 use Rattle.star_safety.specs.Admissible as admissible
 use Rattle.star_verify.specs.declared.refusal.Refusal.TheVariants as why
@@ -24,14 +24,14 @@ unfolding counts_line
 counts_some visits lookups updates = omega arith
 
 -- so do what a run prints
-pub report_has_bytes : (database : Database) (most : ℕ) (program : Parts) (telling : Telling)
-    → IsProgramTold database most program telling → 0 < length telling.report
-report_has_bytes database most program telling told =
+pub report_has_bytes : (database : Database) (most : ℕ) (program : Parts) (run : RunText)
+    → IsProgramRun database most program run → 0 < length run.report
+report_has_bytes database most program run told =
     rw told.reported (report_some told.outcome.names told.outcome.rows)
 
-pub note_has_bytes : (database : Database) (most : ℕ) (program : Parts) (telling : Telling)
-    → IsProgramTold database most program telling → 0 < length telling.done
-note_has_bytes database most program telling told =
+pub note_has_bytes : (database : Database) (most : ℕ) (program : Parts) (run : RunText)
+    → IsProgramRun database most program run → 0 < length run.done
+note_has_bytes database most program run told =
     let outcome = told.outcome in
     rw told.done (counts_some outcome.visits outcome.lookups outcome.updates)
 
@@ -60,7 +60,7 @@ refusal_of database most program refusal shown none other is told =
           })
     ]
 
--- what the check tells is what refuses the program first
+-- the error of the check is the first refusal of the program
 pub refused : (database : Database) (most : ℕ) (program : Parts) (refusal : Refusal)
     → RefusedByNone database most program → UnlessMemory why.OutOfMemory refusal
     (first_refusal (world_of database) most program ≡ refusal_view refusal)
@@ -81,6 +81,6 @@ module _ (visits : ℕ) (database : Database) (file : List ℕ) (program : Parts
   of_program Holds holds = record { program = program; of_file = spelled; holds = holds }
 
   pub fault_of_program : (fault : EngineFault) → IsNotVerified database visits program fault
-      → IsUntoldOver visits database file fault
+      → IsRunErrorOver visits database file fault
   fault_of_program (Refused refusal) refused = of_program _ refused
   fault_of_program _ refused = absurd refused

@@ -18,7 +18,7 @@ pub mod QueryRuns
 pub mod QueryFaults
 pub mod QueryAnswers
 pub mod ProgramTexts
-pub mod TellingLemmas
+pub mod RunTextLemmas
 pub mod Meanings
 pub mod ThirteenMeant
 pub mod BenchAnswers

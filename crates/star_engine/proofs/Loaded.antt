@@ -2,7 +2,7 @@
 use Rattle.std.proofs.Common.{◌≡◌, ℕ, List, subst}
 use Rattle.std.specs.Prelude.{Result, Ok, Err}
 use Rattle.star_schema.specs.{Database.Database, Database.TableTexts, Loadable.IsLoadable, Loadable.database_of}
-use Rattle.star_engine.specs.{declared.fault.EngineFault.EngineFault, declared.fault.EngineFault.TheVariants.OutOfMemory, declared.fault.EngineFault.TheVariants.Write, Answered.Change, Answered.IsAnswered, Loads.HoldsOfRows, Noted.IsNoted, Noted.Telling}
+use Rattle.star_engine.specs.{declared.fault.EngineFault.EngineFault, declared.fault.EngineFault.TheVariants.OutOfMemory, declared.fault.EngineFault.TheVariants.Write, Answered.Change, Answered.IsAnswered, Loads.HoldsOfRows, WithNotes.IsAnsweredWithNotes, WithNotes.RunText}
 use Rattle.star_engine.proofs.NotedAs.{noted_as}
 
 -- what is answered of one text is answered of another, where all that is due of the one is due of
@@ -39,16 +39,17 @@ module _ (rows : ℕ) (texts : TableTexts) (held : Database) (loadable : IsLoada
       (λ fault holds. due fault loadable (subst (λ database. IsDue database fault) same holds)) is
 
   pub noted_over : {S N : Type 0} (out : Change S) (notes : Change N)
-      (IsQuote : Database → List ℕ → Type 0) (IsTold : Database → Telling → Type 0)
+      (IsQuote : Database → List ℕ → Type 0) (IsRun : Database → RunText → Type 0)
       (IsDue : Database → EngineFault → Type 0) (OtherDue : EngineFault → Type 0)
       (result : Result (Unit {0}) EngineFault)
       → ((fault : EngineFault) → IsLoadable rows texts → IsDue (database_of texts) fault
       → OtherDue fault)
-      → IsNoted out notes (IsQuote held) (IsTold held) (IsDue held) result
-      → IsNoted out notes (λ note. HoldsOfRows rows texts (λ database. IsQuote database note))
-      (λ telling. HoldsOfRows rows texts (λ database. IsTold database telling)) OtherDue result
-  noted_over out notes IsQuote IsTold IsDue OtherDue result due is =
-      noted_as out notes (IsQuote held) _ (IsTold held) _ (IsDue held) OtherDue result
+      → IsAnsweredWithNotes out notes (IsQuote held) (IsRun held) (IsDue held) result
+      → IsAnsweredWithNotes out notes (λ note. HoldsOfRows rows texts
+      (λ database. IsQuote database note))
+      (λ run. HoldsOfRows rows texts (λ database. IsRun database run)) OtherDue result
+  noted_over out notes IsQuote IsRun IsDue OtherDue result due is =
+      noted_as out notes (IsQuote held) _ (IsRun held) _ (IsDue held) OtherDue result
       (λ note. of_rows (λ database. IsQuote database note))
-      (λ telling. of_rows (λ database. IsTold database telling))
+      (λ run. of_rows (λ database. IsRun database run))
       (λ fault holds. due fault loadable (subst (λ database. IsDue database fault) same holds)) is

@@ -4,8 +4,8 @@ use Rattle.star_schema.specs.{Database.Database, Database.TableTexts, Loadable.d
 use Rattle.star_query.specs.{declared.fault.QueryFault.QueryFault, Derives.Means, Tree.Tree}
 use Rattle.star_query.proofs.Verdicts.{one_meaning}
 use Rattle.star_plan.specs.{declared.fault.PlanFault.PlanFault, Faults.plan_fault, WellNamed.IsWellNamed}
-use Rattle.star_engine.specs.Queries.{IsPlanFault, IsQueryFault, IsQueryTold, IsQueryToldOver, IsUnanswered, IsUnansweredOver}
-use Rattle.star_engine.specs.{declared.fault.EngineFault.EngineFault, Noted.Telling}
+use Rattle.star_engine.specs.Queries.{IsPlanFault, IsQueryFault, IsQueryRun, IsQueryRunError, IsQueryRunErrorOver, IsQueryRunOver}
+use Rattle.star_engine.specs.{declared.fault.EngineFault.EngineFault, WithNotes.RunText}
 use Rattle.star_query.proofs.FirstFaults as texts
 use Rattle.star_plan.proofs.Conditions as names
 use Rattle.star_engine.specs.declared.fault.EngineFault.TheVariants as engine
@@ -23,27 +23,27 @@ no_name_fault query tree fault means named is =
     subst (λ t. plan_fault t ≡ None) same (names.no_fault tree named) in
     let first = is.first in absurd (cc)
 
-pub told_is_answered : (visits : ℕ) (database : Database) (query : List ℕ) (telling : Telling)
-    (fault : EngineFault) → IsQueryToldOver visits database query telling
-    → IsUnansweredOver visits database query fault → ⊥
-told_is_answered visits database query telling (engine.Refused refused) told due =
+pub run_is_answered : (visits : ℕ) (database : Database) (query : List ℕ) (run : RunText)
+    (fault : EngineFault) → IsQueryRunOver visits database query run
+    → IsQueryRunErrorOver visits database query fault → ⊥
+run_is_answered visits database query run (engine.Refused refused) told due =
     due.unfit told.fitting
-told_is_answered visits database query telling (engine.Query fault) told due =
+run_is_answered visits database query run (engine.Query fault) told due =
     no_text_fault query told.fitting.tree fault told.fitting.means due
-told_is_answered visits database query telling (engine.Plan fault) told due =
+run_is_answered visits database query run (engine.Plan fault) told due =
     no_name_fault query told.fitting.tree fault told.fitting.means told.fitting.named due
-told_is_answered visits database query telling _ told due = due
+run_is_answered visits database query run _ told due = due
 
-pub told_of_texts_is_answered : (rows visits : ℕ) (texts : TableTexts) (query : List ℕ)
-    (telling : Telling) (fault : EngineFault) → IsQueryTold rows visits texts query telling
-    → IsUnanswered rows visits texts query fault → ⊥
-told_of_texts_is_answered rows visits texts query telling (engine.Refused refused) told due =
-    told_is_answered visits (database_of texts) query telling (engine.Refused refused) told.holds
+pub run_of_texts_is_answered : (rows visits : ℕ) (texts : TableTexts) (query : List ℕ)
+    (run : RunText) (fault : EngineFault) → IsQueryRun rows visits texts query run
+    → IsQueryRunError rows visits texts query fault → ⊥
+run_of_texts_is_answered rows visits texts query run (engine.Refused refused) told due =
+    run_is_answered visits (database_of texts) query run (engine.Refused refused) told.holds
     due.holds
-told_of_texts_is_answered rows visits texts query telling (engine.Load fault) told due =
+run_of_texts_is_answered rows visits texts query run (engine.Load fault) told due =
     due.1.not_loadable told.loadable
-told_of_texts_is_answered rows visits texts query telling (engine.Query fault) told due =
-    told_is_answered visits (database_of texts) query telling (engine.Query fault) told.holds due
-told_of_texts_is_answered rows visits texts query telling (engine.Plan fault) told due =
-    told_is_answered visits (database_of texts) query telling (engine.Plan fault) told.holds due
-told_of_texts_is_answered rows visits texts query telling _ told due = due
+run_of_texts_is_answered rows visits texts query run (engine.Query fault) told due =
+    run_is_answered visits (database_of texts) query run (engine.Query fault) told.holds due
+run_of_texts_is_answered rows visits texts query run (engine.Plan fault) told due =
+    run_is_answered visits (database_of texts) query run (engine.Plan fault) told.holds due
+run_of_texts_is_answered rows visits texts query run _ told due = due

@@ -4,25 +4,25 @@ use Rattle.std.proofs.{KnownBytes.Appends-trans, Math.Seq.take-append-add, lemma
 use Rattle.std.specs.Prelude.{Result, Ok, Err}
 use Rattle.star_verify.specs.declared.refusal.Refusal.{Refusal}
 use Rattle.star_engine.specs.Answered.{Change, HasGained, HasGainedPart, IsUntouched, IsWritten, OrMemory, change}
-use Rattle.star_engine.specs.Noted.{BeforeTheReport, BehindTheReport, InTheReport, IsNoted, Telling}
+use Rattle.star_engine.specs.WithNotes.{AfterTheReport, BeforeTheReport, InTheReport, IsAnsweredWithNotes, RunText}
 use Rattle.star_engine.specs.{declared.fault.EngineFault.EngineFault, declared.fault.EngineFault.TheVariants.OutOfMemory, declared.fault.EngineFault.TheVariants.Refused, declared.fault.EngineFault.TheVariants.Write, Private.Steps.AreBothWritten, Private.Steps.IsPart}
 
 -- a fault before anything is written, which is no refusal
 pub noted_stopped : {S N : Type 0} (out : Change S) (notes : Change N) (IsQuote : List ℕ → Type 0)
-    (IsTold : Telling → Type 0) (IsBefore IsDue : EngineFault → Type 0) (fault : EngineFault)
+    (IsRun : RunText → Type 0) (IsBefore IsDue : EngineFault → Type 0) (fault : EngineFault)
     → IsUntouched out → IsUntouched notes → ((refusal : Refusal) → ¬ IsBefore (Refused refusal))
     → ((f : EngineFault) → IsBefore f → IsDue f) → OrMemory IsBefore fault
-    → IsNoted out notes IsQuote IsTold IsDue (Err fault)
-noted_stopped out notes IsQuote IsTold IsBefore IsDue OutOfMemory same still never on is =
+    → IsAnsweredWithNotes out notes IsQuote IsRun IsDue (Err fault)
+noted_stopped out notes IsQuote IsRun IsBefore IsDue OutOfMemory same still never on is =
     (same, inl still)
-noted_stopped out notes IsQuote IsTold IsBefore IsDue (Write sent) same still never on is =
+noted_stopped out notes IsQuote IsRun IsBefore IsDue (Write sent) same still never on is =
     absurd is
-noted_stopped out notes IsQuote IsTold IsBefore IsDue (Refused refusal) same still never on is =
+noted_stopped out notes IsQuote IsRun IsBefore IsDue (Refused refusal) same still never on is =
     absurd (never refusal is)
-noted_stopped out notes IsQuote IsTold IsBefore IsDue fault same still never on is =
+noted_stopped out notes IsQuote IsRun IsBefore IsDue fault same still never on is =
     (on fault is, same, still)
 
--- the report was not sent whole, and no note is written behind it
+-- the report was not sent whole, and no note is written after it
 pub report_broken : {S N : Type 0} (out : Change S) (notes : Change N) (text report done : List ℕ)
     (fault : EngineFault) → text ≡ report → IsWritten out text (Err fault) → IsUntouched notes
     → AreBothWritten out notes report done (Err fault)
@@ -32,14 +32,14 @@ report_broken out notes text report done _ is part same = absurd part
 
 -- the note of the quote was not written whole
 pub note_broken : {S N : Type 0} (out : Change S) (notes : Change N) (IsQuote : List ℕ → Type 0)
-    (IsTold : Telling → Type 0) (IsDue : EngineFault → Type 0) (note : List ℕ)
+    (IsRun : RunText → Type 0) (IsDue : EngineFault → Type 0) (note : List ℕ)
     (result : Result (Unit {0}) EngineFault)
     → result ≡ Err (Write 0) → IsQuote note → IsPart notes note → IsUntouched out
-    → IsNoted out notes IsQuote IsTold IsDue result
-note_broken out notes IsQuote IsTold IsDue note result is quote part same =
+    → IsAnsweredWithNotes out notes IsQuote IsRun IsDue result
+note_broken out notes IsQuote IsRun IsDue note result is quote part same =
     rw is (BeforeTheReport note quote part.0 part.1 same refl)
 
--- a note behind another
+-- a note after another
 gained_both : {N : Type 0} (contents : N → Option (List ℕ)) (is_failed : N → Bool) (old mid new : N)
     (first second : List ℕ) → HasGained (change contents is_failed old mid) first
     → HasGained (change contents is_failed mid new) second
@@ -62,40 +62,40 @@ gained_part contents is_failed old mid new first second noted h k = record {
   failed = k.failed;
 }
 
--- the report and the last note are written behind the note of the quote
+-- the report and the last note are written after the note of the quote
 pub delivered : {S N : Type 0} (out : Change S) (contents : N → Option (List ℕ))
-    (is_failed : N → Bool) (old mid new : N) (IsQuote : List ℕ → Type 0) (IsTold : Telling → Type 0)
-    (IsDue : EngineFault → Type 0) (telling : Telling) (result : Result (Unit {0}) EngineFault)
-    → IsQuote telling.quoted → IsTold telling
-    → HasGained (change contents is_failed old mid) telling.quoted
-    → AreBothWritten out (change contents is_failed mid new) telling.report telling.done result
-    → IsNoted out (change contents is_failed old new) IsQuote IsTold IsDue result
-delivered out contents is_failed old mid new IsQuote IsTold IsDue telling (Ok answer) quote told
+    (is_failed : N → Bool) (old mid new : N) (IsQuote : List ℕ → Type 0) (IsRun : RunText → Type 0)
+    (IsDue : EngineFault → Type 0) (run : RunText) (result : Result (Unit {0}) EngineFault)
+    → IsQuote run.quoted → IsRun run
+    → HasGained (change contents is_failed old mid) run.quoted
+    → AreBothWritten out (change contents is_failed mid new) run.report run.done result
+    → IsAnsweredWithNotes out (change contents is_failed old new) IsQuote IsRun IsDue result
+delivered out contents is_failed old mid new IsQuote IsRun IsDue run (Ok answer) quote told
     noted sent = (
-      telling,
+      run,
       told,
       sent.0,
-      gained_both contents is_failed old mid new telling.quoted telling.done
+      gained_both contents is_failed old mid new run.quoted run.done
           noted sent.1,
     )
-delivered out contents is_failed old mid new IsQuote IsTold IsDue telling (Err OutOfMemory) quote
+delivered out contents is_failed old mid new IsQuote IsRun IsDue run (Err OutOfMemory) quote
     told noted sent = (
       sent.0,
       inr (
-        telling.quoted,
+        run.quoted,
         quote,
-        subst (λ n. HasGained (change contents is_failed old n) telling.quoted) (sym sent.1) noted,
+        subst (λ n. HasGained (change contents is_failed old n) run.quoted) (sym sent.1) noted,
       ),
     )
-delivered out contents is_failed old mid new IsQuote IsTold IsDue telling (Err (Write count)) quote
+delivered out contents is_failed old mid new IsQuote IsRun IsDue run (Err (Write count)) quote
     told noted sent =
     elim sent [
-      | inl p ↦ InTheReport telling told
-          (subst (λ n. HasGained (change contents is_failed old n) telling.quoted) (sym p.1) noted)
+      | inl p ↦ InTheReport run told
+          (subst (λ n. HasGained (change contents is_failed old n) run.quoted) (sym p.1) noted)
           p.0
-      | inr p ↦ BehindTheReport telling told (length telling.quoted + p.2.0) (omega arith)
-          (gained_part contents is_failed old mid new telling.quoted telling.done p.2.0 noted p.2.1)
+      | inr p ↦ AfterTheReport run told (length run.quoted + p.2.0) (omega arith)
+          (gained_part contents is_failed old mid new run.quoted run.done p.2.0 noted p.2.1)
           p.0 p.1
     ]
-delivered out contents is_failed old mid new IsQuote IsTold IsDue telling (Err _) quote told noted
+delivered out contents is_failed old mid new IsQuote IsRun IsDue run (Err _) quote told noted
     sent = absurd sent

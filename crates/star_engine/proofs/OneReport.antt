@@ -8,8 +8,8 @@ use Rattle.star_report.proofs.OneOrder.{one_outcome}
 use Rattle.star_outcome.specs.Yields.{Yields}
 use Rattle.star_world.specs.WorldOf.{world_of}
 use Rattle.star_verify.specs.declared.refusal.Refusal.{Refusal}
-use Rattle.star_engine.specs.Executions.{IsAcceptedWithin, IsRefusal, IsToldOf, IsToldOver, IsUntold, IsUntoldOver}
-use Rattle.star_engine.specs.{declared.fault.EngineFault.EngineFault, declared.fault.EngineFault.TheVariants.Load, declared.fault.EngineFault.TheVariants.Program, declared.fault.EngineFault.TheVariants.Refused, Loads.IsProgramOf, Noted.Telling, Trials.IsBoundedReport}
+use Rattle.star_engine.specs.Executions.{IsAcceptedWithin, IsRefusal, IsRunError, IsRunErrorOver, IsRunOf, IsRunOver}
+use Rattle.star_engine.specs.{declared.fault.EngineFault.EngineFault, declared.fault.EngineFault.TheVariants.Load, declared.fault.EngineFault.TheVariants.Program, declared.fault.EngineFault.TheVariants.Refused, Loads.IsProgramOf, WithNotes.RunText, Trials.IsBoundedReport}
 
 -- a run that comes to its end has one outcome
 yields_one : (w : World) (parts : Parts) (end : End) (a b : Outcome) → Yields w parts end a
@@ -29,7 +29,7 @@ report_is_one database file visits report other h k =
     yields k.yields in
     h.printed ∙ (λ i. report_text (outcome i).names (outcome i).rows) ∙ sym k.printed
 
--- ---- what is told is not refused
+-- ---- what is printed is not refused
 
 -- a text that spells a program has no fault
 no_fault : (file : List ℕ) (program : Parts) (fault : TextFault) → IsProgramOf file program
@@ -45,25 +45,25 @@ accepted_is_not_refused database most file told refused refusal h k accepted is 
     (subst (IsAcceptedWithin database most) (one_program file told refused h.spelled k.spelled)
     accepted)
 
-pub told_is_not_untold : (visits : ℕ) (database : Database) (file : List ℕ)
-    (telling : Telling) (fault : EngineFault) → IsToldOver visits database file telling
-    → IsUntoldOver visits database file fault → ⊥
-told_is_not_untold visits database file telling (Program fault) told due =
+pub run_is_no_error : (visits : ℕ) (database : Database) (file : List ℕ)
+    (run : RunText) (fault : EngineFault) → IsRunOver visits database file run
+    → IsRunErrorOver visits database file fault → ⊥
+run_is_no_error visits database file run (Program fault) told due =
     no_fault file told.program fault told.of_file due
-told_is_not_untold visits database file telling (Refused refusal) told due =
+run_is_no_error visits database file run (Refused refusal) told due =
     accepted_is_not_refused database visits file told.program due.program refusal told.of_file
     due.of_file told.holds.accepted due.holds
-told_is_not_untold visits database file telling _ told due = due
+run_is_no_error visits database file run _ told due = due
 
 -- over texts
-pub told_of_texts_is_not_untold : (most visits : ℕ) (texts : TableTexts) (file : List ℕ)
-    (telling : Telling) (fault : EngineFault) → IsToldOf most visits texts file telling
-    → IsUntold most visits texts file fault → ⊥
-told_of_texts_is_not_untold most visits texts file telling (Load fault) told due =
+pub run_of_texts_is_no_error : (most visits : ℕ) (texts : TableTexts) (file : List ℕ)
+    (run : RunText) (fault : EngineFault) → IsRunOf most visits texts file run
+    → IsRunError most visits texts file fault → ⊥
+run_of_texts_is_no_error most visits texts file run (Load fault) told due =
     due.1.not_loadable told.loadable
-told_of_texts_is_not_untold most visits texts file telling (Program fault) told due =
-    told_is_not_untold visits (database_of texts) file telling (Program fault) told.holds due
-told_of_texts_is_not_untold most visits texts file telling (Refused refusal) told due =
-    told_is_not_untold visits (database_of texts) file telling (Refused refusal) told.holds
+run_of_texts_is_no_error most visits texts file run (Program fault) told due =
+    run_is_no_error visits (database_of texts) file run (Program fault) told.holds due
+run_of_texts_is_no_error most visits texts file run (Refused refusal) told due =
+    run_is_no_error visits (database_of texts) file run (Refused refusal) told.holds
     due.holds
-told_of_texts_is_not_untold most visits texts file telling _ told due = due
+run_of_texts_is_no_error most visits texts file run _ told due = due

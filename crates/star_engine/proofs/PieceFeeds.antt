@@ -19,7 +19,7 @@ none_consumed : (a : Option (List ℕ)) → Consumes a a []
 none_consumed None = tt
 none_consumed (Some a) = refl
 
--- nothing comes behind a text
+-- nothing comes after a text
 gone_none : (reader : Reading) → ReadingGoesOn reader reader []
 gone_none reader = λ table most parts text h. rw (append-nil text) h
 

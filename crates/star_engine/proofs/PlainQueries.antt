@@ -13,7 +13,7 @@ use Rattle.star_compile_laws.specs.Compiled.{compiled}
 use Rattle.star_compile_laws.proofs.{Answered.answers_the_plan, Rows.counts_the_rows, SeenRows.sees}
 use Rattle.star_merge_laws.specs.Plain.{plain_plan}
 use Rattle.star_merge_laws.proofs.PartialFacts.{plain_sound}
-use Rattle.star_engine.specs.{Executions.IsAcceptedWithin, Partials.IsPlainOutcome, Private.PartialSteps.IsPlainJudged, Private.PartialSteps.IsPlainProgram, Private.PartialSteps.IsRunIfAccepted, Queries.FitsRows, Queries.IsPlanOf}
+use Rattle.star_engine.specs.{Executions.IsAcceptedWithin, Partials.IsPlainOutcome, Private.PartialSteps.HasPlainProgramLaws, Private.PartialSteps.IsPlainProgram, Private.PartialSteps.IsRunIfAccepted, Queries.FitsRows, Queries.IsPlanOf}
 use Rattle.star_engine.proofs.PlansOfQueries.{plan_sound, plan_spelled}
 
 pub sound_plain : (query : List ℕ) (p : Plan) → IsPlanOf query p → IsSoundPlan (plain_plan p)
@@ -59,7 +59,7 @@ ran_plain database query p meant rows world outcome yields =
 -- ---- the run of a partial
 
 pub run_plain : (most : ℕ) (database : Database) (query : List ℕ) (program : Parts)
-    (is : IsPlainProgram query program) → IsPlainJudged most database query is.p is.meant
+    (is : IsPlainProgram query program) → HasPlainProgramLaws most database query is.p is.meant
     → (run : Option Outcome) → IsRunIfAccepted most database program run
     → MatchOption run (¬ FitsRows most database query) (λ outcome.
     FitsRows most database query × IsPlainOutcome database query is.p is.meant outcome)

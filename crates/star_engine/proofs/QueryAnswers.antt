@@ -1,18 +1,18 @@
--- What is told of the program of a query is what is told of the query.
+-- What is printed of the program of a query is what is printed of the query.
 use Rattle.std.proofs.Common.{◌∙◌, ℕ, List, ap, subst, sym}
 use Rattle.star_schema.specs.Database.{Database}
 use Rattle.star_plan.specs.Meaning.{Plan}
 use Rattle.star_verify.specs.declared.refusal.Refusal.{Refusal}
 use Rattle.star_compile_laws.specs.{Compiled.compiled, Judged.IsOverflow}
-use Rattle.star_engine.specs.Queries.{FitsRows, IsPlanOf, IsQueryToldOver, IsUnansweredOver, IsUnfit}
-use Rattle.star_engine.specs.{declared.fault.EngineFault.EngineFault, Executions.IsRefusal, Executions.IsProgramTold, Noted.Telling, Notes.counts_line, Notes.quote_line, Private.QuerySteps.IsJudged, Private.Steps.IsNotVerified}
+use Rattle.star_engine.specs.Queries.{FitsRows, IsPlanOf, IsQueryRefusal, IsQueryRunErrorOver, IsQueryRunOver}
+use Rattle.star_engine.specs.{declared.fault.EngineFault.EngineFault, Executions.IsRefusal, Executions.IsProgramRun, WithNotes.RunText, Notes.counts_line, Notes.quote_line, Private.QuerySteps.HasProgramLaws, Private.Steps.IsNotVerified}
 use Rattle.star_engine.specs.declared.fault.EngineFault.TheVariants as engine
 
 module _ (most : ℕ) (database : Database) (query : List ℕ) (p : Plan)
-    (meant : IsPlanOf query p) (judged : IsJudged most database query p) where
-  pub report_told : (telling : Telling) → IsProgramTold database most (compiled p) telling
-      → IsQueryToldOver most database query telling
-  report_told telling told =
+    (meant : IsPlanOf query p) (judged : HasProgramLaws most database query p) where
+  pub report_written : (run : RunText) → IsProgramRun database most (compiled p) run
+      → IsQueryRunOver most database query run
+  report_written run told =
       let s = told.yields.s in
       let outcome = told.yields.told in
       let counted = judged.counted s told.yields.ended meant in
@@ -29,9 +29,9 @@ module _ (most : ℕ) (database : Database) (query : List ℕ) (p : Plan)
             ((outcome.lookups ∙ counted.lookups) i) ((outcome.updates ∙ counted.updates) i));
       }
 
-  pub refusal_told : (refusal : Refusal) → IsRefusal database most (compiled p) refusal
-      → IsUnfit most database query refusal
-  refusal_told refusal is =
+  pub refusal_shown : (refusal : Refusal) → IsRefusal database most (compiled p) refusal
+      → IsQueryRefusal most database query refusal
+  refusal_shown refusal is =
       let unfit : ¬ FitsRows most database query =
       λ fits. is.not_accepted (judged.accepted.0 fits) in
       let first = is.told ∙ sym is.first in
@@ -45,6 +45,6 @@ module _ (most : ℕ) (database : Database) (query : List ℕ) (p : Plan)
       }
 
   pub fault_told : (fault : EngineFault) → IsNotVerified database most (compiled p) fault
-      → IsUnansweredOver most database query fault
-  fault_told (engine.Refused refusal) is = refusal_told refusal is
+      → IsQueryRunErrorOver most database query fault
+  fault_told (engine.Refused refusal) is = refusal_shown refusal is
   fault_told _ is = absurd is

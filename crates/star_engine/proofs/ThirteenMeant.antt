@@ -7,7 +7,7 @@ use Rattle.star_query.proofs.FirstFaults.{no_fault as no_first_fault}
 use Rattle.star_plan.specs.{Faults.plan_fault, Names.column_called, Names.has_name, Names.table_called, Naming.function_word, Naming.has_text, WellNamed.IsWellNamed}
 use Rattle.star_plan.proofs.Conditions.{no_fault}
 use Rattle.star_engine.specs.declared.thirteen.BenchmarkQuery.TheVariants.{Q11, Q12, Q13, Q21, Q22, Q23, Q31, Q32, Q33, Q34, Q41, Q42, Q43}
-use Rattle.star_engine.specs.{declared.fault.EngineFault.EngineFault, declared.thirteen.BenchmarkQuery.BenchmarkQuery, Queries.IsNoQuery, Thirteen.query_text}
+use Rattle.star_engine.specs.{declared.fault.EngineFault.EngineFault, declared.thirteen.BenchmarkQuery.BenchmarkQuery, Queries.IsQueryError, Thirteen.query_text}
 use Rattle.star_engine.proofs.Meanings.{IsWorked, are_named, meaning, means}
 use Rattle.star_engine.specs.declared.fault.EngineFault.TheVariants as engine
 
@@ -35,7 +35,7 @@ pub named : (q : BenchmarkQuery) (tree : Tree) → Means (query_text q) tree →
 named q tree is = are_named (query_text q) (worked q) tree is
 
 -- so none of them is at fault
-pub never_refused : (q : BenchmarkQuery) (fault : EngineFault) → ¬ IsNoQuery (query_text q) fault
+pub never_refused : (q : BenchmarkQuery) (fault : EngineFault) → ¬ IsQueryError (query_text q) fault
 never_refused q (engine.Query fault) =
     λ is. no_first_fault (query_text q) (meant q).0 fault is.not_memory (meant q).1 is.first
 never_refused q (engine.Plan fault) =

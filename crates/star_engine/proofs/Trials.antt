@@ -7,28 +7,29 @@ use Rattle.star_program.specs.{declared.outcome.Cell.Cell, declared.program.Part
 use Rattle.star_report.specs.Report.{line_text, report_text, row_text}
 use Rattle.star_trial.specs.{declared.fault.TrialFault.TrialFault, Trials.IsFaultOfEnd}
 use Rattle.star_world.specs.WorldOf.{world_of}
-use Rattle.star_engine.specs.{declared.fault.EngineFault.EngineFault, Answered.OrMemory, Faults.fault_of_trial, Loads.IsNoProgram, Loads.IsProgramOf, Loads.IsUnloaded, Trials.IsNoTrial, Trials.IsNoTrialOver}
+use Rattle.star_engine.specs.{declared.fault.EngineFault.EngineFault, Answered.OrMemory, Faults.fault_of_trial, Loads.IsProgramError, Loads.IsProgramOf, Loads.IsLoadError, Trials.IsTrialError, Trials.IsTrialErrorOver}
 use Rattle.star_trial.specs.declared.fault.TrialFault.TheVariants as trial
 use Rattle.star_engine.specs.declared.fault.EngineFault.TheVariants as engine
 
 -- over the texts that hold the rows
 pub no_trial_over : (most : ℕ) (texts : TableTexts) (file : List ℕ) (visits : ℕ)
     (fault : EngineFault) → IsLoadable most texts
-    → IsNoTrialOver (database_of texts) file visits fault → IsNoTrial most texts file visits fault
+    → IsTrialErrorOver (database_of texts) file visits fault
+    → IsTrialError most texts file visits fault
 no_trial_over most texts file visits (engine.Trial fault) loadable is =
     record { loadable = loadable; holds = is }
 no_trial_over most texts file visits (engine.Program fault) loadable is = is
 no_trial_over most texts file visits _ loadable is = absurd is
 
 pub no_trial_unloaded : (most : ℕ) (texts : TableTexts) (file : List ℕ) (visits : ℕ) (program : Parts)
-    → IsProgramOf file program → (fault : EngineFault) → IsUnloaded most texts fault
-    → IsNoTrial most texts file visits fault
+    → IsProgramOf file program → (fault : EngineFault) → IsLoadError most texts fault
+    → IsTrialError most texts file visits fault
 no_trial_unloaded most texts file visits program of_file (engine.Load fault) is =
     ((program, of_file), is)
 no_trial_unloaded most texts file visits program of_file _ is = absurd is
 
 pub no_trial_none : (most : ℕ) (texts : TableTexts) (file : List ℕ) (visits : ℕ)
-    (fault : EngineFault) → IsNoProgram file fault → IsNoTrial most texts file visits fault
+    (fault : EngineFault) → IsProgramError file fault → IsTrialError most texts file visits fault
 no_trial_none most texts file visits (engine.Program fault) is = is
 no_trial_none most texts file visits _ is = absurd is
 

@@ -4,7 +4,7 @@ use Rattle.std.specs.{List.AllByRecursion}
 use Rattle.star_schema.specs.Database.{Database, TableTexts}
 use Rattle.star_verify.specs.{declared.refusal.Refusal.Refusal, RefusalTexts.refusal_text}
 use Rattle.star_query_meaning.specs.Reports.{IsReport}
-use Rattle.star_engine.specs.{declared.thirteen.BenchmarkQuery.BenchmarkQuery, declared.thirteen.TheConstants.THIRTEEN, Loads.HoldsOfRows, Notes.quote_line, Queries.FitsRows, Queries.IsUnfit, Queries.fact_rows, Thirteen.query_name, Thirteen.query_text}
+use Rattle.star_engine.specs.{declared.thirteen.BenchmarkQuery.BenchmarkQuery, declared.thirteen.TheConstants.THIRTEEN, Loads.HoldsOfRows, Notes.quote_line, Queries.FitsRows, Queries.IsQueryRefusal, Queries.fact_rows, Thirteen.query_name, Thirteen.query_text}
 
 abbrev pub refusal_line : Refusal → List ℕ
 refusal_line refusal = refusal_text refusal ++ codes "\n"
@@ -13,7 +13,8 @@ refusal_line refusal = refusal_text refusal ++ codes "\n"
 abbrev pub IsFinding : (most : ℕ) → Database → (query text : List ℕ) → Type 0
 IsFinding most database query text =
     (FitsRows most database query × IsReport database query text)
-    ⊎ ((refusal : Refusal) × IsUnfit most database query refusal × (text ≡ refusal_line refusal))
+    ⊎ ((refusal : Refusal) × IsQueryRefusal most database query refusal
+    × (text ≡ refusal_line refusal))
 
 -- the quote of a query with the query's name
 abbrev pub named_quote : BenchmarkQuery → ℕ → List ℕ

@@ -7,7 +7,7 @@ use Rattle.star_verify.specs.{declared.refusal.Refusal.Refusal, Views.refusal_vi
 use Rattle.star_outcome.specs.Yields.{Yields}
 use Rattle.star_report.specs.Report.{report_text}
 use Rattle.star_world.specs.WorldOf.{world_of}
-use Rattle.star_engine.specs.{declared.fault.EngineFault.EngineFault, declared.fault.EngineFault.TheVariants.Refused, Loads.HoldsOfFile, Loads.HoldsOfRows, Loads.IsNoProgram, Loads.IsUnread, Noted.Telling, Notes.counts_line, Notes.quote_line}
+use Rattle.star_engine.specs.{declared.fault.EngineFault.EngineFault, declared.fault.EngineFault.TheVariants.Refused, Loads.HoldsOfFile, Loads.HoldsOfRows, Loads.IsProgramError, Loads.IsProgramInputError, WithNotes.RunText, Notes.counts_line, Notes.quote_line}
 use Rattle.star_safety.specs.Admissible as admissible
 
 -- the quote of a program over these tables
@@ -39,15 +39,15 @@ pub record IsRunReport (database : Database) (program : Parts) (report : List �
 
 -- the text of an accepted program: its quote, the printed report of its run, which makes no more
 -- visits than that, and the run's counts
-pub record IsProgramTold (database : Database) (most : ℕ) (program : Parts) (telling : Telling)
+pub record IsProgramRun (database : Database) (most : ℕ) (program : Parts) (run : RunText)
     : Type 0 where
   pub accepted : IsAcceptedWithin database most program
   pub outcome : Outcome
   pub yields : Yields (world_of database) program (run_of (world_of database) program) outcome
   pub within : outcome.visits ≤ quote_over database program
-  pub quoted : IsQuote database program telling.quoted
-  pub reported : telling.report ≡ report_text outcome.names outcome.rows
-  pub done : telling.done ≡ counts_line outcome.visits outcome.lookups outcome.updates
+  pub quoted : IsQuote database program run.quoted
+  pub reported : run.report ≡ report_text outcome.names outcome.rows
+  pub done : run.done ≡ counts_line outcome.visits outcome.lookups outcome.updates
 
 -- ---- the program of a file over five tables
 
@@ -61,9 +61,9 @@ IsFileReportOver database file report =
     HoldsOfFile file (λ program. IsRunReport database program report)
 
 -- the text of its run
-abbrev pub IsToldOver : (visits : ℕ) → Database → List ℕ → Telling → Type 0
-IsToldOver visits database file telling =
-    HoldsOfFile file (λ program. IsProgramTold database visits program telling)
+abbrev pub IsRunOver : (visits : ℕ) → Database → List ℕ → RunText → Type 0
+IsRunOver visits database file run =
+    HoldsOfFile file (λ program. IsProgramRun database visits program run)
 
 -- it is refused
 abbrev pub IsRefusalOver : (visits : ℕ) → Database → List ℕ → Refusal → Type 0
@@ -71,9 +71,9 @@ IsRefusalOver visits database file refusal =
     HoldsOfFile file (λ program. IsRefusal database visits program refusal)
 
 -- why there is no such text: the file is read first, then checked
-abbrev pub IsUntoldOver : (visits : ℕ) → Database → List ℕ → EngineFault → Type 0
-IsUntoldOver visits database file (Refused refusal) = IsRefusalOver visits database file refusal
-IsUntoldOver visits database file fault = IsNoProgram file fault
+abbrev pub IsRunErrorOver : (visits : ℕ) → Database → List ℕ → EngineFault → Type 0
+IsRunErrorOver visits database file (Refused refusal) = IsRefusalOver visits database file refusal
+IsRunErrorOver visits database file fault = IsProgramError file fault
 
 -- ---- over five texts
 
@@ -88,12 +88,12 @@ IsFileReport most texts file report =
     HoldsOfRows most texts (λ database. IsFileReportOver database file report)
 
 -- the text of its run
-abbrev pub IsToldOf : (most visits : ℕ) → TableTexts → List ℕ → Telling → Type 0
-IsToldOf most visits texts file telling =
-    HoldsOfRows most texts (λ database. IsToldOver visits database file telling)
+abbrev pub IsRunOf : (most visits : ℕ) → TableTexts → List ℕ → RunText → Type 0
+IsRunOf most visits texts file run =
+    HoldsOfRows most texts (λ database. IsRunOver visits database file run)
 
 -- why there is no such text: the file is read first, then the tables, then the program is checked
-abbrev pub IsUntold : (most visits : ℕ) → TableTexts → List ℕ → EngineFault → Type 0
-IsUntold most visits texts file (Refused refusal) =
+abbrev pub IsRunError : (most visits : ℕ) → TableTexts → List ℕ → EngineFault → Type 0
+IsRunError most visits texts file (Refused refusal) =
     HoldsOfRows most texts (λ database. IsRefusalOver visits database file refusal)
-IsUntold most visits texts file fault = IsUnread most texts file fault
+IsRunError most visits texts file fault = IsProgramInputError most texts file fault

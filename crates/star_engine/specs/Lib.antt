@@ -1,5 +1,5 @@
 pub mod Answered
-pub mod Noted
+pub mod WithNotes
 pub mod Faults
 pub mod FaultTexts
 pub mod Loads
@@ -12,7 +12,7 @@ pub mod Queries
 pub mod QueryRuns
 pub mod Questions
 pub mod QuoteTexts
-pub mod Tellings
+pub mod RunTexts
 pub mod Thirteen
 pub mod Bench
 pub mod Partials

@@ -58,16 +58,16 @@ pub record HoldsOfFile (file : List ℕ) (Holds : Parts → Type 0) : Type 0 whe
   pub holds : Holds program
 
 -- why there are no loaded tables
-abbrev pub IsUnloaded : ℕ → TableTexts → EngineFault → Type 0
-IsUnloaded most texts (Load fault) = IsLoadFault most texts fault
-IsUnloaded most texts _ = ⊥
+abbrev pub IsLoadError : ℕ → TableTexts → EngineFault → Type 0
+IsLoadError most texts (Load fault) = IsLoadFault most texts fault
+IsLoadError most texts _ = ⊥
 
 -- why a file is not a program
-abbrev pub IsNoProgram : List ℕ → EngineFault → Type 0
-IsNoProgram file (Program fault) = FirstTextFault file fault
-IsNoProgram file _ = ⊥
+abbrev pub IsProgramError : List ℕ → EngineFault → Type 0
+IsProgramError file (Program fault) = FirstTextFault file fault
+IsProgramError file _ = ⊥
 
 -- why there is no program over loaded tables: the file is read first
-abbrev pub IsUnread : ℕ → TableTexts → List ℕ → EngineFault → Type 0
-IsUnread most texts file (Load fault) = IsProgram file × IsLoadFault most texts fault
-IsUnread most texts file fault = IsNoProgram file fault
+abbrev pub IsProgramInputError : ℕ → TableTexts → List ℕ → EngineFault → Type 0
+IsProgramInputError most texts file (Load fault) = IsProgram file × IsLoadFault most texts fault
+IsProgramInputError most texts file fault = IsProgramError file fault

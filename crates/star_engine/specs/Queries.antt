@@ -10,7 +10,7 @@ use Rattle.star_safety.specs.Admissible.{Refused, TooCostly}
 use Rattle.star_verify.specs.{declared.refusal.Refusal.Refusal, Views.refusal_view}
 use Rattle.star_query_meaning.specs.{Fitting.FitsTables, Reports.IsReport, Rows.selected}
 use Rattle.star_compile_laws.specs.{Compiled.compiled, Counts.lookups_of, Judged.IsOverflow, Wide.turn_wide}
-use Rattle.star_engine.specs.{declared.fault.EngineFault.EngineFault, Loads.HoldsOfRows, Loads.IsLoadFault, Noted.Telling, Notes.counts_line, Notes.quote_line}
+use Rattle.star_engine.specs.{declared.fault.EngineFault.EngineFault, Loads.HoldsOfRows, Loads.IsLoadFault, WithNotes.RunText, Notes.counts_line, Notes.quote_line}
 use Rattle.star_query.specs.declared.fault.QueryFault.TheVariants as parsing
 use Rattle.star_engine.specs.declared.fault.EngineFault.TheVariants as engine
 
@@ -53,19 +53,20 @@ pub record IsPlanFault (query : List ℕ) (fault : PlanFault) : Type 0 where
   pub first : plan_fault tree ≡ Some fault
 
 -- why a text is not a well-named query
-abbrev pub IsNoQuery : List ℕ → EngineFault → Type 0
-IsNoQuery query (engine.Query fault) = IsQueryFault query fault
-IsNoQuery query (engine.Plan fault) = IsPlanFault query fault
-IsNoQuery query _ = ⊥
+abbrev pub IsQueryError : List ℕ → EngineFault → Type 0
+IsQueryError query (engine.Query fault) = IsQueryFault query fault
+IsQueryError query (engine.Plan fault) = IsPlanFault query fault
+IsQueryError query _ = ⊥
 
 -- why there is no query over loaded tables: the query is read first
-abbrev pub IsUnasked : ℕ → TableTexts → (query : List ℕ) → EngineFault → Type 0
-IsUnasked rows texts query (engine.Load fault) = IsQuery query × IsLoadFault rows texts fault
-IsUnasked rows texts query fault = IsNoQuery query fault
+abbrev pub IsQueryInputError : ℕ → TableTexts → (query : List ℕ) → EngineFault → Type 0
+IsQueryInputError rows texts query (engine.Load fault) = IsQuery query
+    × IsLoadFault rows texts fault
+IsQueryInputError rows texts query fault = IsQueryError query fault
 
 -- why a query that does not fit is refused: lineorder's rows exceed the limit on visits; otherwise
 -- a range leaves 64 bits, and the first number of its program with such a range is reported
-pub record IsUnfit (most : ℕ) (database : Database) (query : List ℕ) (refusal : Refusal)
+pub record IsQueryRefusal (most : ℕ) (database : Database) (query : List ℕ) (refusal : Refusal)
     : Type 0 where
   pub p : Plan
   pub meant : IsPlanOf query p
@@ -77,17 +78,17 @@ pub record IsUnfit (most : ℕ) (database : Database) (query : List ℕ) (refusa
       → refusal_view refusal ≡ option_map Refused (turn_wide (bounds_in (rows_in database)) p)
 
 -- why a query has no report over these rows: it is read first, then checked
-abbrev pub IsUnansweredOver : (visits : ℕ) → Database → (query : List ℕ) → EngineFault → Type 0
-IsUnansweredOver visits database query (engine.Refused refusal) =
-    IsUnfit visits database query refusal
-IsUnansweredOver visits database query fault = IsNoQuery query fault
+abbrev pub IsQueryRunErrorOver : (visits : ℕ) → Database → (query : List ℕ) → EngineFault → Type 0
+IsQueryRunErrorOver visits database query (engine.Refused refusal) =
+    IsQueryRefusal visits database query refusal
+IsQueryRunErrorOver visits database query fault = IsQueryError query fault
 
 -- why it has none over five texts: it is read first, then the tables, then it is checked
-abbrev pub IsUnanswered : (rows visits : ℕ) → TableTexts → (query : List ℕ) → EngineFault
+abbrev pub IsQueryRunError : (rows visits : ℕ) → TableTexts → (query : List ℕ) → EngineFault
     → Type 0
-IsUnanswered rows visits texts query (engine.Refused refusal) =
-    HoldsOfRows rows texts (λ database. IsUnfit visits database query refusal)
-IsUnanswered rows visits texts query fault = IsUnasked rows texts query fault
+IsQueryRunError rows visits texts query (engine.Refused refusal) =
+    HoldsOfRows rows texts (λ database. IsQueryRefusal visits database query refusal)
+IsQueryRunError rows visits texts query fault = IsQueryInputError rows texts query fault
 
 -- ---- texts
 
@@ -104,14 +105,14 @@ IsQueryQuote rows texts query text =
 -- the text of the run of a query that fits the rows of five tables: its quote, its report, and the
 -- counts of the run of its program, which visits each row of lineorder once and makes one update
 -- for each row that the query selects
-pub record IsQueryToldOver (visits : ℕ) (database : Database) (query : List ℕ)
-    (telling : Telling) : Type 0 where
+pub record IsQueryRunOver (visits : ℕ) (database : Database) (query : List ℕ)
+    (run : RunText) : Type 0 where
   pub fitting : FitsRows visits database query
-  pub quoted : telling.quoted ≡ quote_line (fact_rows database)
-  pub reported : IsReport database query telling.report
+  pub quoted : run.quoted ≡ quote_line (fact_rows database)
+  pub reported : IsReport database query run.report
   pub p : Plan
   pub meant : IsPlanOf query p
-  pub done : telling.done
+  pub done : run.done
       ≡ counts_line (fact_rows database) (lookups_of (rows_in database) p)
       (length (selected (rows_in database) meant.tree))
 
@@ -121,9 +122,9 @@ IsReportOf rows texts query report =
     HoldsOfRows rows texts (λ database. IsReport database query report)
 
 -- the text of a query's run over five texts
-abbrev pub IsQueryTold : (rows visits : ℕ) → TableTexts → (query : List ℕ) → Telling → Type 0
-IsQueryTold rows visits texts query telling =
-    HoldsOfRows rows texts (λ database. IsQueryToldOver visits database query telling)
+abbrev pub IsQueryRun : (rows visits : ℕ) → TableTexts → (query : List ℕ) → RunText → Type 0
+IsQueryRun rows visits texts query run =
+    HoldsOfRows rows texts (λ database. IsQueryRunOver visits database query run)
 
 -- the text of a query's program: it spells the program, in the program's own format
 pub record IsExplained (query text : List ℕ) : Type 0 where

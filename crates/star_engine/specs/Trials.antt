@@ -6,7 +6,7 @@ use Rattle.star_report.specs.Report.{report_text}
 use Rattle.star_trial.specs.{declared.fault.TrialFault.TrialFault, Trials.IsFaultOfEnd}
 use Rattle.star_outcome.specs.Yields.{Yields}
 use Rattle.star_world.specs.WorldOf.{world_of}
-use Rattle.star_engine.specs.Loads.{HoldsOfFile, HoldsOfRows, IsNoProgram, IsProgramOf, IsUnread}
+use Rattle.star_engine.specs.Loads.{HoldsOfFile, HoldsOfRows, IsProgramError, IsProgramInputError, IsProgramOf}
 use Rattle.star_engine.specs.{declared.fault.EngineFault.EngineFault, declared.fault.EngineFault.TheVariants.Trial}
 use Rattle.star_trial.specs.declared.fault.TrialFault.TheVariants as trial
 
@@ -27,11 +27,11 @@ IsStop end trial.OutOfMemory = ⊥
 IsStop end fault = IsFaultOfEnd end fault
 
 -- why there is no report: the file is read first
-abbrev pub IsNoTrialOver : Database → (file : List ℕ) → (visits : ℕ) → EngineFault → Type 0
-IsNoTrialOver database file visits (Trial fault) =
+abbrev pub IsTrialErrorOver : Database → (file : List ℕ) → (visits : ℕ) → EngineFault → Type 0
+IsTrialErrorOver database file visits (Trial fault) =
     HoldsOfFile file
     (λ program. IsStop (bounded_run_of (world_of database) visits program) fault)
-IsNoTrialOver database file visits fault = IsNoProgram file fault
+IsTrialErrorOver database file visits fault = IsProgramError file fault
 
 -- ---- over five texts
 
@@ -42,7 +42,7 @@ IsTrialReport most texts file visits report =
     HoldsOfRows most texts (λ database. IsBoundedReport database file visits report)
 
 -- why there is none: the file is read first, then the tables
-abbrev pub IsNoTrial : ℕ → TableTexts → (file : List ℕ) → (visits : ℕ) → EngineFault → Type 0
-IsNoTrial most texts file visits (Trial fault) =
-    HoldsOfRows most texts (λ database. IsNoTrialOver database file visits (Trial fault))
-IsNoTrial most texts file visits fault = IsUnread most texts file fault
+abbrev pub IsTrialError : ℕ → TableTexts → (file : List ℕ) → (visits : ℕ) → EngineFault → Type 0
+IsTrialError most texts file visits (Trial fault) =
+    HoldsOfRows most texts (λ database. IsTrialErrorOver database file visits (Trial fault))
+IsTrialError most texts file visits fault = IsProgramInputError most texts file fault

@@ -7,7 +7,7 @@ ghost use Rattle.star_engine.specs.Bench as spec;
 use crate::executions::run_checked;
 use crate::fault::EngineFault;
 use crate::notes::program_note;
-use crate::query_laws::{each_query_is_judged, the_thirteen_are_queries};
+use crate::query_laws::{each_query_has_laws, the_thirteen_are_queries};
 use crate::question::Question;
 use crate::thirteen::{BenchmarkQuery, THIRTEEN};
 use star_catalogue::Catalogue;
@@ -40,8 +40,8 @@ fn find(
         IsRunFound catalogue.now limits.visits question.program finding.fits finding.text.items) }
 {
     match run_checked(alloc, catalogue, question.program, limits) {
-        Ok(told) => Ok(Finding {
-            text: told.report,
+        Ok(ran) => Ok(Finding {
+            text: ran.report,
             fits: true,
         }),
         Err(EngineFault::Refused(refusal)) => {
@@ -82,7 +82,7 @@ fn section_of(
         × (IsTrue found.fits ↔ FitsRows limits.visits catalogue.now (query_text query)))
         IsMemory }
 {
-    each_query_is_judged(catalogue);
+    each_query_has_laws(catalogue);
     let question = question_of(alloc, query)?;
     let mut text = named_quote(alloc, catalogue, query, &question)?;
     let found = find(alloc, catalogue, question, limits)?;

@@ -4,10 +4,10 @@ ghost use Rattle.std.specs.Prelude.{◌≡◌, ◌≤◌, ◌^◌, ◌↔◌, �
 ghost use Rattle.star_schema.specs.Loadable.{database_of};
 ghost use Rattle.star_catalogue.specs.Load.{texts_view};
 ghost use Rattle.star_engine.specs.Answered.{HasWritten, IsBrokenOff, IsRefused, IsUntouched, OrMemory, change};
-ghost use Rattle.star_engine.specs.Noted.{HasTold, IsNoted, IsTellingBrokenOff, IsTellingRefused, IsTellingUntold};
-ghost use Rattle.star_engine.specs.Queries.{IsExplained, IsNoQuery, IsQueryQuote, IsQueryTold, IsReportOf, IsUnanswered};
-ghost use Rattle.star_engine.specs.{Bench.AllFit, Bench.IsBench, Executions.IsFileReport, Executions.IsQuoteOf, Executions.IsToldOf, Executions.IsUntold, Listing.IsListing, Loads.IsUnloaded, Questions.Asks, QuoteTexts.IsNoneOfKind, QuoteTexts.IsQuoteText, QuoteTexts.IsUnquoted};
-ghost use Rattle.star_engine.specs.{Trials.IsNoTrial, Trials.IsTrialReport, Private.TextSteps.IsQuoteOfTexts, Private.TextSteps.IsToldOfTexts, Private.TextSteps.IsUntoldOfTexts};
+ghost use Rattle.star_engine.specs.WithNotes.{HasWrittenRun, IsAnsweredWithNotes, IsRunBrokenOff, IsRunRefused, IsRunUnwritten};
+ghost use Rattle.star_engine.specs.Queries.{IsExplained, IsQueryError, IsQueryQuote, IsQueryRun, IsQueryRunError, IsReportOf};
+ghost use Rattle.star_engine.specs.{Bench.AllFit, Bench.IsBench, Executions.IsFileReport, Executions.IsQuoteOf, Executions.IsRunError, Executions.IsRunOf, Listing.IsListing, Loads.IsLoadError, Questions.Asks, QuoteTexts.IsErrorOfKind, QuoteTexts.IsQuoteError, QuoteTexts.IsQuoteText};
+ghost use Rattle.star_engine.specs.{Trials.IsTrialError, Trials.IsTrialReport, Private.TextSteps.IsQuoteOfTexts, Private.TextSteps.IsRunOfTexts, Private.TextSteps.IsRunErrorOfTexts};
 
 use crate::engine::Engine;
 use crate::executions::write_text;
@@ -30,7 +30,7 @@ pub fn check<S: Sink>(
     ensures broken { IfErr result (IsBrokenOff (change S.contents S.is_failed out.old out.new)
         (IsListing limits.rows (texts_view texts.now))) }
     ensures refused { IfErr result (IsRefused (change S.contents S.is_failed out.old out.new)
-        (IsUnloaded limits.rows (texts_view texts.now))) }
+        (IsLoadError limits.rows (texts_view texts.now))) }
     ensures memory { result ≡ Err EngineFault.OutOfMemory
         → IsUntouched (change S.contents S.is_failed out.old out.new) }
 {
@@ -48,12 +48,12 @@ fn answer<S: Sink, N: Sink>(
     notes: &mut N,
 ) -> Result<(), EngineFault>
     ensures { (is_program : Bool) (file : List ℕ)
-        → MatchResult question (Asks is_program file) (OrMemory (IsNoneOfKind is_program file))
-        → IsNoted (change S.contents S.is_failed out.old out.new)
+        → MatchResult question (Asks is_program file) (OrMemory (IsErrorOfKind is_program file))
+        → IsAnsweredWithNotes (change S.contents S.is_failed out.old out.new)
         (change N.contents N.is_failed notes.old notes.new)
         (IsQuoteOfTexts is_program limits.rows (texts_view texts.now) file)
-        (IsToldOfTexts is_program limits.rows limits.visits (texts_view texts.now) file)
-        (IsUntoldOfTexts is_program limits.rows limits.visits (texts_view texts.now) file) result }
+        (IsRunOfTexts is_program limits.rows limits.visits (texts_view texts.now) file)
+        (IsRunErrorOfTexts is_program limits.rows limits.visits (texts_view texts.now) file) result }
 {
     let question = question?;
     let engine = Engine::load(alloc, texts, limits)?;
@@ -76,19 +76,19 @@ pub fn answer_query<S: Sink, N: Sink>(
     // The report, then the report with its notes.
     ensures reported { OnOk result (HasWritten (change S.contents S.is_failed out.old out.new)
         (IsReportOf limits.rows (texts_view texts.now) query.now)) }
-    ensures noted { OnOk result (HasTold (change S.contents S.is_failed out.old out.new)
+    ensures noted { OnOk result (HasWrittenRun (change S.contents S.is_failed out.old out.new)
         (change N.contents N.is_failed notes.old notes.new)
-        (IsQueryTold limits.rows limits.visits (texts_view texts.now) query.now)) }
-    ensures broken { IfErr result (IsTellingBrokenOff (change S.contents S.is_failed out.old out.new)
-        (change N.contents N.is_failed notes.old notes.new)
-        (IsQueryQuote limits.rows (texts_view texts.now) query.now)
-        (IsQueryTold limits.rows limits.visits (texts_view texts.now) query.now)) }
-    ensures refused { IfErr result (IsTellingRefused (change S.contents S.is_failed out.old out.new)
+        (IsQueryRun limits.rows limits.visits (texts_view texts.now) query.now)) }
+    ensures broken { IfErr result (IsRunBrokenOff (change S.contents S.is_failed out.old out.new)
         (change N.contents N.is_failed notes.old notes.new)
         (IsQueryQuote limits.rows (texts_view texts.now) query.now)
-        (IsUnanswered limits.rows limits.visits (texts_view texts.now) query.now)) }
+        (IsQueryRun limits.rows limits.visits (texts_view texts.now) query.now)) }
+    ensures refused { IfErr result (IsRunRefused (change S.contents S.is_failed out.old out.new)
+        (change N.contents N.is_failed notes.old notes.new)
+        (IsQueryQuote limits.rows (texts_view texts.now) query.now)
+        (IsQueryRunError limits.rows limits.visits (texts_view texts.now) query.now)) }
     ensures memory { result ≡ Err EngineFault.OutOfMemory
-        → IsTellingUntold (change S.contents S.is_failed out.old out.new)
+        → IsRunUnwritten (change S.contents S.is_failed out.old out.new)
         (change N.contents N.is_failed notes.old notes.new)
         (IsQueryQuote limits.rows (texts_view texts.now) query.now) }
 {
@@ -118,19 +118,19 @@ pub fn answer_program<S: Sink, N: Sink>(
     // The report, then the report with its notes.
     ensures reported { OnOk result (HasWritten (change S.contents S.is_failed out.old out.new)
         (IsFileReport limits.rows (texts_view texts.now) file.now)) }
-    ensures noted { OnOk result (HasTold (change S.contents S.is_failed out.old out.new)
+    ensures noted { OnOk result (HasWrittenRun (change S.contents S.is_failed out.old out.new)
         (change N.contents N.is_failed notes.old notes.new)
-        (IsToldOf limits.rows limits.visits (texts_view texts.now) file.now)) }
-    ensures broken { IfErr result (IsTellingBrokenOff (change S.contents S.is_failed out.old out.new)
-        (change N.contents N.is_failed notes.old notes.new)
-        (IsQuoteOf limits.rows (texts_view texts.now) file.now)
-        (IsToldOf limits.rows limits.visits (texts_view texts.now) file.now)) }
-    ensures refused { IfErr result (IsTellingRefused (change S.contents S.is_failed out.old out.new)
+        (IsRunOf limits.rows limits.visits (texts_view texts.now) file.now)) }
+    ensures broken { IfErr result (IsRunBrokenOff (change S.contents S.is_failed out.old out.new)
         (change N.contents N.is_failed notes.old notes.new)
         (IsQuoteOf limits.rows (texts_view texts.now) file.now)
-        (IsUntold limits.rows limits.visits (texts_view texts.now) file.now)) }
+        (IsRunOf limits.rows limits.visits (texts_view texts.now) file.now)) }
+    ensures refused { IfErr result (IsRunRefused (change S.contents S.is_failed out.old out.new)
+        (change N.contents N.is_failed notes.old notes.new)
+        (IsQuoteOf limits.rows (texts_view texts.now) file.now)
+        (IsRunError limits.rows limits.visits (texts_view texts.now) file.now)) }
     ensures memory { result ≡ Err EngineFault.OutOfMemory
-        → IsTellingUntold (change S.contents S.is_failed out.old out.new)
+        → IsRunUnwritten (change S.contents S.is_failed out.old out.new)
         (change N.contents N.is_failed notes.old notes.new)
         (IsQuoteOf limits.rows (texts_view texts.now) file.now) }
 {
@@ -159,7 +159,7 @@ pub fn quote_text<S: Sink>(
     ensures broken { IfErr result (IsBrokenOff (change S.contents S.is_failed out.old out.new)
         (IsQuoteText limits.rows (texts_view texts.now) file.now)) }
     ensures refused { IfErr result (IsRefused (change S.contents S.is_failed out.old out.new)
-        (IsUnquoted limits.rows (texts_view texts.now) file.now)) }
+        (IsQuoteError limits.rows (texts_view texts.now) file.now)) }
     ensures memory { result ≡ Err EngineFault.OutOfMemory
         → IsUntouched (change S.contents S.is_failed out.old out.new) }
 {
@@ -176,7 +176,7 @@ pub fn explain_query<S: Sink>(alloc: Global, query: &[u8], out: &mut S) -> Resul
     ensures broken { IfErr result (IsBrokenOff (change S.contents S.is_failed out.old out.new)
         (IsExplained query.now)) }
     ensures refused { IfErr result (IsRefused (change S.contents S.is_failed out.old out.new)
-        (IsNoQuery query.now)) }
+        (IsQueryError query.now)) }
     ensures memory { result ≡ Err EngineFault.OutOfMemory
         → IsUntouched (change S.contents S.is_failed out.old out.new) }
 {
@@ -201,7 +201,7 @@ pub fn trial_program<S: Sink>(
     ensures broken { IfErr result (IsBrokenOff (change S.contents S.is_failed out.old out.new)
         (IsTrialReport limits.rows (texts_view texts.now) file.now visits)) }
     ensures refused { IfErr result (IsRefused (change S.contents S.is_failed out.old out.new)
-        (IsNoTrial limits.rows (texts_view texts.now) file.now visits)) }
+        (IsTrialError limits.rows (texts_view texts.now) file.now visits)) }
     ensures memory { result ≡ Err EngineFault.OutOfMemory
         → IsUntouched (change S.contents S.is_failed out.old out.new) }
 {
@@ -225,7 +225,7 @@ pub fn bench<S: Sink>(
     ensures broken { IfErr result (IsBrokenOff (change S.contents S.is_failed out.old out.new)
         (IsBench limits.rows limits.visits (texts_view texts.now))) }
     ensures refused { IfErr result (IsRefused (change S.contents S.is_failed out.old out.new)
-        (IsUnloaded limits.rows (texts_view texts.now))) }
+        (IsLoadError limits.rows (texts_view texts.now))) }
     ensures memory { result ≡ Err EngineFault.OutOfMemory
         → IsUntouched (change S.contents S.is_failed out.old out.new) }
     ensures fits { IfOk result

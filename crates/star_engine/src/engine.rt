@@ -4,16 +4,18 @@ ghost use Rattle.std.specs.Prelude.{◌≡◌, ◌≤◌, ◌^◌, ◌↔◌, �
 ghost use Rattle.star_schema.specs.{Database.TableTexts, Loadable.IsLoadable, Loadable.database_of};
 ghost use Rattle.star_catalogue.specs.{Load.texts_view, Pieces.AreRead, Pieces.AreReadSome, Pieces.IsReadNextTo, Pieces.with_lineorder_text};
 ghost use Rattle.star_partial.specs.Contents.{contents_of};
-ghost use Rattle.star_engine.specs.{Answered.IsAnswered, Answered.OrMemory, Answered.change, Bench.AllFit, Bench.IsBenchOver, Listing.IsListingOver, Loads.AreLoadedRows, Loads.AreOfLoadableTexts, Loads.IsUnloaded, Loads.loaded_of, Noted.IsNoted, Partials.IsPartialOver, Queries.IsNoQuery};
-ghost use Rattle.star_engine.specs.{Questions.Asks, QuoteTexts.IsQuoteOfKindOver, Tellings.IsJudgedOfKind, Tellings.IsToldOfKind, Tellings.IsUnjudgedOfKind, Tellings.telling_of, Trials.IsBoundedReport, Trials.IsNoTrialOver};
+ghost use Rattle.star_engine.specs.{Answered.IsAnswered, Answered.OrMemory, Answered.change, Bench.AllFit, Bench.IsBenchOver, Listing.IsListingOver, Loads.AreLoadedRows, Loads.AreOfLoadableTexts, Loads.IsLoadError, Loads.loaded_of, Partials.IsPartialOver, Queries.IsQueryError, WithNotes.IsAnsweredWithNotes};
+ghost use Rattle.star_engine.specs.{Questions.Asks, QuoteTexts.IsQuoteOfKindOver, RunTexts.IsForecastErrorOfKind, RunTexts.IsForecastOfKind, RunTexts.IsRunOfKind, RunTexts.run_text_of, Trials.IsBoundedReport, Trials.IsTrialErrorOver};
 
 use crate::benchmark::bench_of;
-use crate::executions::{Told, checked, execute, forecast, report_of, run_checked, write_text};
+use crate::executions::{
+    RunOutput, checked, execute, forecast, report_of, run_checked, write_text,
+};
 use crate::fault::EngineFault;
 use crate::listing::list_tables;
 use crate::notes::program_note;
 use crate::partials::partial_of;
-use crate::query_laws::each_query_is_judged;
+use crate::query_laws::each_query_has_laws;
 use crate::question::Question;
 use star_catalogue::{Catalogue, ReadTables, Texts};
 use star_common::Sink;
@@ -52,7 +54,7 @@ fn load_read(alloc: Global, read: ReadTables) -> Result<Catalogue, EngineFault>
     requires { AreReadSome read }
     ensures { (most : ℕ) (texts : TableTexts) → AreRead read most texts → MatchResult result
         (λ catalogue. IsLoadable most texts × (catalogue ≡ database_of texts))
-        (OrMemory (IsUnloaded most texts)) }
+        (OrMemory (IsLoadError most texts)) }
 {
     Ok(Catalogue::finish(alloc, read)?)
 }
@@ -69,7 +71,7 @@ fn load_next(
         → IsReadNextTo catalogue reader.value most texts text
         → let all = with_lineorder_text texts text in MatchResult result
         (λ loaded. IsLoadable most all × (loaded ≡ database_of all))
-        (OrMemory (IsUnloaded most all)) }
+        (OrMemory (IsLoadError most all)) }
 {
     Ok(catalogue.with_lineorder(alloc, reader)?)
 }
@@ -81,7 +83,7 @@ impl Engine {
         ensures loadable { IfOk result (λ engine. IsLoadable limits.rows (texts_view texts.now)) }
         ensures loaded { IfOk result
             (λ engine. engine ≡ loaded_of limits.rows limits.visits (texts_view texts.now)) }
-        ensures refused { IfErr result (OrMemory (IsUnloaded limits.rows (texts_view texts.now))) }
+        ensures refused { IfErr result (OrMemory (IsLoadError limits.rows (texts_view texts.now))) }
     {
         let read = ReadTables::of_texts(alloc, texts, limits)?;
         Engine::of_read(alloc, read, limits)
@@ -96,7 +98,7 @@ impl Engine {
         ensures loaded { (texts : TableTexts) → AreRead read limits.rows texts
             → IfOk result (λ engine. engine ≡ loaded_of limits.rows limits.visits texts) }
         ensures refused { (texts : TableTexts) → AreRead read limits.rows texts
-            → IfErr result (OrMemory (IsUnloaded limits.rows texts)) }
+            → IfErr result (OrMemory (IsLoadError limits.rows texts)) }
     {
         let loaded = load_read(alloc, read)?;
         Ok(Engine {
@@ -122,7 +124,7 @@ impl Engine {
             (λ engine. engine ≡ loaded_of self.rows self.visits (with_lineorder_text texts text)) }
         ensures refused { (texts : TableTexts) (text : List (List ℕ))
             → IsReadNextTo self.database reader.value self.rows texts text
-            → IfErr result (OrMemory (IsUnloaded self.rows (with_lineorder_text texts text))) }
+            → IfErr result (OrMemory (IsLoadError self.rows (with_lineorder_text texts text))) }
     {
         let Engine { catalogue, limits } = self;
         let loaded = load_next(alloc, catalogue, reader)?;
@@ -165,13 +167,13 @@ impl Engine {
         notes: &mut N,
     ) -> Result<(), EngineFault>
         ensures { (is_program : Bool) (file : List ℕ) → Asks is_program file question
-            → IsNoted (change S.contents S.is_failed out.old out.new)
+            → IsAnsweredWithNotes (change S.contents S.is_failed out.old out.new)
             (change N.contents N.is_failed notes.old notes.new)
             (IsQuoteOfKindOver is_program self.now.database file)
-            (IsToldOfKind is_program self.now.visits self.now.database file)
-            (IsUnjudgedOfKind is_program self.now.visits self.now.database file) result }
+            (IsRunOfKind is_program self.now.visits self.now.database file)
+            (IsForecastErrorOfKind is_program self.now.visits self.now.database file) result }
     {
-        each_query_is_judged(&self.catalogue);
+        each_query_has_laws(&self.catalogue);
         execute(
             alloc,
             &self.catalogue,
@@ -183,13 +185,13 @@ impl Engine {
     }
 
     /// Returns the report and the notes that `answer` writes.
-    pub fn report(&self, alloc: Global, question: Question) -> Result<Told, EngineFault>
+    pub fn report(&self, alloc: Global, question: Question) -> Result<RunOutput, EngineFault>
         ensures { (is_program : Bool) (file : List ℕ) → Asks is_program file question
-            → MatchResult result (λ told.
-            IsToldOfKind is_program self.now.visits self.now.database file (telling_of told))
-            (OrMemory (IsUnjudgedOfKind is_program self.now.visits self.now.database file)) }
+            → MatchResult result (λ ran.
+            IsRunOfKind is_program self.now.visits self.now.database file (run_text_of ran))
+            (OrMemory (IsForecastErrorOfKind is_program self.now.visits self.now.database file)) }
     {
-        each_query_is_judged(&self.catalogue);
+        each_query_has_laws(&self.catalogue);
         run_checked(alloc, &self.catalogue, question.program, self.limits)
     }
 
@@ -198,10 +200,10 @@ impl Engine {
     pub fn forecast(&self, alloc: Global, question: Question) -> Result<String, EngineFault>
         ensures { (is_program : Bool) (file : List ℕ) → Asks is_program file question
             → MatchResult result (λ line.
-            IsJudgedOfKind is_program self.now.visits self.now.database file (string_bytes line))
-            (OrMemory (IsUnjudgedOfKind is_program self.now.visits self.now.database file)) }
+            IsForecastOfKind is_program self.now.visits self.now.database file (string_bytes line))
+            (OrMemory (IsForecastErrorOfKind is_program self.now.visits self.now.database file)) }
     {
-        each_query_is_judged(&self.catalogue);
+        each_query_has_laws(&self.catalogue);
         forecast(alloc, &self.catalogue, question.program, self.limits)
     }
 
@@ -217,7 +219,7 @@ impl Engine {
             → IsAnswered (change S.contents S.is_failed out.old out.new)
             (IsQuoteOfKindOver is_program self.now.database file) (λ fault. ⊥) result }
     {
-        each_query_is_judged(&self.catalogue);
+        each_query_has_laws(&self.catalogue);
         let note = program_note(alloc, &self.catalogue, &question.program)?;
         write_text(out, note.as_bytes())
     }
@@ -235,7 +237,7 @@ impl Engine {
         ensures { (file : List ℕ) → Asks true file question.now
             → IsAnswered (change S.contents S.is_failed out.old out.new)
             (IsBoundedReport self.now.database file visits)
-            (IsNoTrialOver self.now.database file visits) result }
+            (IsTrialErrorOver self.now.database file visits) result }
     {
         let report = report_of(alloc, &self.catalogue, &question.program, visits)?;
         write_text(out, report.as_slice())
@@ -246,7 +248,7 @@ impl Engine {
     pub fn partial(&self, alloc: Global, query: &[u8]) -> Result<Partial, EngineFault>
         ensures { MatchResult result (λ partial.
             IsPartialOver self.now.visits self.now.database query.now (contents_of partial))
-            (OrMemory (IsNoQuery query.now)) }
+            (OrMemory (IsQueryError query.now)) }
     {
         partial_of(alloc, &self.catalogue, query, self.limits)
     }

@@ -1,8 +1,8 @@
 // Programs that are verified and then run, with the text of their runs.
 
 ghost use Rattle.std.specs.Prelude.{◌≡◌, ◌<◌, ◌≤◌, ◌^◌, ℕ, List, IfOk, MatchResult, length, string_bytes};
-ghost use Rattle.star_engine.specs.{Answered.HasGained, Answered.IsWritten, Answered.OrMemory, Answered.change, Executions.IsAcceptedWithin, Executions.IsQuote, Executions.IsProgramTold, Faults.fault_of_refusal, Loads.IsProgramOf, Noted.IsNoted, Private.Steps.AreBothWritten};
-ghost use Rattle.star_engine.specs.{Private.Steps.IsNotVerified, Private.Steps.IsPart, Tellings.IsProgramForecast, Tellings.telling_of, Trials.IsBoundedReport, Trials.IsNoTrialOver, declared.fault.EngineFault.TheVariants.Write};
+ghost use Rattle.star_engine.specs.{Answered.HasGained, Answered.IsWritten, Answered.OrMemory, Answered.change, Executions.IsAcceptedWithin, Executions.IsQuote, Executions.IsProgramRun, Faults.fault_of_refusal, Loads.IsProgramOf, WithNotes.IsAnsweredWithNotes, Private.Steps.AreBothWritten};
+ghost use Rattle.star_engine.specs.{Private.Steps.IsNotVerified, Private.Steps.IsPart, RunTexts.IsProgramForecast, RunTexts.run_text_of, Trials.IsBoundedReport, Trials.IsTrialErrorOver, declared.fault.EngineFault.TheVariants.Write};
 
 use crate::fault::EngineFault;
 use crate::notes::{forecast_note, program_note, quote_note};
@@ -19,7 +19,7 @@ use std::alloc::{AllocError, Global};
 
 /// The text of a run.
 #[derive(Drop)]
-pub struct Told {
+pub struct RunOutput {
     /// The note of the quote.
     pub quoted: String,
     /// The report.
@@ -54,16 +54,16 @@ pub(crate) fn checked<'c>(
 }
 
 /// Runs a verified program and returns the text of its run.
-pub fn run_text(alloc: Global, verified: &Verified<'_>) -> Result<Told, AllocError>
+pub fn run_text(alloc: Global, verified: &Verified<'_>) -> Result<RunOutput, AllocError>
     ensures { (most : ℕ) → IsAcceptedWithin verified.now.database most verified.now.program
-        → IfOk result (λ told.
-        IsProgramTold verified.now.database most verified.now.program (telling_of told)) }
+        → IfOk result (λ ran.
+        IsProgramRun verified.now.database most verified.now.program (run_text_of ran)) }
 {
     let outcome = run(alloc, verified)?;
     let quoted = quote_note(alloc, verified.quote())?;
     let report = report_text(alloc, &outcome)?;
     let done = counts_text(alloc, &outcome)?;
-    Ok(Told {
+    Ok(RunOutput {
         quoted,
         report,
         done,
@@ -76,9 +76,9 @@ pub(crate) fn run_checked(
     catalogue: &Catalogue,
     program: Program,
     limits: Limits,
-) -> Result<Told, EngineFault>
+) -> Result<RunOutput, EngineFault>
     ensures { MatchResult result
-        (λ told. IsProgramTold catalogue.now limits.visits program (telling_of told))
+        (λ ran. IsProgramRun catalogue.now limits.visits program (run_text_of ran))
         (OrMemory (IsNotVerified catalogue.now limits.visits program)) }
 {
     let verified = checked(alloc, catalogue, program, limits)?;
@@ -110,9 +110,9 @@ pub(crate) fn report_of(
     visits: u64,
 ) -> Result<Vec<u8>, EngineFault>
     requires { visits ≤ 10 ^ 15 }
-    ensures told { (file : List ℕ) → IsProgramOf file program.now → MatchResult result
+    ensures ran { (file : List ℕ) → IsProgramOf file program.now → MatchResult result
         (λ report. IsBoundedReport catalogue.now file visits report.items)
-        (OrMemory (IsNoTrialOver catalogue.now file visits)) }
+        (OrMemory (IsTrialErrorOver catalogue.now file visits)) }
     ensures some { IfOk result (λ report. 0 < length report.items) }
 {
     let outcome = trial(alloc, catalogue, program, visits)?;
@@ -142,15 +142,19 @@ fn write_note<N: Sink>(notes: &mut N, note: &[u8], sent: u64) -> Result<(), Engi
 }
 
 // Writes the report of a run, then the note of its counts.
-fn write_told<S: Sink, N: Sink>(told: &Told, out: &mut S, notes: &mut N) -> Result<(), EngineFault>
-    requires report { 0 < length told.now.report.items }
-    requires done { 0 < length (string_bytes told.now.done) }
+fn write_run<S: Sink, N: Sink>(
+    ran: &RunOutput,
+    out: &mut S,
+    notes: &mut N,
+) -> Result<(), EngineFault>
+    requires report { 0 < length ran.now.report.items }
+    requires done { 0 < length (string_bytes ran.now.done) }
     ensures { AreBothWritten (change S.contents S.is_failed out.old out.new)
         (change N.contents N.is_failed notes.old notes.new)
-        told.now.report.items (string_bytes told.now.done) result }
+        ran.now.report.items (string_bytes ran.now.done) result }
 {
-    write_text(out, told.report.as_slice())?;
-    write_note(notes, told.done.as_bytes(), told.report.len() as u64)
+    write_text(out, ran.report.as_slice())?;
+    write_note(notes, ran.done.as_bytes(), ran.report.len() as u64)
 }
 
 // Writes the note of a program's quote, verifies the program over loaded tables, runs it, and
@@ -163,13 +167,13 @@ pub(crate) fn execute<S: Sink, N: Sink>(
     out: &mut S,
     notes: &mut N,
 ) -> Result<(), EngineFault>
-    ensures { IsNoted (change S.contents S.is_failed out.old out.new)
+    ensures { IsAnsweredWithNotes (change S.contents S.is_failed out.old out.new)
         (change N.contents N.is_failed notes.old notes.new) (IsQuote catalogue.now program)
-        (IsProgramTold catalogue.now limits.visits program)
+        (IsProgramRun catalogue.now limits.visits program)
         (IsNotVerified catalogue.now limits.visits program) result }
 {
     let note = program_note(alloc, catalogue, &program)?;
     write_note(notes, note.as_bytes(), 0)?;
-    let told = run_checked(alloc, catalogue, program, limits)?;
-    write_told(&told, out, notes)
+    let ran = run_checked(alloc, catalogue, program, limits)?;
+    write_run(&ran, out, notes)
 }

@@ -2,7 +2,7 @@
 
 ghost use Rattle.std.specs.Prelude.{◌≡◌, ℕ, List};
 ghost use Rattle.star_schema.specs.{Database.Database, Database.TableTexts, Loadable.IsLoadable, Loadable.database_of};
-ghost use Rattle.star_engine.specs.{declared.fault.EngineFault.EngineFault, Executions.IsToldOf, Executions.IsToldOver, Executions.IsUntold, Executions.IsUntoldOver, Loads.AreLoadedRows, Noted.Telling, Trials.IsBoundedReport};
+ghost use Rattle.star_engine.specs.{declared.fault.EngineFault.EngineFault, Executions.IsRunOf, Executions.IsRunOver, Executions.IsRunError, Executions.IsRunErrorOver, Loads.AreLoadedRows, WithNotes.RunText, Trials.IsBoundedReport};
 
 /// States that no two texts are reports of one file, run over the same tables with the same bound.
 pub fn one_report()
@@ -15,11 +15,11 @@ pub fn one_report()
 /// rows or texts, under the same limits.
 pub fn reported_files_have_no_fault()
     ensures over_rows { (visits : ℕ) (database : Database) (file : List ℕ)
-        (telling : Telling) (fault : EngineFault) → IsToldOver visits database file telling
-        → ¬ IsUntoldOver visits database file fault }
+        (run : RunText) (fault : EngineFault) → IsRunOver visits database file run
+        → ¬ IsRunErrorOver visits database file fault }
     ensures of_texts { (most visits : ℕ) (texts : TableTexts) (file : List ℕ)
-        (telling : Telling) (fault : EngineFault) → IsToldOf most visits texts file telling
-        → ¬ IsUntold most visits texts file fault }
+        (run : RunText) (fault : EngineFault) → IsRunOf most visits texts file run
+        → ¬ IsRunError most visits texts file fault }
 {}
 
 /// States that the rows of five texts that can be loaded are as a load leaves them.

@@ -23,7 +23,7 @@ pub use calls::{
     answer_program, answer_query, bench, check, explain_query, quote_text, trial_program,
 };
 pub use engine::Engine;
-pub use executions::{Told, run_text};
+pub use executions::{RunOutput, run_text};
 pub use fault::{EngineFault, FaultLine};
 pub use input::Input;
 pub use parts::read_part;

@@ -1,7 +1,7 @@
 // The notes of a run.
 
 ghost use Rattle.std.specs.Prelude.{◌≡◌, IfOk, string_bytes};
-ghost use Rattle.star_engine.specs.{Executions.IsQuote, Executions.quote_over, Notes.forecast_line, Notes.quote_line, Tellings.most_rows_over};
+ghost use Rattle.star_engine.specs.{Executions.IsQuote, Executions.quote_over, Notes.forecast_line, Notes.quote_line, RunTexts.most_rows_over};
 
 use star_catalogue::Catalogue;
 use star_program::Program;

@@ -3,7 +3,7 @@
 ghost use Rattle.std.specs.Prelude.{ℕ, List, MatchResult};
 ghost use Rattle.star_plan.specs.Meaning.{Plan};
 ghost use Rattle.star_partial.specs.Contents.{contents_of};
-ghost use Rattle.star_engine.specs.{Answered.OrMemory, Partials.IsPartialOver, Private.PartialSteps.IsPlainJudged, Private.PartialSteps.IsPlainProgram, Private.PartialSteps.IsRunIfAccepted, Private.Steps.IsMemory, Queries.IsNoQuery, Queries.IsPlanOf};
+ghost use Rattle.star_engine.specs.{Answered.OrMemory, Partials.IsPartialOver, Private.PartialSteps.HasPlainProgramLaws, Private.PartialSteps.IsPlainProgram, Private.PartialSteps.IsRunIfAccepted, Private.Steps.IsMemory, Queries.IsPlanOf, Queries.IsQueryError};
 
 use crate::digest::digest_of;
 use crate::executions::checked;
@@ -25,9 +25,9 @@ use star_world::law::sound_rows_have_a_world;
 use std::alloc::Global;
 
 // What the laws say of the plain program of each query over loaded tables.
-fn each_plain_query_is_judged(catalogue: &Catalogue)
+fn each_plain_query_has_laws(catalogue: &Catalogue)
     ensures { (most : ℕ) (query : List ℕ) (p : Plan) (meant : IsPlanOf query p)
-        → IsPlainJudged most catalogue.now query p meant }
+        → HasPlainProgramLaws most catalogue.now query p meant }
 {
     compiled_programs_are_accepted_where_they_fit_the_tables();
     plans_fit_where_their_queries_do();
@@ -38,7 +38,7 @@ fn each_plain_query_is_judged(catalogue: &Catalogue)
 
 fn plain_program(alloc: Global, text: &[u8]) -> Result<Program, EngineFault>
     ensures { MatchResult result (λ program. IsPlainProgram text.now program)
-        (OrMemory (IsNoQuery text.now)) }
+        (OrMemory (IsQueryError text.now)) }
 {
     let query = Query::parse(alloc, text)?;
     let plan = plan(alloc, &query)?;
@@ -70,9 +70,9 @@ pub(crate) fn partial_of(
 ) -> Result<Partial, EngineFault>
     ensures { MatchResult result (λ partial.
         IsPartialOver limits.visits catalogue.now query.now (contents_of partial))
-        (OrMemory (IsNoQuery query.now)) }
+        (OrMemory (IsQueryError query.now)) }
 {
-    each_plain_query_is_judged(catalogue);
+    each_plain_query_has_laws(catalogue);
     let program = plain_program(alloc, query)?;
     let run = run_if_accepted(alloc, catalogue, program, limits)?;
     let facts = Facts::of(catalogue);

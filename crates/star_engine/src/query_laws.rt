@@ -9,9 +9,9 @@ ghost use Rattle.star_program.specs.{Effects.State, Run.Ended, Run.EndsWith, Run
 ghost use Rattle.star_safety.specs.Admissible.{Refused, TooCostly, first_refusal};
 ghost use Rattle.star_world.specs.WorldOf.{world_of};
 ghost use Rattle.star_compile_laws.specs.{Compiled.compiled, Counts.HasCounted, Judged.IsOverflow, Wide.turn_wide};
-ghost use Rattle.star_engine.specs.Queries.{FitsRows, IsNoQuery, IsPlanOf, IsQueryTold, IsQueryToldOver, IsUnanswered, IsUnansweredOver, fact_rows};
-ghost use Rattle.star_engine.specs.{Executions.IsAcceptedWithin, Executions.quote_over, declared.fault.EngineFault.EngineFault, declared.thirteen.BenchmarkQuery.BenchmarkQuery, Loads.AreLoadedRows, Noted.Telling, QueryRuns.HasReported, QueryRuns.PrintsTheReport};
-ghost use Rattle.star_engine.specs.{Private.QuerySteps.IsJudged, Thirteen.query_text};
+ghost use Rattle.star_engine.specs.Queries.{FitsRows, IsPlanOf, IsQueryError, IsQueryRun, IsQueryRunError, IsQueryRunErrorOver, IsQueryRunOver, fact_rows};
+ghost use Rattle.star_engine.specs.{Executions.IsAcceptedWithin, Executions.quote_over, declared.fault.EngineFault.EngineFault, declared.thirteen.BenchmarkQuery.BenchmarkQuery, Loads.AreLoadedRows, WithNotes.RunText, QueryRuns.HasReported, QueryRuns.PrintsTheReport};
+ghost use Rattle.star_engine.specs.{Private.QuerySteps.HasProgramLaws, Thirteen.query_text};
 
 use star_catalogue::Catalogue;
 use star_compile_laws::acceptance::compiled_programs_are_accepted_where_they_fit_the_tables;
@@ -85,9 +85,9 @@ pub fn programs_of_queries_report_them()
 }
 
 // Proves the laws for the program of each query over loaded tables.
-pub(crate) fn each_query_is_judged(catalogue: &Catalogue)
+pub(crate) fn each_query_has_laws(catalogue: &Catalogue)
     ensures { (most : ℕ) (query : List ℕ) (p : Plan) → IsPlanOf query p
-        → IsJudged most catalogue.now query p }
+        → HasProgramLaws most catalogue.now query p }
 {
     queries_that_fit_are_answered();
     programs_of_queries_report_them();
@@ -100,17 +100,18 @@ pub fn the_thirteen_are_queries()
     ensures meant { (q : BenchmarkQuery) → (tree : Tree) × Means (query_text q) tree }
     ensures named { (q : BenchmarkQuery) (tree : Tree)
         → Means (query_text q) tree → IsWellNamed tree }
-    ensures read { (q : BenchmarkQuery) (fault : EngineFault) → ¬ IsNoQuery (query_text q) fault }
+    ensures read { (q : BenchmarkQuery) (fault : EngineFault) → ¬ IsQueryError
+        (query_text q) fault }
 {}
 
 /// States that no error is due if a report of a query and its notes are due, over the same rows or
 /// texts, under the same limits.
 pub fn reported_queries_have_no_fault()
     ensures over_rows { (visits : ℕ) (database : Database) (query : List ℕ)
-        (telling : Telling) (fault : EngineFault)
-        → IsQueryToldOver visits database query telling
-        → ¬ IsUnansweredOver visits database query fault }
+        (run : RunText) (fault : EngineFault)
+        → IsQueryRunOver visits database query run
+        → ¬ IsQueryRunErrorOver visits database query fault }
     ensures of_texts { (rows visits : ℕ) (texts : TableTexts) (query : List ℕ)
-        (telling : Telling) (fault : EngineFault) → IsQueryTold rows visits texts query telling
-        → ¬ IsUnanswered rows visits texts query fault }
+        (run : RunText) (fault : EngineFault) → IsQueryRun rows visits texts query run
+        → ¬ IsQueryRunError rows visits texts query fault }
 {}

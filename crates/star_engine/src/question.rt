@@ -1,7 +1,7 @@
 // Questions: queries and programs that were read.
 
 ghost use Rattle.std.specs.Prelude.{◌≡◌, ℕ, List, true, false, MatchResult};
-ghost use Rattle.star_engine.specs.{Answered.OrMemory, Loads.IsNoProgram, Queries.IsExplained, Queries.IsNoQuery, Questions.Asks, QuoteTexts.IsUnquotedOver, QuoteTexts.is_program_file, Private.Steps.IsMemory};
+ghost use Rattle.star_engine.specs.{Answered.OrMemory, Loads.IsProgramError, Queries.IsExplained, Queries.IsQueryError, Questions.Asks, QuoteTexts.IsQuoteErrorOver, QuoteTexts.is_program_file, Private.Steps.IsMemory};
 
 use crate::fault::EngineFault;
 use crate::query_laws::programs_of_queries_report_them;
@@ -27,7 +27,7 @@ fn is_program(file: &[u8]) -> bool
 impl Question {
     /// Reads a query, or returns its first error.
     pub fn query(alloc: Global, text: &[u8]) -> Result<Question, EngineFault>
-        ensures { MatchResult result (Asks false text.now) (OrMemory (IsNoQuery text.now)) }
+        ensures { MatchResult result (Asks false text.now) (OrMemory (IsQueryError text.now)) }
     {
         let query = Query::parse(alloc, text)?;
         let plan = plan(alloc, &query)?;
@@ -37,7 +37,7 @@ impl Question {
 
     /// Reads a program, or returns its first error.
     pub fn program(alloc: Global, file: &[u8]) -> Result<Question, EngineFault>
-        ensures { MatchResult result (Asks true file.now) (OrMemory (IsNoProgram file.now)) }
+        ensures { MatchResult result (Asks true file.now) (OrMemory (IsProgramError file.now)) }
     {
         let program = Program::parse(alloc, file)?;
         Ok(Question { program })
@@ -47,7 +47,7 @@ impl Question {
     /// returns its first error.
     pub fn of_file(alloc: Global, file: &[u8]) -> Result<Question, EngineFault>
         ensures { MatchResult result (Asks (is_program_file file.now) file.now)
-            (OrMemory (IsUnquotedOver file.now)) }
+            (OrMemory (IsQuoteErrorOver file.now)) }
     {
         if is_program(file) {
             Question::program(alloc, file)

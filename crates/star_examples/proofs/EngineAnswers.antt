@@ -14,13 +14,13 @@ use Rattle.star_query_meaning.specs.Reports.{IsReport}
 use Rattle.star_compile_laws.specs.{Judged.IsOverflow, Wide.turn_wide}
 use Rattle.star_engine.specs.declared.fault.EngineFault.TheVariants.{OutOfMemory, Load, Plan as Names, Program, Query, Refused, Write}
 use Rattle.star_engine.specs.Answered.{Change, HasGained, HasGainedPart, HasWritten, IsAnswered, IsBrokenOff, IsRefused, IsWritten, OrMemory, change}
-use Rattle.star_engine.specs.Executions.{IsAcceptedWithin, IsProgramTold, IsQuoteOver, IsToldOver, IsUntoldOver, quote_over}
-use Rattle.star_engine.specs.Loads.{HoldsOfFile, IsLoadFault, IsNoProgram, IsProgram, IsProgramOf, IsUnloaded, IsUnread}
-use Rattle.star_engine.specs.Noted.{HasTold, IsNoted, IsQuoteNoted, IsTellingBrokenOff, IsTellingRefused, IsTellingUntold, Telling}
-use Rattle.star_engine.specs.Queries.{FitsRows, IsNoQuery, IsPlanFault, IsQuery, IsQueryFault, IsQueryQuoteOver, IsQueryToldOver, IsUnansweredOver, IsUnasked, IsUnfit, fact_rows}
-use Rattle.star_engine.specs.Tellings.{IsFileToldOver, IsJudgedOver, IsProgramForecast, IsQueryForecast, IsUnjudgedOver}
+use Rattle.star_engine.specs.Executions.{IsAcceptedWithin, IsProgramRun, IsQuoteOver, IsRunErrorOver, IsRunOver, quote_over}
+use Rattle.star_engine.specs.Loads.{HoldsOfFile, IsLoadError, IsLoadFault, IsProgram, IsProgramError, IsProgramInputError, IsProgramOf}
+use Rattle.star_engine.specs.WithNotes.{HasGainedQuote, HasWrittenRun, IsAnsweredWithNotes, IsRunBrokenOff, IsRunRefused, IsRunUnwritten, RunText}
+use Rattle.star_engine.specs.Queries.{FitsRows, IsPlanFault, IsQuery, IsQueryError, IsQueryFault, IsQueryInputError, IsQueryQuoteOver, IsQueryRefusal, IsQueryRunErrorOver, IsQueryRunOver, fact_rows}
+use Rattle.star_engine.specs.RunTexts.{IsFileRunOver, IsForecastErrorOver, IsForecastOver, IsProgramForecast, IsQueryForecast}
 use Rattle.star_engine.specs.{declared.fault.EngineFault.EngineFault, declared.input.Input.Input, declared.thirteen.BenchmarkQuery.BenchmarkQuery, declared.thirteen.BenchmarkQuery.TheVariants.Q11, Bench.AreSections, Bench.IsFinding, Bench.IsSection, Bench.named_quote, Bench.refusal_line, Notes.counts_line, Notes.quote_line, Thirteen.query_name, Questions.IsProgramOfKind, Questions.IsProgramOfQuery}
-use Rattle.star_engine.specs.{QuoteTexts.IsQuoteTextOver, QuoteTexts.IsUnquoted, QuoteTexts.IsUnquotedOver, QuoteTexts.is_program_file, Reading.IsFresh, Reading.came_of, Reading.has_failed, Reading.reads_of}
+use Rattle.star_engine.specs.{QuoteTexts.IsQuoteError, QuoteTexts.IsQuoteErrorOver, QuoteTexts.IsQuoteTextOver, QuoteTexts.is_program_file, Reading.IsFresh, Reading.came_of, Reading.has_failed, Reading.reads_of}
 
 -- ---- sinks: the bytes, and whether a write has failed
 
@@ -59,7 +59,7 @@ no_part_has_all_bytes all = let less : 4 < 4 = all.part in omega arith
 -- ---- what is answered: Ok, want of memory, a failed write, and other faults
 
 module _ {S N A : Type 0} (out : Change S) (notes : Change N) (IsText : List ℕ → Type 0)
-    (IsTold : Telling → Type 0) (Due : EngineFault → Type 0) (answer : A) (sent : ℕ)
+    (IsRun : RunText → Type 0) (Due : EngineFault → Type 0) (answer : A) (sent : ℕ)
     (refusal : Refusal) (text : List ℕ) where
   written : (IsWritten out text well ≡ HasGained out text)
       × (IsWritten out text (Err (Write sent)) ≡ HasGainedPart out text sent)
@@ -75,17 +75,17 @@ module _ {S N A : Type 0} (out : Change S) (notes : Change N) (IsText : List ℕ
       × (IsAnswered {A = A} out IsText Due (Err OutOfMemory) ≡ (out.new ≡ out.old))
   clauses_of_an_answer = (refl, refl, refl, refl)
 
-  clauses_of_a_telling : (IsQuoteNoted notes IsText ≡ ((q : List ℕ) × IsText q × HasGained notes q))
-      × (HasTold out notes IsTold ≡ IsNoted out notes IsText IsTold Due well)
-      × (IsTellingBrokenOff out notes IsText IsTold (Write sent)
-      ≡ IsNoted out notes IsText IsTold Due (Err (Write sent)))
-      × (IsTellingRefused out notes IsText Due (Refused refusal)
-      ≡ IsNoted out notes IsText IsTold Due (Err (Refused refusal)))
-      × (IsTellingRefused out notes IsText Due of_load
-      ≡ IsNoted out notes IsText IsTold Due (Err of_load))
-      × (IsTellingUntold out notes IsText
-      ≡ IsNoted out notes IsText IsTold Due (Err OutOfMemory))
-  clauses_of_a_telling = (refl, refl, refl, refl, refl, refl)
+  clauses_of_a_run : (HasGainedQuote notes IsText ≡ ((q : List ℕ) × IsText q × HasGained notes q))
+      × (HasWrittenRun out notes IsRun ≡ IsAnsweredWithNotes out notes IsText IsRun Due well)
+      × (IsRunBrokenOff out notes IsText IsRun (Write sent)
+      ≡ IsAnsweredWithNotes out notes IsText IsRun Due (Err (Write sent)))
+      × (IsRunRefused out notes IsText Due (Refused refusal)
+      ≡ IsAnsweredWithNotes out notes IsText IsRun Due (Err (Refused refusal)))
+      × (IsRunRefused out notes IsText Due of_load
+      ≡ IsAnsweredWithNotes out notes IsText IsRun Due (Err of_load))
+      × (IsRunUnwritten out notes IsText
+      ≡ IsAnsweredWithNotes out notes IsText IsRun Due (Err OutOfMemory))
+  clauses_of_a_run = (refl, refl, refl, refl, refl, refl)
 
 -- ---- a program's file and a query's: a word that goes on, an upper case letter and a space before it
 -- make no program
@@ -102,55 +102,56 @@ kinds_of_files : Gives is_program_file (
     ∷ ([], false) ∷ [])
 kinds_of_files = refl
 
-module _ (visits : ℕ) (d : Database) (text : List ℕ) (t : Telling) (fault : EngineFault) where
+module _ (visits : ℕ) (d : Database) (text : List ℕ) (t : RunText) (fault : EngineFault) where
   of_files : (p : Parts) → (IsProgramOfKind true text p ≡ IsProgramOf text p)
       × (IsProgramOfKind false text p ≡ IsProgramOfQuery text p)
       × (IsQuoteTextOver d a_program text ≡ IsQuoteOver d a_program text)
       × (IsQuoteTextOver d a_query text ≡ IsQueryQuoteOver d a_query text)
-      × (IsUnquotedOver a_program fault ≡ IsNoProgram a_program fault)
-      × (IsUnquotedOver a_query fault ≡ IsNoQuery a_query fault)
-      × (IsJudgedOver visits d a_program text
+      × (IsQuoteErrorOver a_program fault ≡ IsProgramError a_program fault)
+      × (IsQuoteErrorOver a_query fault ≡ IsQueryError a_query fault)
+      × (IsForecastOver visits d a_program text
       ≡ HoldsOfFile a_program (λ program. IsProgramForecast d visits program text))
-      × (IsJudgedOver visits d a_query text ≡ IsQueryForecast visits d a_query text)
-      × (IsUnjudgedOver visits d a_program fault ≡ IsUntoldOver visits d a_program fault)
-      × (IsUnjudgedOver visits d a_query fault ≡ IsUnansweredOver visits d a_query fault)
-      × (IsFileToldOver visits d a_program t ≡ IsToldOver visits d a_program t)
-      × (IsFileToldOver visits d a_query t ≡ IsQueryToldOver visits d a_query t)
+      × (IsForecastOver visits d a_query text ≡ IsQueryForecast visits d a_query text)
+      × (IsForecastErrorOver visits d a_program fault ≡ IsRunErrorOver visits d a_program fault)
+      × (IsForecastErrorOver visits d a_query fault ≡ IsQueryRunErrorOver visits d a_query fault)
+      × (IsFileRunOver visits d a_program t ≡ IsRunOver visits d a_program t)
+      × (IsFileRunOver visits d a_query t ≡ IsQueryRunOver visits d a_query t)
   of_files p = (refl, refl, refl, refl, refl, refl, refl, refl, refl, refl, refl, refl)
 
--- ---- faults, and which of them is told first
+-- ---- faults, and which of them is printed first
 
 module _ (rows : ℕ) (texts : TableTexts) (file : List ℕ) (of_tables : LoadFault)
     (of_text : QueryFault) (of_names : PlanFault) (of_file : TextFault) where
-  unread : (IsUnloaded rows texts (Load of_tables) ≡ IsLoadFault rows texts of_tables)
-      × (IsUnloaded rows texts (Write 3) ≡ ⊥)
-      × (IsNoProgram file (Program of_file) ≡ FirstTextFault file of_file)
-      × (IsNoProgram file (Load of_tables) ≡ ⊥)
-      × (IsUnread rows texts file (Load of_tables)
+  unread : (IsLoadError rows texts (Load of_tables) ≡ IsLoadFault rows texts of_tables)
+      × (IsLoadError rows texts (Write 3) ≡ ⊥)
+      × (IsProgramError file (Program of_file) ≡ FirstTextFault file of_file)
+      × (IsProgramError file (Load of_tables) ≡ ⊥)
+      × (IsProgramInputError rows texts file (Load of_tables)
       ≡ (IsProgram file × IsLoadFault rows texts of_tables))
-      × (IsUnread rows texts file (Program of_file) ≡ IsNoProgram file (Program of_file))
-      × (IsUnquoted rows texts a_program (Load of_tables)
-      ≡ IsUnread rows texts a_program (Load of_tables))
+      × (IsProgramInputError rows texts file (Program of_file) ≡ IsProgramError file
+      (Program of_file))
+      × (IsQuoteError rows texts a_program (Load of_tables)
+      ≡ IsProgramInputError rows texts a_program (Load of_tables))
   unread = (refl, refl, refl, refl, refl, refl, refl)
 
-  unasked : (IsNoQuery file (Query of_text) ≡ IsQueryFault file of_text)
-      × (IsNoQuery file (Names of_names) ≡ IsPlanFault file of_names)
-      × (IsNoQuery file (Load of_tables) ≡ ⊥)
-      × (IsUnasked rows texts file (Load of_tables)
+  unasked : (IsQueryError file (Query of_text) ≡ IsQueryFault file of_text)
+      × (IsQueryError file (Names of_names) ≡ IsPlanFault file of_names)
+      × (IsQueryError file (Load of_tables) ≡ ⊥)
+      × (IsQueryInputError rows texts file (Load of_tables)
       ≡ (IsQuery file × IsLoadFault rows texts of_tables))
-      × (IsUnasked rows texts file (Query of_text) ≡ IsNoQuery file (Query of_text))
-      × (IsUnquoted rows texts a_query (Load of_tables)
-      ≡ IsUnasked rows texts a_query (Load of_tables))
+      × (IsQueryInputError rows texts file (Query of_text) ≡ IsQueryError file (Query of_text))
+      × (IsQuoteError rows texts a_query (Load of_tables)
+      ≡ IsQueryInputError rows texts a_query (Load of_tables))
   unasked = (refl, refl, refl, refl, refl, refl)
 
 nothing_was_read : {R : Type 0} (input : Input R) → reads_of input ≡ 0 → came_of input ≡ 0
     → has_failed input ≡ false → IsFresh input
 nothing_was_read input none empty well = record { reads = none; came = empty; failed = well }
 
--- ---- at the limit on visits, and one past it; the counts of a run are told in their order
+-- ---- at the limit on visits, and one past it; the counts of a run are printed in their order
 
 module _ (most : ℕ) (d : Database) (query : List ℕ) (refusal : Refusal)
-    (unfit : IsUnfit most d query refusal) where
+    (unfit : IsQueryRefusal most d query refusal) where
   a_range_is_too_wide : fact_rows d ≡ most → IsOverflow (refusal_view refusal)
       × (refusal_view refusal ≡ option_map Reason (turn_wide (bounds_in (rows_in d)) unfit.p))
   a_range_is_too_wide many = (unfit.wide (omega arith), unfit.first (omega arith))
@@ -167,17 +168,18 @@ module _ (d : Database) (program : Parts) where
   one_visit_too_many most many accepted = let cheap : quote_over d program ≤ most =
       accepted.cheap in omega arith
 
-  counted : (most : ℕ) (telling : Telling) (told : IsProgramTold d most program telling)
-      → (telling.done ≡ counts_line told.outcome.visits told.outcome.lookups told.outcome.updates)
+  counted : (most : ℕ) (run : RunText) (told : IsProgramRun d most program run)
+      → (run.done ≡ counts_line told.outcome.visits told.outcome.lookups told.outcome.updates)
       × (told.outcome.visits ≤ quote_over d program)
-  counted most telling told = (told.done, told.within)
+  counted most run told = (told.done, told.within)
 
 -- ---- what `bench` prints of a query: its quote under its name, and its report or its refusal
 
 module _ (most : ℕ) (d : Database) (q : BenchmarkQuery) (qs : List BenchmarkQuery)
     (query text : List ℕ) where
   findings : (IsFinding most d query text ≡ ((FitsRows most d query × IsReport d query text)
-      ⊎ ((refusal : Refusal) × IsUnfit most d query refusal × (text ≡ refusal_line refusal))))
+      ⊎ ((refusal : Refusal) × IsQueryRefusal most d query refusal
+      × (text ≡ refusal_line refusal))))
       × (AreSections most d [] text ≡ (text ≡ []))
       × (AreSections most d (q ∷ qs) text ≡ ((section : List ℕ) × (rest : List ℕ)
       × IsSection most d q section × AreSections most d qs rest × (text ≡ section ++ rest)))

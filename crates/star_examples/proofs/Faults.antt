@@ -39,7 +39,7 @@ holds_of bytes nothing is = (tt, tt)
 holds_of bytes (means tree) is = ((tree, is), (tree, is, refl))
 holds_of bytes (fault f) is = (is, tt)
 
--- a row: a text, and what is told of it
+-- a row: a text, and what is printed of it
 abbrev says : {F : Type 0} → List ℕ → F → List ℕ × F
 says bytes f = (bytes, f)
 

@@ -1,7 +1,7 @@
 -- The rows of a deferred store in the end are those of an eager one.
 use Rattle.star_group.proofs.Common.{Entry, Row, RowKey, ◌≡◌, ℕ, ◌-◌, ◌≤◌, List, [], ◌∷◌, length, arith, AllByRecursion, and-false, or-false, ∥∥₁_map, map-id, at_each, Aggregate, Shape}
 use Rattle.star_group.proofs.Common.{KeyValue, AreGrouped, HasBaseWithRoom, IsRowOver, puts_with, row_found, is_of_put, key_eq, padded, vary, IsRolledUp, IsRolledUpWithRoom, first_hidden, is_among, keys_from, group_with, Update, Group, AreOnce}
-use Rattle.star_group.proofs.{GroupKeys.key_decides, GroupKeys.own_grouping, GroupKeys.plain_among, OwnKeyLemmas.vary-start, Filters.filter_each}
+use Rattle.star_group.proofs.{GroupKeys.key_decides, GroupKeys.own_grouping, GroupKeys.plain_among, BaseKeyLemmas.vary-start, Filters.filter_each}
 use Rattle.std.proofs.lemmas.Grind.{common_steps}
 
 -- ---- the base rows have no ALL

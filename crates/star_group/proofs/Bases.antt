@@ -10,8 +10,8 @@ use Rattle.std.proofs.Common.{arith}
 
 module _ (gs : List Aggregate) (key : RowKey) (more : Row)
     (es fs : List Entry) (at : IsMergedAt gs key more es fs) where
-  pub own_row : (q : RowKey) → q ≡ key → IsMergedInto gs more (row_found es q) (row_found fs q)
-  own_row q e = (
+  pub base_row : (q : RowKey) → q ≡ key → IsMergedInto gs more (row_found es q) (row_found fs q)
+  base_row q e = (
     at.0,
     at.2 q ∙ ap (λ b. cond b (Some at.0) (row_found es q))
         (ap (λ k. key_eq k key) e ∙ key_equiv.refl key),
@@ -80,7 +80,7 @@ module _ (d : Group) (us : List Update) (u : Update) (key : List KeyPart) (row :
           → IsRowOver d (puts_with q (u ∷ us)) (row_found fs q)
       by q true e = subst (λ ps. IsRowOver d ps (row_found fs q)) (sym (with_own q e))
           (more_over d (puts_with q us) u row one (row_found es q) (row_found fs q) (base.rows q)
-          (own_row d.aggregates (key_view key) row es fs at q
+          (base_row d.aggregates (key_view key) row es fs at q
           ((key_decides q (padded 6 u.keys)).0 e ∙ sym is_key)))
       by q false e = subst (λ ps. IsRowOver d ps (row_found fs q)) (sym (with_other q e))
           (subst (IsRowOver d (puts_with q us))

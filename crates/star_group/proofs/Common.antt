@@ -4,19 +4,19 @@ pub use Rattle.star_common.proofs.{Tables.Gives, Tables.Gives2, Tables.Gives3}
 pub use Rattle.star_common.specs.Memory.{UnlessMemory}
 pub use Rattle.star_group.specs.Base.{AreGrouped, AreInBits, HasAggregates, HasBaseWithRoom, IsBase, IsRowOver, group_with, key_value_view, key_view, puts_in, puts_with, row_found}
 pub use Rattle.star_group.specs.Batches.{HasRoomForRows, IsKeyWord, IsPutBatch, batch_keys, key_word, put_in, puts_after, word_in}
-pub use Rattle.star_group.specs.ByPlace.{AreAt, IsPlaced, IsPlacedWithRoom, aggregate_cells, cell_over, neutral}
+pub use Rattle.star_group.specs.ByPlace.{AreAt, IsArrayContent, IsArrayContentWithRoom, aggregate_cells, cell_over, neutral}
 pub use Rattle.star_group.specs.Places.{IsOf, above, cell_place, is_at, is_outside, offset_of, place_up_to, places}
 pub use Rattle.star_group.specs.Private.Coarser.{AreOnce, IsMergedWhere, IsRolledUp, IsRolledUpWithRoom, NoneCoarser, RollsUp, first_finer, first_hidden, is_among, keys_from, shown_entries}
 pub use Rattle.star_group.specs.Private.Merged.{IsMerged, IsMergedAt, IsMergedInto, IsRowOfOnePut, IsWithRow, MergeLeaves, MergeStays, RowsStay, cell_of_one_put, merged, merged_at, merged_total}
 pub use Rattle.star_group.specs.Private.Numbers.{AreAsWide, AreNarrow, HasRowSpace, HasSpace, IsNarrow, keys_in, listed_keys}
 pub use Rattle.star_group.specs.Private.Rows.{AllStay, IsBlank, MergesAll, PutsRows, SomeLeaves, is_one_of, is_row_key}
-pub use Rattle.star_group.specs.Private.Taken.{AreCellsTaken, AreWithin, CanTake, CanTakeAll, HasNarrow, after_rows, batch_lanes, column_after, lanes_of, numbers_from, taking}
+pub use Rattle.star_group.specs.Private.Taken.{AreCellsTaken, AreWithin, CanTake, CanTakeAll, HasNarrow, after_rows, batch_vectors, column_after, numbers_from, taking, vectors_of}
 pub use Rattle.star_group.specs.Private.Tries.{IsHeld, IsKeyFound, IsMissing, IsTrie, Leads, child, digit_at, key_at, part_digit, turn_at, word_from, word_with}
 pub use Rattle.star_group.specs.Stores.{AddUp, AreOfContent, Group, HasRoom, IsContent, combined, group_declared, key_lists, put_number, puts_of}
-pub use Rattle.star_group.specs.{Cells.held, Cells.step, Entries.entries_of, Entries.listed_entries, Held.has_puts, Keyed.Entry, Keyed.Row, Keyed.all_hidden, Keyed.filled, Keyed.keyed, OneMore.IsWithPut, OwnKeys.RowKey, OwnKeys.is_of_put, OwnKeys.key_eq, OwnKeys.padded, OwnKeys.vary, Placed.Has, Placed.group_view}
-pub use Rattle.star_group.specs.{Private.Given.nothing_given, Private.Given.row_shown, Private.Given.shown, Private.PlacedPut.AreAtPlaces, Private.PlacedPut.IsListed, StoreRows.AreRows, StoreRows.row_at, StoreRows.row_view, contracts.keyed.key.KeyPartPartialEq.TheImpl.eq-value}
+pub use Rattle.star_group.specs.{ArrayStores.Has, ArrayStores.group_view, BaseKeys.RowKey, BaseKeys.is_of_put, BaseKeys.key_eq, BaseKeys.padded, BaseKeys.vary, Cells.held, Cells.step, Entries.entries_of, Entries.listed_entries, Held.has_puts, Keyed.Entry, Keyed.Row, Keyed.all_rolled_up, Keyed.filled, Keyed.keyed, OneMore.IsWithPut}
+pub use Rattle.star_group.specs.{Private.ArrayPut.AreAtPlaces, Private.ArrayPut.IsListed, Private.Given.nothing_given, Private.Given.row_shown, Private.Given.shown, StoreRows.AreRows, StoreRows.row_at, StoreRows.row_view, contracts.keyed.key.KeyPartPartialEq.TheImpl.eq-value}
 pub use Rattle.star_group.specs.{declared.batch.PutBatch.PutBatch, declared.eager.EagerStore.EagerStore, declared.group_row.GroupRow.GroupRow, declared.keyed.KeyedRows.KeyedRows, declared.keyed.ListedRows.ListedRows, declared.keyed.key.KeyPart.KeyPart}
-pub use Rattle.star_group.specs.{declared.keyed.key.KeyPart.TheVariants.All, declared.placed.PlacedStore.PlacedStore, declared.placed.span.Span.Span, declared.rows.PutFault.TheVariants.OutOfMemory}
+pub use Rattle.star_group.specs.{declared.array_store.ArrayStore.ArrayStore, declared.array_store.span.Span.Span, declared.keyed.key.KeyPart.TheVariants.All, declared.rows.PutFault.TheVariants.OutOfMemory}
 pub use Rattle.star_interval.specs.Range.{is_i128, is_i64}
 pub use Rattle.star_program.proofs.{OwnGroups.overflow_somewhere, OwnGroups.somewhere_overflows, Rows.cut_at, Rows.cut_past, Rows.length-cut}
 pub use Rattle.star_program.specs.Puts.{Update, aggregate_at, aligned, leaves, overflows}

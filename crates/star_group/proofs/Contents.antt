@@ -151,8 +151,8 @@ module _ (s : EagerStore) (u : Update) (gs : List Aggregate) (row : Row)
       (are : map key_view keys ≡ filter (is_row_key s.shape (length u.keys))
       (vary (length u.keys) (padded 6 u.keys))) where
     -- the keys are those of the rows that the put changes
-    pub own_keys : is_one_of keys ≡ is_of_put s.shape u.keys
-    own_keys = λ i q. (ap (list_any (key_eq q)) are
+    pub base_keys : is_one_of keys ≡ is_of_put s.shape u.keys
+    base_keys = λ i q. (ap (list_any (key_eq q)) are
         ∙ any_kept (is_row_key s.shape (length u.keys)) q (vary (length u.keys) (padded 6 u.keys))) i
 
     abbrev Puts : (RowKey → Option Row) → Type 0
@@ -162,7 +162,7 @@ module _ (s : EagerStore) (u : Update) (gs : List Aggregate) (row : Row)
         → PutsRows (is_of_put s.shape u.keys) s.aggregates.items row (row_found (entries_of s.rows))
         new
     puts_own new puts =
-        coe 0 1 (i. PutsRows (own_keys i) (is_gs i) row (row_found (entries_of s.rows)) new) puts
+        coe 0 1 (i. PutsRows (base_keys i) (is_gs i) row (row_found (entries_of s.rows)) new) puts
 
     pub put_has : (new : EagerStore) → group_view new ≡ group_view s
         → Puts (row_found (entries_of new.rows)) → IsMerged gs s.total row new.total

@@ -1,6 +1,6 @@
 -- What stands in a row that a store gives.
 use Rattle.std.proofs.lemmas.List.{nil_from_length}
-use Rattle.star_group.proofs.Common.{Entry, Row, ◌≡◌, ℕ, zero, suc, ◌<◌, ◌≤◌, List, [], ◌∷◌, ◌++◌, Option, Some, None, length, get_or, map, take, ap, refl, sym, ◌∙◌, arith, get_or-take, get_or_past, length-take, Aggregate, key_view, all_hidden, nothing_given, row_shown, shown, row_at}
+use Rattle.star_group.proofs.Common.{Entry, Row, ◌≡◌, ℕ, zero, suc, ◌<◌, ◌≤◌, List, [], ◌∷◌, ◌++◌, Option, Some, None, length, get_or, map, take, ap, refl, sym, ◌∙◌, arith, get_or-take, get_or_past, length-take, Aggregate, key_view, all_rolled_up, nothing_given, row_shown, shown, row_at}
 
 module _ (nothing : Option Row) (count : ℕ) where
   pub key_shown : (es : List Entry) (number place : ℕ) → place < count
@@ -32,7 +32,7 @@ nothing_shown row count (e ∷ es) (suc number) h = nothing_shown row count es n
 -- the only row, over no puts
 pub nothing_row : (count : ℕ) (gs : List Aggregate) (shows row : Row)
     (es fs : List Entry) → length es ≡ 0
-    → fs ≡ es ++ (all_hidden, row) ∷ [] → shows ≡ map (λ g. shown g None) gs
+    → fs ≡ es ++ (all_rolled_up, row) ∷ [] → shows ≡ map (λ g. shown g None) gs
     → map (row_shown (Some shows) count) fs ≡ nothing_given count gs
 nothing_row count gs shows row es fs none is e = λ i. map (row_shown (Some (e i)) count)
-    ((is ∙ ap (λ xs. xs ++ (all_hidden, row) ∷ []) (nil_from_length es none)) i)
+    ((is ∙ ap (λ xs. xs ++ (all_rolled_up, row) ∷ []) (nil_from_length es none)) i)

@@ -1,7 +1,7 @@
 -- Rows in flat storage with their keys: what stands at a number, one row more, and one changed.
 use Rattle.star_group.proofs.Common.{Entry, Row, RowKey, ◌≡◌, ◌⊎◌, inl, inr, cases_lt, get_or-map, is_some, ℕ, zero, suc, ◌<◌, ◌≤◌, true, false, List, [], ◌∷◌, ◌++◌, Option, Some, None, Result, Ok, Err, OnOk, cond, length, get_or, get_or-set_same, set, slice_get, map, take, drop, ap, sym, ◌∙◌, subst, refl, arith, true≢false}
 use Rattle.star_group.proofs.Common.{AllByRecursion, filter, list_any, keys_of, lookup, get_or-take, length-map, length-set, take_at, lookup_from_place, place_from_lookup, slice_get-get_or, slice_get-map, slice_get_within, KeyValue, KeyPart, All, KeyedRows, key_view, row_found}
-use Rattle.star_group.proofs.Common.{key_value_view, entries_of, all_hidden, filled, key_eq, padded, vary, AreOnce, shown_entries, IsMerged, IsMergedAt, IsWithRow, Aggregate, Shape, option_map, unwrap_or, with_items, and_parts, false_from_ne_true, list_any-from_Contains, contains_mapped}
+use Rattle.star_group.proofs.Common.{key_value_view, entries_of, all_rolled_up, filled, key_eq, padded, vary, AreOnce, shown_entries, IsMerged, IsMergedAt, IsWithRow, Aggregate, Shape, option_map, unwrap_or, with_items, and_parts, false_from_ne_true, list_any-from_Contains, contains_mapped}
 use Rattle.star_group.proofs.Common.{of_each, AreNarrow, IsNarrow, is_row_key, IsHeld, IsMissing, keys_in, IsDistinct-push, get_or_from_slice_get, append_assoc, cut, append-nil}
 use Rattle.star_group.proofs.GroupKeys.{among_vary, any_kept, in_padded, in_places, key_decides, key_equiv, masked_length}
 use Rattle.star_group.proofs.ListedRows.{key_count, key_wide, keyed_at, length-keyed, narrow_filled, row_count, same}
@@ -152,7 +152,8 @@ module _ (w : ℕ) (ks : List (List KeyPart)) (cs : List Row)
     (once : (i j : ℕ) → i < length ks → j < length ks → get_or ks i [] ≡ get_or ks j []
     → i ≡ j) where
   own_parts : (i : ℕ) → i < length ks → take w (filled (get_or ks i [])) ≡ get_or ks i []
-  own_parts i h = take_at (get_or ks i []) (drop (length (get_or ks i [])) all_hidden) w (wide i h)
+  own_parts i h = take_at (get_or ks i []) (drop (length (get_or ks i [])) all_rolled_up) w
+      (wide i h)
 
   entry_is : (i : ℕ) (e : Entry) → slice_get (keyed ks cs) i ≡ Some e
       → (i < length ks) × (e ≡ (filled (get_or ks i []), get_or cs i []))
@@ -235,7 +236,7 @@ module _ (rows : KeyedRows) where
   rows_once = once_keyed rows.listed.width ks cs (same rows.listed) wide rows.trie.once
 
   module _ (key : List KeyPart) (long : length key ≡ 6)
-      (narrow : drop rows.listed.width key ≡ drop rows.listed.width all_hidden) where
+      (narrow : drop rows.listed.width key ≡ drop rows.listed.width all_rolled_up) where
     module _ (number : ℕ) (held : IsHeld ks (take rows.listed.width key) number) where
       is : filled (get_or ks number []) ≡ key
       is = ap filled held.is
@@ -308,7 +309,7 @@ narrow_of (suc n) (suc w) (p ∷ ps) (k ∷ m) e h = let rest : key_view ps ≡ 
     narrow_of n w ps m rest (omega (arith, h))
 
 pub base_narrow : (w : ℕ) (ps : List KeyPart) (ks : List KeyValue) → key_view ps ≡ padded 6 ks
-    → length ks ≤ w → drop w ps ≡ drop w all_hidden
+    → length ks ≤ w → drop w ps ≡ drop w all_rolled_up
 unfolding all_of
 base_narrow w ps ks e h =
     narrow_of 6 w ps (map Some ks) (e ∙ sym (in_padded 6 ks)) (omega (arith, h, length-map ks Some))

@@ -1,6 +1,6 @@
 pub mod Common
 pub mod Filters
-pub mod OwnKeyLemmas
+pub mod BaseKeyLemmas
 pub mod GroupKeys
 pub mod Contents
 pub mod Totals
@@ -26,8 +26,8 @@ pub mod MergedRows
 pub mod AllRows
 pub mod Worked
 pub mod SpanPlaces
-pub mod PlacedCells
-pub mod PlacedRows
-pub mod PlacedListing
-pub mod PlacedPuts
-pub mod PlacedLanes
+pub mod ArrayCells
+pub mod ArrayRows
+pub mod ArrayListing
+pub mod ArrayPuts
+pub mod ArrayVectors

@@ -1,6 +1,6 @@
 -- What stands at a number in rows that nothing finds by their keys.
 use Rattle.star_group.proofs.Common.{Entry, Row, ◌≡◌, ◌≤◌, ◌<◌, ◌+◌, ◌++◌, ◌∷◌, ◌∙◌, ℕ, zero, suc, List, [], None, Some, ap, arith, drop, get_or, length, refl, slice_get, sym, take, ⊎_elim, AllByRecursion, get_or_past, length-take-le, cases_lt, get_or_from_slice_get, slice_get_within}
-use Rattle.star_group.proofs.Common.{key_value_view, key_view, KeyPart, ListedRows, listed_entries, all_hidden, filled, length-cut, take-append-drop, drop_at}
+use Rattle.star_group.proofs.Common.{key_value_view, key_view, KeyPart, ListedRows, listed_entries, all_rolled_up, filled, length-cut, take-append-drop, drop_at}
 use Rattle.star_program.specs.Rows.{cut}
 use Rattle.star_group.specs.Keyed.{keyed}
 use Rattle.star_group.proofs.CutRows.{cut_one, cut_wide, cut_append}
@@ -43,16 +43,17 @@ no_entries w m n ps ns e = ap (λ k. keyed (cut w k ps) (cut m k ns)) e ∙ none
 -- ---- keys in six places
 
 -- a key in six places is its first parts, where past them there is ALL
-pub narrow_filled : (w : ℕ) (key : List KeyPart) → w ≤ length key → drop w key ≡ drop w all_hidden
+pub narrow_filled : (w : ℕ) (key : List KeyPart) → w ≤ length key → drop w key
+    ≡ drop w all_rolled_up
     → filled (take w key) ≡ key
 narrow_filled w key few narrow =
-    ap (λ n. take w key ++ drop n all_hidden) (length-take-le w key few)
+    ap (λ n. take w key ++ drop n all_rolled_up) (length-take-le w key few)
     ∙ ap (λ ps. take w key ++ ps) (sym narrow) ∙ take-append-drop w key
 
 pub filled_narrow : (w : ℕ) (key : List KeyPart) → length key ≡ w
-    → drop w (filled key) ≡ drop w all_hidden
+    → drop w (filled key) ≡ drop w all_rolled_up
 filled_narrow w key long =
-    drop_at key (drop (length key) all_hidden) w long ∙ ap (λ n. drop n all_hidden) long
+    drop_at key (drop (length key) all_rolled_up) w long ∙ ap (λ n. drop n all_rolled_up) long
 
 -- past a key's own parts there is none
 none_past : (parts : List KeyPart) → AllByRecursion (λ p. key_value_view p ≡ None) parts
@@ -64,9 +65,9 @@ none_past (p ∷ parts) h zero (suc place) = none_past parts h.1 zero place
 none_past (p ∷ parts) h (suc n) place = none_past parts h.1 n place
 
 part_filled : (n : ℕ) (parts : List KeyPart) (place : ℕ) → get_or (key_view parts) place None
-    ≡ get_or (key_view (parts ++ drop n all_hidden)) place None
+    ≡ get_or (key_view (parts ++ drop n all_rolled_up)) place None
 part_filled n [] place =
-    sym (none_past all_hidden (refl, (refl, (refl, (refl, (refl, (refl, tt)))))) n place)
+    sym (none_past all_rolled_up (refl, (refl, (refl, (refl, (refl, (refl, tt)))))) n place)
 part_filled n (p ∷ parts) zero = refl
 part_filled n (p ∷ parts) (suc place) = part_filled n parts place
 
@@ -147,7 +148,7 @@ module _ (rows : ListedRows) where
 
 -- the only one of some rows
 pub one_entry : (w m : ℕ) (key : List KeyPart) (row : Row) → w ≤ length key
-    → drop w key ≡ drop w all_hidden → length row ≡ m
+    → drop w key ≡ drop w all_rolled_up → length row ≡ m
     → keyed (cut w 1 (take w key)) (cut m 1 row) ≡ (key, row) ∷ []
 unfolding keyed
 one_entry w m key row few narrow wide =

@@ -2,7 +2,7 @@
 use Rattle.star_group.proofs.Common.{Entry, Row, RowKey, ◌≡◌, ◌⊎◌, inl, inr, ℕ, zero, suc, ◌+◌, ◌<◌, Bool, true, false, ◌||◌, List, [], ◌∷◌, Option, Some, None, length, get_or, take, map, MatchBool, ap, sym, ◌∙◌, subst, refl, true≢false, arith, list_any, IsDistinct, unwrap_or, get_or-map, length-map}
 use Rattle.star_group.proofs.Common.{list_any_at, list_any_more, apart_from_distinct, IsDistinct-tail, or_parts, Aggregate, KeyPart, KeyedRows, key_view, row_found, key_eq, IsMergedAt, IsMergedInto, MergeLeaves, MergeStays, RowsStay, AreNarrow, HasSpace, IsNarrow}
 use Rattle.star_group.proofs.Common.{mul-le-mul_right, get_or_default, at_each, ◌≤◌, AllStay, MergesAll, SomeLeaves}
-use Rattle.star_group.proofs.{Bases.other_row, Bases.own_row, GroupKeys.key_decides, GroupKeys.key_equiv}
+use Rattle.star_group.proofs.{Bases.base_row, Bases.other_row, GroupKeys.key_decides, GroupKeys.key_equiv}
 
 -- ---- one more key of a list without repeats
 
@@ -103,7 +103,7 @@ module _ (own : List RowKey) (i : ℕ) (key : RowKey)
               (sym (other_row gs key more es fs at q (apart q earlier))) (so_far.changed q earlier)
           by q (inr same) = subst (λ k. IsMergedInto gs more (old k) (row_found fs k)) (sym same)
               (subst (λ found. IsMergedInto gs more found (row_found fs key)) found_here
-              (own_row gs key more es fs at key refl))
+              (base_row gs key more es fs at key refl))
 
 pub narrow_at : (width : ℕ) (keys : List (List KeyPart)) (i : ℕ) (d : List KeyPart)
     → i < length keys → AreNarrow width keys → IsNarrow width (get_or keys i d)

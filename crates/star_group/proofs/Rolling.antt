@@ -3,11 +3,11 @@ use Rattle.star_group.proofs.Common.{Entry, Row, RowKey, ◌≡◌, ℕ, zero, s
 use Rattle.star_group.proofs.Common.{AllByRecursion, append_cancel_left, list_any-append, filter-append, slice_get-get_or, place_from_lookup, any_passes_from_place, list_any-from_Contains, at_each, of_each, KeyValue, KeyPart, IsRowOver, key_view, row_found, has_puts, key_eq, vary}
 use Rattle.star_group.proofs.Common.{IsMergedWhere, IsRolledUp, IsRolledUpWithRoom, NoneCoarser, RollsUp, first_finer, is_among, keys_from, IsMergedAt, RowsStay, group_with, is_row_key, Aggregate, Shape, Plain, Cube, Rollup, is_grouping, finer, ∥∥₁_elim, ∥∥₁_map, Bool-set}
 use Rattle.star_group.proofs.Common.{and-or_distrib_left, both_ways, take-length, and_parts, Update, Group, AreOnce, length-take-le, get_or-append, get_or-take, get_or_append_left}
-use Rattle.star_group.proofs.OwnKeyLemmas.{kept_before, length-padded, one_more, set_there, vary-more}
+use Rattle.star_group.proofs.BaseKeyLemmas.{kept_before, length-padded, one_more, set_there, vary-more}
 use Rattle.star_group.proofs.Filters.{filter_each}
 use Rattle.star_group.proofs.Passes.{AreApart, AreOver, any_mapped, comes, disjoint, joined, left_out, merged_one, none_yet, so_far, some_at, stays_one}
 use Rattle.star_group.proofs.{GivenGroups.mapped, GroupKeys.key_decides, GroupKeys.key_equiv, KeyedRows.once_at, KeyedRows.once_joined, KeyedRows.row_once, Merging.has_put, Merging.put_of}
-use Rattle.star_group.specs.OwnKeys.{padded}
+use Rattle.star_group.specs.BaseKeys.{padded}
 
 -- ---- the keys of one put's rows
 

@@ -215,13 +215,13 @@ offset_other s it z other fits = grind (arith, ints, true_from_ne_false, false_f
 module _ (b : PutBatch) (batch : IsPutBatch b) (spans : List Span)
     (keys : length spans ≡ length b.keys.now) (row : ℕ) (h : row < b.rows) where
   abbrev zs : List ℤ
-  zs = map (word_in b.lanes.now row) b.keys.now
+  zs = map (word_in b.vectors.now row) b.keys.now
 
   abbrev ks : List KeyValue
   ks = (put_in b row).keys
 
   wide : length zs ≡ length spans
-  wide = length-map b.keys.now (word_in b.lanes.now row) ∙ sym keys
+  wide = length-map b.keys.now (word_in b.vectors.now row) ∙ sym keys
 
   pub batch_long : length ks ≡ length spans
   batch_long = length-keys_of b.declared.now.keys zs (omega (arith, batch.keys, wide, keys)) ∙ wide
@@ -231,10 +231,10 @@ module _ (b : PutBatch) (batch : IsPutBatch b) (spans : List Span)
     kind = get_or b.declared.now.keys i declared.Number
 
     abbrev word : ℤ
-    word = word_in b.lanes.now row (get_or b.keys.now i 0)
+    word = word_in b.vectors.now row (get_or b.keys.now i 0)
 
     known : get_or zs i (pos 0) ≡ word
-    known = word_there (word_in b.lanes.now row) b.keys.now i (omega (arith, here, keys))
+    known = word_there (word_in b.vectors.now row) b.keys.now i (omega (arith, here, keys))
 
     fits : IsKeyWord kind (get_or zs i (pos 0))
     fits = subst (IsKeyWord kind) (sym known) (batch.words row h i (omega (arith, here, keys)))

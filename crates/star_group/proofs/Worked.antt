@@ -5,7 +5,7 @@ use Rattle.star_group.proofs.Common.{Gives3, PBrand1, Sum, Count, Min, Max, Plai
 use Rattle.star_group.proofs.Common.{HasRoomForRows, IsKeyWord, IsPutBatch, batch_keys, key_word, put_in, puts_after, word_in, cell_over, neutral, step, has_puts, IsWithPut, is_of_put, IsOf, cell_place, offset_of, places, AddUp, Group, HasRoom, IsContent, combined, group_declared}
 use Rattle.star_group.proofs.Common.{key_lists, put_number, puts_of}
 use Rattle.std.specs.Prelude.{All}
-use Rattle.star_group.specs.{Cells.held, OneMore.group_aggregate, OwnKeys.padded, OwnKeys.vary, Stores.above_zero, Stores.below_zero}
+use Rattle.star_group.specs.{BaseKeys.padded, BaseKeys.vary, Cells.held, OneMore.group_aggregate, Stores.above_zero, Stores.below_zero}
 use Rattle.star_program.specs.declared.group.GroupKey.TheVariants as declared
 use Rattle.star_group.specs.declared.keyed.key.KeyPart.TheVariants as part
 
@@ -204,11 +204,11 @@ key_places : Gives2 offset_of (
     × IsOf numbers declared.Number × IsOf coded (declared.Text PBrand1)
 key_places = (refl, refl, refl, refl, refl, refl)
 
--- ---- batches: the word of a register is in its lane of 1,024; a COUNT is 1, and the others take the
+-- ---- batches: the word of a register is in its vector of 1,024; a COUNT is 1, and the others take the
 -- registers in turn; puts come newest first
 
-abbrev lanes : List ℤ
-lanes = replicate 1024 (pos 7) ++ (pos 8 ∷ pos 9 ∷ [])
+abbrev vectors : List ℤ
+vectors = replicate 1024 (pos 7) ++ (pos 8 ∷ pos 9 ∷ [])
 
 abbrev numbered : ℕ → Update
 numbered row = record { keys = []; values = pos row ∷ [] }
@@ -218,7 +218,7 @@ words : Gives2 key_word (
     ∷ (declared.Text PBrand1, pos 5, Code 5) ∷ (declared.Text PBrand1, negsuc 4, Code 0) ∷ [])
     × (batch_keys (declared.Number ∷ declared.Text PBrand1 ∷ []) (pos 5 ∷ pos 6 ∷ [])
     ≡ Number (pos 5) ∷ Code 6 ∷ [])
-    × Gives2 (word_in lanes) ((0, 0, pos 7) ∷ (0, 1, pos 8) ∷ (0, 2, pos 0) ∷ (1, 1, pos 9) ∷ [])
+    × Gives2 (word_in vectors) ((0, 0, pos 7) ∷ (0, 1, pos 8) ∷ (0, 2, pos 0) ∷ (1, 1, pos 9) ∷ [])
     × (puts_after numbered (numbered 9 ∷ []) 2 ≡ numbered 1 ∷ numbered 0 ∷ numbered 9 ∷ [])
 words = (refl, refl, refl, refl)
 
@@ -230,24 +230,24 @@ module _ (b : PutBatch) (z : ℤ) (d : Group) (put : ℕ → Update) (us : List 
       × (IsPutBatch b ↔ ((b.rows ≤ 1024) × IsSmall b.declared.now
       × (length b.keys.now ≡ length b.declared.now.keys)
       × (length b.values.now ≡ value_count b.declared.now.aggregates)
-      × All (λ r. r * 1024 + 1024 ≤ length b.lanes.now) b.keys.now
-      × All (λ r. r * 1024 + 1024 ≤ length b.lanes.now) b.values.now
+      × All (λ r. r * 1024 + 1024 ≤ length b.vectors.now) b.keys.now
+      × All (λ r. r * 1024 + 1024 ≤ length b.vectors.now) b.values.now
       × ((row : ℕ) → row < b.rows → (i : ℕ) → i < length b.keys.now
       → IsKeyWord (slice_index_or b.declared.now.keys i declared.Number)
-      (word_in b.lanes.now row (slice_index_or b.keys.now i 0)))))
+      (word_in b.vectors.now row (slice_index_or b.keys.now i 0)))))
   batches = (
     refl,
     refl,
     refl,
     (
-      λ p. (p.few, p.small, p.keys, p.values, p.key_lanes, p.value_lanes, p.words),
+      λ p. (p.few, p.small, p.keys, p.values, p.key_vectors, p.value_vectors, p.words),
       λ h. record {
         few = h.0;
         small = h.1;
         keys = h.2;
         values = h.3;
-        key_lanes = h.4;
-        value_lanes = h.5;
+        key_vectors = h.4;
+        value_vectors = h.5;
         words = h.6;
       },
     ),
@@ -255,7 +255,7 @@ module _ (b : PutBatch) (z : ℤ) (d : Group) (put : ℕ → Update) (us : List 
 
 row_put : (ws : Bor (List ℤ)) (declaration : Bor GroupDecl) (registers : Bor (List ℕ))
     → put_in (record {
-      lanes = record ws { now = lanes };
+      vectors = record ws { now = vectors };
       rows = 2;
       declared = record declaration {
         now = record {

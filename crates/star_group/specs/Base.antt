@@ -3,9 +3,9 @@ use Rattle.std.specs.Prelude.{◌≡◌, ℕ, ◌<◌, Bool, true, false, List, 
 use Rattle.std.specs.{List.AllByRecursion, Map.lookup}
 use Rattle.star_schema.specs.{declared.group.Aggregate.Aggregate, declared.group.Shape.Shape, Groups.numbers_for}
 use Rattle.star_program.specs.{declared.key.KeyValue.KeyValue, declared.key.KeyValue.TheVariants.Number as NumberKey, declared.key.KeyValue.TheVariants.Code as CodeKey, Puts.Update, Puts.aggregate_at, Puts.leaves}
-use Rattle.star_group.specs.{declared.keyed.key.KeyPart.KeyPart, declared.keyed.key.KeyPart.TheVariants.All, declared.keyed.key.KeyPart.TheVariants.Number, declared.keyed.key.KeyPart.TheVariants.Code, Cells.held, OwnKeys.is_of_put, OwnKeys.key_eq, OwnKeys.padded, Stores.Group}
+use Rattle.star_group.specs.{declared.keyed.key.KeyPart.KeyPart, declared.keyed.key.KeyPart.TheVariants.All, declared.keyed.key.KeyPart.TheVariants.Number, declared.keyed.key.KeyPart.TheVariants.Code, Cells.held, BaseKeys.is_of_put, BaseKeys.key_eq, BaseKeys.padded, Stores.Group}
 use Rattle.star_group.specs.{Held.has_puts}
-use Rattle.star_group.specs.{Keyed.Entry, Keyed.Row, OwnKeys.RowKey}
+use Rattle.star_group.specs.{BaseKeys.RowKey, Keyed.Entry, Keyed.Row}
 
 -- the value at a place of a key, None for ALL
 abbrev pub key_value_view : KeyPart → Option KeyValue

@@ -1,9 +1,9 @@
--- The content of a placed store: the cells of each place, and a deferred store of the other puts.
+-- The content of a array store: the cells of each place, and a deferred store of the other puts.
 use Rattle.std.specs.Prelude.{◌≡◌, ℕ, ◌<◌, ◌^◌, ◌-◌, Bool, false, ℤ, pos, negsuc, List, [], filter, length, slice_index_or}
 use Rattle.std.specs.{List.AllByRecursion, Option.unwrap_or}
 use Rattle.star_schema.specs.{declared.group.Aggregate.Aggregate, declared.group.Aggregate.TheVariants.Sum, declared.group.Aggregate.TheVariants.Count, declared.group.Aggregate.TheVariants.Min, declared.group.Aggregate.TheVariants.Max, Groups.numbers_for}
 use Rattle.star_program.specs.{Rows.cut, Puts.Update, Puts.aggregate_at}
-use Rattle.star_group.specs.{declared.placed.span.Span.Span, Base.AreInBits, Base.IsBase, Cells.held, Held.has_puts, Places.is_at, Places.is_outside, Stores.Group}
+use Rattle.star_group.specs.{declared.array_store.span.Span.Span, Base.AreInBits, Base.IsBase, Cells.held, Held.has_puts, Places.is_at, Places.is_outside, Stores.Group}
 use Rattle.star_group.specs.{Keyed.Entry, Keyed.Row}
 
 -- what a cell has of an aggregate over no numbers: no number of 64 bits changes by it
@@ -27,7 +27,7 @@ abbrev pub aggregate_cells : Group → List Bool → List ℤ → ℕ → List �
 aggregate_cells d seen cells a = slice_index_or (cut (length seen) (length d.aggregates) cells) a []
 
 -- which places have puts, and their cells; and the base rows of the puts whose keys have no place
-pub record IsPlaced (d : Group) (spans : List Span) (seen : List Bool) (cells : List ℤ)
+pub record IsArrayContent (d : Group) (spans : List Span) (seen : List Bool) (cells : List ℤ)
     (entries : List Entry) (all : Row) (puts : List Update)
     : Type 0 where
   pub fit : AllByRecursion (λ put. length put.keys ≡ d.count) puts
@@ -37,5 +37,7 @@ pub record IsPlaced (d : Group) (spans : List Span) (seen : List Bool) (cells : 
   pub rest : IsBase d entries all (filter (λ put. is_outside spans put.keys) puts)
 
 -- they are those of some puts that stay in their bits
-abbrev pub IsPlacedWithRoom : Group → List Span → List Bool → List ℤ → List Entry → Row → Type 0
-IsPlacedWithRoom d spans seen cells entries all = ∥ ((puts : List Update) × IsPlaced d spans seen cells entries all puts × AreInBits d puts) ∥₁
+abbrev pub IsArrayContentWithRoom : Group → List Span → List Bool → List ℤ → List Entry → Row
+    → Type 0
+IsArrayContentWithRoom d spans seen cells entries all = ∥ ((puts : List Update)
+    × IsArrayContent d spans seen cells entries all puts × AreInBits d puts) ∥₁

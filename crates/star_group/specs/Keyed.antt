@@ -9,12 +9,12 @@ Row = List (Option ℤ)
 abbrev pub Entry : Type 0
 Entry = List KeyPart × Row
 
-abbrev pub all_hidden : List KeyPart
-all_hidden = All ∷ All ∷ All ∷ All ∷ All ∷ All ∷ []
+abbrev pub all_rolled_up : List KeyPart
+all_rolled_up = All ∷ All ∷ All ∷ All ∷ All ∷ All ∷ []
 
 -- a key in six places, past its own with ALL
 abbrev pub filled : List KeyPart → List KeyPart
-filled parts = parts ++ drop (length parts) all_hidden
+filled parts = parts ++ drop (length parts) all_rolled_up
 
 -- each key in six places, and the aggregates of its row
 unfoldable pub keyed : List (List KeyPart) → List Row → List Entry

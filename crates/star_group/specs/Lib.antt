@@ -3,7 +3,7 @@ pub mod Stores
 pub mod Cells
 pub mod Batches
 pub mod OneMore
-pub mod OwnKeys
+pub mod BaseKeys
 pub mod Held
 pub mod Eager
 pub mod Base
@@ -12,6 +12,6 @@ pub mod Entries
 pub mod Deferred
 pub mod Places
 pub mod ByPlace
-pub mod Placed
+pub mod ArrayStores
 pub mod StoreRows
 pub mod Private

@@ -2,7 +2,7 @@
 use Rattle.std.specs.Prelude.{◌≡◌, ℕ, ◌+◌, ◌*◌, nat_eq, nat_lt, Bool, true, false, if◌then◌else◌, ℤ, pos, negsuc, ◌-ℤ◌, List, [], ◌∷◌, Option, Some, None}
 use Rattle.std.specs.{Option.is_none, Option.option_eq}
 use Rattle.star_program.specs.{declared.group.GroupKey.GroupKey, declared.key.KeyValue.KeyValue, declared.key.KeyValue.TheVariants.Number, declared.key.KeyValue.TheVariants.Code}
-use Rattle.star_group.specs.declared.placed.span.Span.{Span}
+use Rattle.star_group.specs.declared.array_store.span.Span.{Span}
 use Rattle.star_program.specs.declared.group.GroupKey.TheVariants as declared
 
 -- a number that is at most the last one

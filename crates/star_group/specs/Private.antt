@@ -6,4 +6,4 @@ pub mod Tries
 pub mod Numbers
 pub mod Coarser
 pub mod Taken
-pub mod PlacedPut
+pub mod ArrayPut

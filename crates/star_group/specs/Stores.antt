@@ -3,7 +3,7 @@ use Rattle.std.specs.Prelude.{◌≡◌, ◌↔◌, ℕ, suc, ◌+◌, ◌<◌, 
 use Rattle.std.specs.{List.list_any, List.AllByRecursion, List.IsDistinct, Option.unwrap_or}
 use Rattle.star_schema.specs.{declared.group.Aggregate.Aggregate, declared.group.Aggregate.TheVariants.Sum, declared.group.Aggregate.TheVariants.Count, declared.group.Shape.Shape, Groups.IsGroup, Groups.members, Groups.aggregate, Groups.numbers_for}
 use Rattle.star_program.specs.{declared.group.GroupDecl.GroupDecl, declared.key.KeyValue.KeyValue, Keys.key_value_cmp, Keys.same_keys, Puts.Update, Puts.aggregate_at}
-use Rattle.star_group.specs.{OwnKeys.RowKey}
+use Rattle.star_group.specs.{BaseKeys.RowKey}
 
 -- what a store is made for: a shape, how many keys there are, and its aggregates
 pub record Group : Type 0 where

@@ -1,7 +1,7 @@
 // The rows that a store gives in the end.
 
 ghost use Rattle.std.specs.Prelude.{◌≡◌, ◌≤◌, ◌&&◌, List, None, length, map, nat_eq, slice_index_or, take, IfOk};
-ghost use Rattle.star_group.specs.{Base.AreGrouped, Base.group_with, Base.key_view, Keyed.all_hidden, Private.Coarser.AreOnce, Entries.listed_entries, StoreRows.AreRows, StoreRows.row_at};
+ghost use Rattle.star_group.specs.{Base.AreGrouped, Base.group_with, Base.key_view, Keyed.all_rolled_up, Private.Coarser.AreOnce, Entries.listed_entries, StoreRows.AreRows, StoreRows.row_at};
 ghost use Rattle.star_program.specs.Puts.{Update};
 ghost use Rattle.star_schema.specs.Groups as groups;
 ghost use Rattle.star_group.specs.Private.Given as spec;
@@ -122,7 +122,7 @@ fn nothing_given(
 fn is_bare(rows: &ListedRows, shape: Shape, key_count: usize) -> bool
     requires { key_count ≤ 6 }
     ensures { result ≡ (nat_eq (length (listed_entries rows.now)) 0
-        && groups.is_grouping shape (take key_count (key_view all_hidden))) }
+        && groups.is_grouping shape (take key_count (key_view all_rolled_up))) }
 {
     rows.len() == 0 && is_grouping(shape, key_count, &ALL_HIDDEN)
 }

@@ -7,6 +7,7 @@
 //! over all of them.
 #![tactic(auto)]
 
+mod array_store;
 mod batch;
 mod cell;
 mod deferred;
@@ -16,17 +17,16 @@ mod group_rows;
 mod keyed;
 pub mod law;
 mod numbers;
-mod placed;
 mod rows;
 mod store;
 
+pub use array_store::ArrayStore;
 pub use batch::{PutBatch, key_of};
 pub use deferred::DeferredStore;
 pub use eager::EagerStore;
 pub use group_row::{GroupRow, Prefix, RowAggregates, RowKeys};
 pub use group_rows::GroupRows;
 pub use numbers::numbers_put;
-pub use placed::PlacedStore;
 pub use rows::PutFault;
 pub use star_program::KeyValue;
 pub use store::{GroupStore, TryPut};

@@ -169,11 +169,11 @@ fn masks_of_the_numbers_to_129(rt: HostRuntime) -> Result<(), Fail> {
 
 // Three masks of a column from a row on, narrowed, if the column reaches so far.
 fn narrowed(column: &PackedColumn, first: u32, low: i64, high: i64, masks: [u64; 3]) -> [u64; 3] {
-    let mut alive = masks;
+    let mut bitmap = masks;
     if u64::from(first) + 128 <= u64::from(column.len()) {
-        column.view().narrow(first, low, high, &mut alive);
+        column.view().narrow(first, low, high, &mut bitmap);
     }
-    alive
+    bitmap
 }
 
 const ALL: [u64; 3] = [u64::MAX; 3];
@@ -201,14 +201,14 @@ fn masks_are_narrowed(rt: HostRuntime) -> Result<(), Fail> {
 // first in the least bit.
 fn check_index(rt: &impl Abort, index: &JoinIndex, rows: [u32; 3], mask: u64) {
     check_same(rt, index.len(), 3, &rows);
-    let (mut gathered, mut alive) = ([7; 4], [u64::MAX]);
+    let (mut gathered, mut bitmap) = ([7; 4], [u64::MAX]);
     if index.len() == 3 {
         check_same(rt, [index.row(0), index.row(1), index.row(2)], rows, &rows);
         index.gather(&[2, 0, 0, 1], &mut gathered);
-        index.narrow_range(0, 1, 2, &mut alive);
+        index.narrow_range(0, 1, 2, &mut bitmap);
     }
     let expected = [rows[2], rows[0], rows[0], rows[1]];
-    check_same(rt, (gathered, alive[0]), (expected, mask), &rows);
+    check_same(rt, (gathered, bitmap[0]), (expected, mask), &rows);
 }
 
 #[test]

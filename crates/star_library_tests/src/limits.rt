@@ -4,7 +4,7 @@
 use crate::checks::{ABOVE_AVERAGE, check_same, check_text};
 use crate::streams::Short;
 use star_common::Out;
-use star_engine::{Engine, EngineFault, LoadFault, Question, THIRTEEN, Told, sample};
+use star_engine::{Engine, EngineFault, LoadFault, Question, RunOutput, THIRTEEN, sample};
 use star_schema::{Limits, TableId};
 use std::alloc::{AllocError, Global};
 use std::fmt::Write;
@@ -19,16 +19,16 @@ fn loaded(alloc: Global, rows: u32, visits: u64) -> Result<Box<Engine>, Fail> {
     }
 }
 
-fn report(alloc: Global, engine: &Engine, file: &str) -> Result<Told, EngineFault> {
+fn report(alloc: Global, engine: &Engine, file: &str) -> Result<RunOutput, EngineFault> {
     engine.report(alloc, Question::of_file(alloc, file.as_bytes())?)
 }
 
 // A note, a report and another note, or the line of an error.
 fn run_text(alloc: Global, engine: &Engine, file: &str) -> Result<String, Fail> {
     match report(alloc, engine, file) {
-        Ok(told) => {
-            let report = str::from_utf8(told.report.as_slice())?;
-            Ok(format!(in alloc; "{}{report}{}", told.quoted, told.done)?)
+        Ok(printed) => {
+            let report = str::from_utf8(printed.report.as_slice())?;
+            Ok(format!(in alloc; "{}{report}{}", printed.quoted, printed.done)?)
         }
         Err(EngineFault::OutOfMemory) => Err(Fail::from(AllocError)),
         Err(fault) => Ok(format!(in alloc; "{fault}")?),

@@ -7,7 +7,7 @@ use crate::programs::{
 };
 use star_common::Out;
 use star_engine::{
-    Engine, EngineFault, Question as Asked, Told, answer_program, answer_query, bench, check,
+    Engine, EngineFault, Question as Asked, RunOutput, answer_program, answer_query, bench, check,
     explain_query, quote_text, sample, trial_program,
 };
 use star_schema::{Limits, MOST_VISITS};
@@ -304,7 +304,7 @@ fn trials_of_texts(rt: HostRuntime) -> Result<(), Fail> {
     check_cases(&rt, rt.alloc(), None, TRIALS)
 }
 
-fn report(engine: &Engine, alloc: Global, file: &str) -> Result<Told, EngineFault> {
+fn report(engine: &Engine, alloc: Global, file: &str) -> Result<RunOutput, EngineFault> {
     engine.report(alloc, Asked::of_file(alloc, file.as_bytes())?)
 }
 
@@ -313,11 +313,11 @@ fn forecast(engine: &Engine, alloc: Global, file: &str) -> Result<String, Engine
 }
 
 // The printed report of a run.
-fn run_text(alloc: Global, answer: Result<Told, EngineFault>) -> Result<String, AllocError> {
+fn run_text(alloc: Global, answer: Result<RunOutput, EngineFault>) -> Result<String, AllocError> {
     match answer {
-        Ok(told) => {
-            let report = str::from_utf8(told.report.as_slice()).unwrap_or("not a text");
-            format!(in alloc; "{}{}{report}", told.quoted, told.done)
+        Ok(printed) => {
+            let report = str::from_utf8(printed.report.as_slice()).unwrap_or("not a text");
+            format!(in alloc; "{}{}{report}", printed.quoted, printed.done)
         }
         Err(EngineFault::OutOfMemory) => Err(AllocError),
         Err(fault) => format!(in alloc; "{fault}"),

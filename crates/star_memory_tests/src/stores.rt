@@ -6,7 +6,7 @@ ghost use Rattle.star_memory_tests.specs.Few.{HasFew, IsOfNumbers, IsOfTests};
 
 use crate::asked::{expect, print_refused};
 use star_group::{
-    DeferredStore, EagerStore, GroupRows, GroupStore, KeyValue, PlacedStore, PutFault, TryPut,
+    ArrayStore, DeferredStore, EagerStore, GroupRows, GroupStore, KeyValue, PutFault, TryPut,
 };
 use star_interval::Interval;
 use star_program::{Aggregates, GroupDecl, GroupKey, GroupKeys};
@@ -275,8 +275,8 @@ fn deferred_store(rt: HostRuntime) -> Result<(), Fail> {
 }
 
 #[test]
-fn placed_store(rt: HostRuntime) -> Result<(), Fail> {
-    check_all::<PlacedStore>(&rt, rt.alloc())
+fn array_store(rt: HostRuntime) -> Result<(), Fail> {
+    check_all::<ArrayStore>(&rt, rt.alloc())
 }
 
 // One more put that is refused if a sum leaves 128 bits, and the same again if it is refused memory.

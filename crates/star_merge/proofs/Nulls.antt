@@ -107,13 +107,13 @@ module _ (s : Shape) (count : ℕ) (gs : List Aggregate) where
       (λ k d within. (All-head (IsFull count gs) group groups all).totals))
       (all_numbers groups (All-tail (IsFull count gs) group groups all))
 
-  all_hidden : (n : ℕ) (keys : List (Option Value)) → map is_some keys ≡ replicate n true
+  all_rolled_up : (n : ℕ) (keys : List (Option Value)) → map is_some keys ≡ replicate n true
       → IsMasked (replicate n None) (flat_map option_to_list keys)
-  all_hidden zero [] h = tt
-  all_hidden zero (k ∷ keys) h = absurd (omega (arith, ap length h))
-  all_hidden (suc n) [] h = absurd (omega (arith, ap length h))
-  all_hidden (suc n) (None ∷ keys) h = absurd (true≢false (sym (ap head_of h)))
-  all_hidden (suc n) (Some k ∷ keys) h = all_hidden n keys (ap tail_of h)
+  all_rolled_up zero [] h = tt
+  all_rolled_up zero (k ∷ keys) h = absurd (omega (arith, ap length h))
+  all_rolled_up (suc n) [] h = absurd (omega (arith, ap length h))
+  all_rolled_up (suc n) (None ∷ keys) h = absurd (true≢false (sym (ap head_of h)))
+  all_rolled_up (suc n) (Some k ∷ keys) h = all_rolled_up n keys (ap tail_of h)
 
   -- the sums of groups of rows
   sum_numbers : (group : GroupRow Value) (groups sums : List (GroupRow Value))
@@ -129,7 +129,7 @@ module _ (s : Shape) (count : ℕ) (gs : List Aggregate) where
       of_none is =
           let more = group_added value_cmp value_decides s (group ∷ groups) none (as_row group) is
           (contains_here (as_row group) (map as_row groups))
-          (all_hidden count group.keys (All-head (IsFull count gs) group groups all).keys) in
+          (all_rolled_up count group.keys (All-head (IsFull count gs) group groups all).keys) in
           ap (λ ks. is_there value_cmp ks (all_added s (group ∷ groups))) (sym more.2)
           ∙ to_there value_cmp value_decides more.0 (all_added s (group ∷ groups)) more.1
 

@@ -30,12 +30,12 @@ fn all_shown(keys: &[KeptCell]) -> bool
     }
 }
 
-fn all_hidden(keys: &[KeptCell]) -> bool
+fn all_rolled_up(keys: &[KeptCell]) -> bool
     ensures { result ≡ list_all is_none (map key_of keys.now) }
 {
     match keys {
         [] => true,
-        [key, rest @ ..] => !is_shown(key) && all_hidden(rest),
+        [key, rest @ ..] => !is_shown(key) && all_rolled_up(rest),
     }
 }
 
@@ -48,7 +48,7 @@ fn is_prefix(keys: &[KeptCell]) -> bool
             if is_shown(key) {
                 is_prefix(rest)
             } else {
-                all_hidden(rest)
+                all_rolled_up(rest)
             }
         }
     }

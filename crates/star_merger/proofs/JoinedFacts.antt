@@ -29,7 +29,7 @@ at_any [] place none is = sym is
 at_any (x ∷ xs) zero none is = refl
 at_any (x ∷ xs) (suc place) none is = at_any xs place none is
 
--- what a join of bounds tells of each position, it tells of each column
+-- what a join of bounds says of each position, it says of each column
 pub joined_bounds : (rows more : ℕ) (bounds others joined : List Interval)
     → ((place : ℕ) (any : Interval) → place < 58 → range_of (slice_index_or joined place any)
     ≡ hull_of_rows rows more (range_of (slice_index_or bounds place any))

@@ -14,8 +14,8 @@ use Rattle.star_world.specs.WorldOf.{world_of}
 use Rattle.star_partial.specs.Contents.{Contents}
 use Rattle.star_compile_laws.specs.{Compiled.compiled, Judged.IsOverflow, Wide.turn_wide}
 use Rattle.star_merge_laws.specs.Parts.{Span}
-use Rattle.star_engine.specs.{declared.fault.EngineFault.EngineFault, Answered.Change, Answered.IsUntouched, Executions.IsAcceptedWithin, Executions.quote_over, Faults.fault_of_refusal, Loads.AreLoadedRows, Noted.IsNoted, Noted.IsQuoteNoted, Noted.Telling}
-use Rattle.star_engine.specs.Queries.{FitsRows, IsPlanOf, IsUnfit, fact_rows}
+use Rattle.star_engine.specs.{declared.fault.EngineFault.EngineFault, Answered.Change, Answered.IsUntouched, Executions.IsAcceptedWithin, Executions.quote_over, Faults.fault_of_refusal, Loads.AreLoadedRows, WithNotes.IsAnsweredWithNotes, WithNotes.HasGainedQuote, WithNotes.RunText}
+use Rattle.star_engine.specs.Queries.{FitsRows, IsPlanOf, IsQueryRefusal, fact_rows}
 use Rattle.star_engine.proofs.NotedAs.{noted_as}
 use Rattle.star_engine.proofs.Noting.{note_broken}
 use Rattle.star_merger.specs.declared.fault.{PartialFault.PartialFault, PartialsFault.PartialsFault}
@@ -37,15 +37,16 @@ loaded_rows most texts loadable = record {
 
 module _ {S N : Type 0} (out : Change S) (notes : Change N) where
   -- what the engine's call returns
-  pub as_noted : (IsQuote : List ℕ → Type 0) (IsTold : Telling → Type 0)
+  pub as_noted : (IsQuote : List ℕ → Type 0) (IsTold : RunText → Type 0)
       (IsDue : EngineFault → Type 0) (IsBad : PartialsFault → Type 0)
-      (result : Result (Unit {0}) EngineFault) → IsNoted out notes IsQuote IsTold IsDue result
+      (result : Result (Unit {0}) EngineFault)
+      → IsAnsweredWithNotes out notes IsQuote IsTold IsDue result
       → IsMerged out notes IsQuote IsTold IsDue IsBad (as_merge result)
   as_noted IsQuote IsTold IsDue IsBad (Ok answer) noted = noted
   as_noted IsQuote IsTold IsDue IsBad (Err fault) noted = noted
 
   -- what was checked before anything is written
-  pub not_checked : (IsQuote : List ℕ → Type 0) (IsTold : Telling → Type 0)
+  pub not_checked : (IsQuote : List ℕ → Type 0) (IsTold : RunText → Type 0)
       (IsDue : EngineFault → Type 0) (most : ℕ) (whole : Database) (is_distinct : Bool)
       (spans : List (Option Span)) (fault : PartialsFault)
       → ((fault : LoadFault) → fault ≡ TooManyRows Lineorder → most < fact_rows whole
@@ -60,7 +61,7 @@ module _ {S N : Type 0} (out : Change S) (notes : Change N) where
       due same still is = (is, same, still)
 
   -- no outcome
-  pub not_merged : (IsQuote : List ℕ → Type 0) (IsTold : Telling → Type 0)
+  pub not_merged : (IsQuote : List ℕ → Type 0) (IsTold : RunText → Type 0)
       (IsDue : EngineFault → Type 0) (all : List Contents) (fault : PartialsFault)
       → IsUntouched out → IsUntouched notes → IsUnmerged all fault
       → IsMerged out notes IsQuote IsTold IsDue (IsUnmerged all) (Err fault)
@@ -70,32 +71,32 @@ module _ {S N : Type 0} (out : Change S) (notes : Change N) where
   not_merged IsQuote IsTold IsDue all (merging.Partial place fault other) same still is =
       (is, same, still)
 
-  pub merged_as : (Quote OtherQuote : List ℕ → Type 0) (Told OtherTold : Telling → Type 0)
+  pub merged_as : (Quote OtherQuote : List ℕ → Type 0) (Told OtherRun : RunText → Type 0)
       (Due OtherDue : EngineFault → Type 0) (Bad OtherBad : PartialsFault → Type 0)
       (result : Result (Unit {0}) PartialsFault)
       → ((note : List ℕ) → Quote note → OtherQuote note)
-      → ((telling : Telling) → Told telling → OtherTold telling)
+      → ((run : RunText) → Told run → OtherRun run)
       → ((fault : EngineFault) → Due fault → OtherDue fault)
       → ((place : ℕ) (fault : PartialFault) (other : Option ℕ)
       → Bad (merging.Partial place fault other) → OtherBad (merging.Partial place fault other))
       → IsMerged out notes Quote Told Due Bad result
-      → IsMerged out notes OtherQuote OtherTold OtherDue OtherBad result
-  merged_as Quote OtherQuote Told OtherTold Due OtherDue Bad OtherBad (Ok answer) quote tell due bad
-      is = noted_as out notes Quote OtherQuote Told OtherTold Due OtherDue (Ok answer) quote tell due is
-  merged_as Quote OtherQuote Told OtherTold Due OtherDue Bad OtherBad (Err (merging.Engine fault))
+      → IsMerged out notes OtherQuote OtherRun OtherDue OtherBad result
+  merged_as Quote OtherQuote Told OtherRun Due OtherDue Bad OtherBad (Ok answer) quote tell due bad
+      is = noted_as out notes Quote OtherQuote Told OtherRun Due OtherDue (Ok answer) quote tell due is
+  merged_as Quote OtherQuote Told OtherRun Due OtherDue Bad OtherBad (Err (merging.Engine fault))
       quote tell due bad is =
-      noted_as out notes Quote OtherQuote Told OtherTold Due OtherDue (Err fault) quote tell due is
-  merged_as Quote OtherQuote Told OtherTold Due OtherDue Bad OtherBad
+      noted_as out notes Quote OtherQuote Told OtherRun Due OtherDue (Err fault) quote tell due is
+  merged_as Quote OtherQuote Told OtherRun Due OtherDue Bad OtherBad
       (Err (merging.Partial place fault other)) quote tell due bad is =
       (bad place fault other is.0, is.1, is.2)
 
   -- a refusal, after the note of the quote
-  refused : (IsQuote : List ℕ → Type 0) (IsTold : Telling → Type 0)
+  refused : (IsQuote : List ℕ → Type 0) (IsTold : RunText → Type 0)
       (IsDue : EngineFault → Type 0) (refusal : Refusal) (P : Type 0)
       → UnlessMemory why.OutOfMemory refusal P
       → (P → (refusal ≡ why.OutOfMemory → ⊥) → IsDue (engine.Refused refusal)) → IsUntouched out
-      → IsQuoteNoted notes IsQuote
-      → IsNoted out notes IsQuote IsTold IsDue (Err (fault_of_refusal refusal))
+      → HasGainedQuote notes IsQuote
+      → IsAnsweredWithNotes out notes IsQuote IsTold IsDue (Err (fault_of_refusal refusal))
   refused IsQuote IsTold IsDue why.OutOfMemory P is due same noted = (same, inr noted)
   refused IsQuote IsTold IsDue (why.TooCostly visits) P is due same noted =
       (elim is [ inl e ↦ absurd (cc e) | inr p ↦ due p (λ e. cc) ], same, noted)
@@ -105,12 +106,12 @@ module _ {S N : Type 0} (out : Change S) (notes : Change N) where
       (elim is [ inl e ↦ absurd (cc e) | inr p ↦ due p (λ e. cc) ], same, noted)
 
   -- the same, if the note was written
-  pub refused_after : (IsQuote : List ℕ → Type 0) (IsTold : Telling → Type 0)
+  pub refused_after : (IsQuote : List ℕ → Type 0) (IsTold : RunText → Type 0)
       (IsDue : EngineFault → Type 0) (note : List ℕ) (refusal : Refusal) (P : Type 0)
       (result : Result (Unit {0}) EngineFault) → UnlessMemory why.OutOfMemory refusal P
       → (P → (refusal ≡ why.OutOfMemory → ⊥) → IsDue (engine.Refused refusal)) → IsUntouched out
       → IsQuote note → IsRefusedAfter notes note refusal result
-      → IsNoted out notes IsQuote IsTold IsDue result
+      → IsAnsweredWithNotes out notes IsQuote IsTold IsDue result
   refused_after IsQuote IsTold IsDue note refusal P (Ok answer) is due same quote after =
       absurd after
   refused_after IsQuote IsTold IsDue note refusal P (Err fault) is due same quote after =
@@ -133,8 +134,8 @@ module _ {S : Type 0} (out : Change S) where
   unprinted (Err fault) same = unprinted_same fault same
 
 pub noted_unprinted : {S N : Type 0} (out : Change S) (notes : Change N)
-    (IsQuote : List ℕ → Type 0) (IsTold : Telling → Type 0) (result : Result (Unit {0}) EngineFault)
-    → IsNoted out notes IsQuote IsTold (λ fault. ⊥) result
+    (IsQuote : List ℕ → Type 0) (IsTold : RunText → Type 0) (result : Result (Unit {0}) EngineFault)
+    → IsAnsweredWithNotes out notes IsQuote IsTold (λ fault. ⊥) result
     → IfErr (as_merge result) (IsUnprinted out)
 noted_unprinted out notes IsQuote IsTold (Ok answer) noted = tt
 noted_unprinted out notes IsQuote IsTold (Err engine.OutOfMemory) noted = noted.0
@@ -181,7 +182,7 @@ module _ (most : ℕ) (whole : Database) (query : List ℕ) (p : Plan) (meant : 
       → (fact_rows whole ≤ most → first_refusal (world_of whole) most (compiled p)
       ≡ option_map admissible.Refused (turn_wide (bounds_in (rows_in whole)) p))
       → first_refusal (world_of whole) most (compiled p) ≡ refusal_view refusal
-      → (refusal ≡ why.OutOfMemory → ⊥) → IsUnfit most whole query refusal
+      → (refusal ≡ why.OutOfMemory → ⊥) → IsQueryRefusal most whole query refusal
   unfit refusal costly wide first is not_memory =
       let not_fit : ¬ FitsRows most whole query =
       λ fits. not_memory (none_viewed refusal (sym is ∙ fits_none fits)) in

@@ -1,4 +1,4 @@
--- The text of a partial tells its contents.
+-- The text of a partial prints its contents.
 use Rattle.std.proofs.Common.{◌≡◌, ◌<◌, ◌^◌, ◌∙◌, ◌++◌, ℕ, zero, suc, ℤ, pos, List, [], ◌∷◌, None, Option, Some, ap, append_assoc, arith, codes, get_or, length, refl, subst, sym}
 use Rattle.std.proofs.lemmas.List.{append_cancel_left}
 use Rattle.std.proofs.lemmas.List.Elements.{All-head, All-tail}

@@ -10,9 +10,9 @@ use Rattle.star_verify.specs.declared.refusal.Refusal.{Refusal}
 use Rattle.star_partial.specs.Contents.{Contents}
 use Rattle.star_merge_laws.specs.Tables.{all_of}
 use Rattle.star_merge_laws.proofs.Many.{too_many}
-use Rattle.star_engine.specs.{Loads.AreLoadedRows, Noted.Telling, Notes.quote_line, Queries.FitsRows, Queries.IsPlanOf, Queries.IsQueryQuote, Queries.IsQueryTold, Queries.IsQueryToldOver, Queries.IsUnanswered, Queries.IsUnfit, Queries.fact_rows}
+use Rattle.star_engine.specs.{Loads.AreLoadedRows, Notes.quote_line, Queries.FitsRows, Queries.IsPlanOf, Queries.IsQueryQuote, Queries.IsQueryRefusal, Queries.IsQueryRun, Queries.IsQueryRunError, Queries.IsQueryRunOver, Queries.fact_rows, WithNotes.RunText}
 use Rattle.star_engine.specs.declared.fault.EngineFault.TheVariants as engine
-use Rattle.star_merger.specs.{Private.Outcomes.IsMergedOutcome, Private.Shares.AreShares, Private.Shares.Share, Private.Shares.contents_of_shares, Private.Shares.share_rows, Private.Shares.whole_of, Private.Written.IsMergedTelling, Private.Written.telling_of}
+use Rattle.star_merger.specs.{Private.Outcomes.IsMergedOutcome, Private.Shares.AreShares, Private.Shares.Share, Private.Shares.contents_of_shares, Private.Shares.share_rows, Private.Shares.whole_of, Private.Written.IsMergedTelling, Private.Written.run_text_of}
 use Rattle.star_merger.specs.TextShares.{IsTextShare, TextShare, all_contents, whole_texts}
 use Rattle.std.proofs.lemmas.List.Sorted.{All-permutation, IsPermutation-map, IsPermutation-sym, length_permutation}
 use Rattle.std.specs.List.Sorted.{IsPermutation}
@@ -27,16 +27,16 @@ use Rattle.star_merger.proofs.{Results.loaded_rows, TextParts.contents_same, Tex
 
 told_over : (most visits count : ℕ) (note : List ℕ) (database : Database) (query : List ℕ)
     (p : Plan) (meant : IsPlanOf query p) (shares : List Share) (all : List Contents)
-    (telling : Telling) → AreShares most database query shares → all ≡ contents_of_shares shares
+    (run : RunText) → AreShares most database query shares → all ≡ contents_of_shares shares
     → count ≡ length (all_of (share_rows shares)) → note ≡ quote_line count
-    → FitsRows visits (whole_of database shares) query → IsMergedTelling p all count note telling
-    → IsQueryToldOver visits (whole_of database shares) query telling
-told_over most visits count note database query p meant shares all telling are same counted quoted
+    → FitsRows visits (whole_of database shares) query → IsMergedTelling p all count note run
+    → IsQueryRunOver visits (whole_of database shares) query run
+told_over most visits count note database query p meant shares all run are same counted quoted
     fits is =
     let merged = subst (λ (X : Type 0). X)
     (λ i. IsMergedOutcome p (same i) (counted i) is.outcome) is.merged in
-    subst (IsQueryToldOver visits (whole_of database shares) query)
-    (sym (is.told ∙ ap (λ note. telling_of note is.outcome) (quoted ∙ ap quote_line counted)))
+    subst (IsQueryRunOver visits (whole_of database shares) query)
+    (sym (is.told ∙ ap (λ note. run_text_of note is.outcome) (quoted ∙ ap quote_line counted)))
     (told most database query p meant visits shares is.outcome are merged fits)
 
 -- the parts in another order
@@ -71,10 +71,10 @@ module _ (rows visits : ℕ) (texts : TableTexts) (query hash : List ℕ) (xs ys
   contents_moved : IsPermutation (all_contents xs) (all_contents ys)
   contents_moved = IsPermutation-map (λ share. share.contents) xs ys moved
 
-  pub telling_moved : (p : Plan) (count : ℕ) (note : List ℕ) (telling : Telling)
-      → IsMergedTelling p (all_contents xs) count note telling
-      → IsMergedTelling p (all_contents ys) count note telling
-  telling_moved p count note telling is = record {
+  pub telling_moved : (p : Plan) (count : ℕ) (note : List ℕ) (run : RunText)
+      → IsMergedTelling p (all_contents xs) count note run
+      → IsMergedTelling p (all_contents ys) count note run
+  telling_moved p count note run is = record {
     outcome = is.outcome;
     merged = outcome_reordered p (all_contents xs) (all_contents ys) count is.outcome contents_moved
         is.merged;
@@ -98,7 +98,7 @@ module _ (rows visits : ℕ) (texts : TableTexts) (query hash : List ℕ) (share
   -- too many rows are due if there are too many
   pub too_many_due : (p : Plan) → IsPlanOf query p → (fault : LoadFault)
       → fault ≡ TooManyRows Lineorder → rows < fact_rows whole_rows
-      → IsUnanswered rows visits whole query (engine.Load fault)
+      → IsQueryRunError rows visits whole query (engine.Load fault)
   too_many_due p meant fault is many =
       let counted = records_counted (share ∷ shares) in (
         (p, meant),
@@ -127,22 +127,22 @@ module _ (rows visits : ℕ) (texts : TableTexts) (query hash : List ℕ) (share
       };
     }
 
-    pub telling_due : (count : ℕ) (note : List ℕ) (all : List Contents) (telling : Telling)
+    pub telling_due : (count : ℕ) (note : List ℕ) (all : List Contents) (run : RunText)
         → all ≡ all_contents (share ∷ shares) → count ≡ fact_rows whole_rows
         → note ≡ quote_line count → FitsRows visits whole_rows query
-        → IsMergedTelling p all count note telling → IsQueryTold rows visits whole query telling
-    telling_due count note all telling is counted quoted fits merged = record {
+        → IsMergedTelling p all count note run → IsQueryRun rows visits whole query run
+    telling_due count note all run is counted quoted fits merged = record {
       loadable = loads;
-      holds = subst (λ database. IsQueryToldOver visits database query telling) same
+      holds = subst (λ database. IsQueryRunOver visits database query run) same
           (told_over visits visits count note (database_of texts) query p meant
-          (row_shares (share ∷ shares)) all telling
+          (row_shares (share ∷ shares)) all run
           (own_shares rows visits texts query hash (share ∷ shares) are)
           (is ∙ contents_same (share ∷ shares)) counted quoted fits merged);
     }
 
-    pub refusal_due : (refusal : Refusal) → IsUnfit visits whole_rows query refusal
-        → IsUnanswered rows visits whole query (engine.Refused refusal)
+    pub refusal_due : (refusal : Refusal) → IsQueryRefusal visits whole_rows query refusal
+        → IsQueryRunError rows visits whole query (engine.Refused refusal)
     refusal_due refusal unfit = record {
       loadable = loads;
-      holds = subst (λ database. IsUnfit visits database query refusal) same unfit;
+      holds = subst (λ database. IsQueryRefusal visits database query refusal) same unfit;
     }

@@ -16,7 +16,7 @@ use Rattle.star_merge_laws.specs.{Parts.with_lineorder, Plain.plain_plan, Tables
 use Rattle.star_merge_laws.proofs.Rows.{joined_together, selected_together}
 use Rattle.star_merge.specs.{Cells.group_of, Merged.AreOfShape, Merged.ArePlainReports, Merged.IsMergedRows, Merged.PlainReport, Merged.groups_shown}
 use Rattle.star_merge.proofs.PlainReports.{merged_answer, of_shape}
-use Rattle.star_engine.specs.{Notes.counts_line, Notes.quote_line, Partials.IsPartialOver, Partials.IsPlainOutcome, Queries.FitsRows, Queries.IsPlanOf, Queries.IsQueryToldOver}
+use Rattle.star_engine.specs.{Notes.counts_line, Notes.quote_line, Partials.IsPartialOver, Partials.IsPlainOutcome, Queries.FitsRows, Queries.IsPlanOf, Queries.IsQueryRunOver}
 use Rattle.star_engine.proofs.PlansOfQueries.{plan_sound}
 use Rattle.star_merger.specs.{Private.Outcomes.IsMergedOutcome, Private.Outcomes.all_shown, Private.Outcomes.groups_of, Private.Shown.HasOwnFacts, Private.Shown.IsUsable, Private.Shown.counted, Private.Shown.lookups_in, Private.Shown.rows_shown, Private.Shown.updates_in}
 use Rattle.star_merger.specs.Private.Shares.{AreShares, Share, contents_of_shares, share_rows, whole_of}
@@ -280,7 +280,7 @@ module _ (most : ℕ) (database : Database) (query : List ℕ) (p : Plan) (meant
           (merged_answer database p reports outcome.rows sound all.plain rows)
 
       pub told : FitsRows visits whole query
-          → IsQueryToldOver visits whole query (record {
+          → IsQueryRunOver visits whole query (record {
             quoted = quote_line (length (all_of (share_rows shares)));
             report = report_text outcome.names outcome.rows;
             done = counts_line outcome.visits outcome.lookups outcome.updates;

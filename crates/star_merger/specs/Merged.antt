@@ -2,7 +2,7 @@
 use Rattle.std.specs.Prelude.{◌≡◌, ◌<◌, ℕ, Bool, false, List, None, Option, Some, Result, Ok, Err, map, slice_index_or}
 use Rattle.star_partial.specs.Contents.{Contents}
 use Rattle.star_merge_laws.specs.Parts.{Span, are_disjoint}
-use Rattle.star_engine.specs.{declared.fault.EngineFault.EngineFault, declared.fault.EngineFault.TheVariants.Write, Answered.Change, Answered.IsUntouched, Noted.IsNoted, Noted.Telling, Partials.span_view}
+use Rattle.star_engine.specs.{declared.fault.EngineFault.EngineFault, declared.fault.EngineFault.TheVariants.Write, Answered.Change, Answered.IsUntouched, WithNotes.IsAnsweredWithNotes, WithNotes.RunText, Partials.span_view}
 use Rattle.star_merger.specs.declared.fault.{PartialFault.TheVariants.Overflow, PartialFault.TheVariants.Overlap, PartialsFault.PartialsFault, PartialsFault.TheVariants.Engine, PartialsFault.TheVariants.Partial}
 
 -- the spans of partials
@@ -25,12 +25,12 @@ IsOverlap is_distinct spans _ = ⊥
 -- what a query's call writes and returns over all parts; or a fault of the partials, with both sinks
 -- unchanged
 abbrev pub IsMerged : {S N : Type 0} → Change S → Change N → (IsQuote : List ℕ → Type 0)
-    → (IsTold : Telling → Type 0) → (IsDue : EngineFault → Type 0)
+    → (IsTold : RunText → Type 0) → (IsDue : EngineFault → Type 0)
     → (IsBad : PartialsFault → Type 0) → Result (Unit {0}) PartialsFault → Type 0
 IsMerged out notes IsQuote IsTold IsDue IsBad (Ok answer) =
-    IsNoted out notes IsQuote IsTold IsDue (Ok answer)
+    IsAnsweredWithNotes out notes IsQuote IsTold IsDue (Ok answer)
 IsMerged out notes IsQuote IsTold IsDue IsBad (Err (Engine fault)) =
-    IsNoted out notes IsQuote IsTold IsDue (Err fault)
+    IsAnsweredWithNotes out notes IsQuote IsTold IsDue (Err fault)
 IsMerged out notes IsQuote IsTold IsDue IsBad (Err fault) =
     IsBad fault × IsUntouched out × IsUntouched notes
 

@@ -12,13 +12,13 @@ mod merges;
 mod order;
 mod outcome;
 mod pieces;
+mod printing;
 mod reading;
 mod spans;
 mod spelled;
-mod telling;
 mod writing;
 
 pub use fault::{PartialFault, PartialsFault};
 pub use merger::Merger;
+pub use printing::{partial_text, write_partial};
 pub use star_partial::Partial;
-pub use telling::{partial_text, write_partial};

@@ -2,7 +2,7 @@
 
 ghost use Rattle.std.specs.Prelude.{◌≡◌, ℕ, IfOk, List, MatchResult};
 ghost use Rattle.star_partial.specs.{Contents.Contents, Contents.contents_of, Text.partial_text};
-ghost use Rattle.star_engine.specs.{Answered.OrMemory, Queries.IsNoQuery};
+ghost use Rattle.star_engine.specs.{Answered.OrMemory, Queries.IsQueryError};
 ghost use Rattle.star_merger.specs.{Columns.column_kinds, Columns.column_names, Mergers.IsMergerOf, Spelled.IsSpelled};
 
 use crate::columns::{PartialColumn, columns_of};
@@ -28,7 +28,7 @@ pub struct Merger {
 impl Merger {
     /// Reads a query, or returns its first error.
     pub fn of_query(alloc: Global, text: &[u8]) -> Result<Merger, EngineFault>
-        ensures { MatchResult result (IsMergerOf text.now) (OrMemory (IsNoQuery text.now)) }
+        ensures { MatchResult result (IsMergerOf text.now) (OrMemory (IsQueryError text.now)) }
     {
         let query = Query::parse(alloc, text)?;
         let plan = plan(alloc, &query)?;

@@ -4,7 +4,7 @@ ghost use Rattle.std.specs.Prelude.{◌≡◌, ◌<◌, ◌∷◌, All, IfErr, �
 ghost use Rattle.std.specs.List.Sorted.{IsPermutation};
 ghost use Rattle.star_schema.specs.Database.{TableTexts};
 ghost use Rattle.star_partial.specs.Contents.{contents_of};
-ghost use Rattle.star_engine.specs.{Answered.change, Queries.IsQueryQuote, Queries.IsQueryTold, Queries.IsUnanswered};
+ghost use Rattle.star_engine.specs.{Answered.change, Queries.IsQueryQuote, Queries.IsQueryRun, Queries.IsQueryRunError};
 ghost use Rattle.star_merger.specs.{Merged.IsMerged, Merged.IsOverlap, Merged.IsUnprinted, Merged.spans_of, Mergers.IsMergerOf};
 ghost use Rattle.star_merger.specs.TextShares.{AreDistinct, IsTextShare, TextShare, all_contents, whole_texts};
 ghost use Rattle.star_merger.specs.{Private.Outcomes.IsUnmerged, Private.Written.IsMergedTelling, Private.Written.as_merge};
@@ -83,8 +83,8 @@ impl Merger {
             IsMerged (change S.contents S.is_failed out.old out.new)
             (change N.contents N.is_failed notes.old notes.new)
             (IsQueryQuote limits.rows whole query)
-            (IsQueryTold limits.rows limits.visits whole query)
-            (IsUnanswered limits.rows limits.visits whole query)
+            (IsQueryRun limits.rows limits.visits whole query)
+            (IsQueryRunError limits.rows limits.visits whole query)
             (IsOverlap is_distinct (spans_of (map contents_of partials.now))) result }
         ensures unprinted { IfErr result
             (IsUnprinted (change S.contents S.is_failed out.old out.new)) }

@@ -2,8 +2,8 @@
 
 ghost use Rattle.std.specs.Prelude.{◌≡◌, ◌<◌, IfOk, MatchResult, length, string_bytes};
 ghost use Rattle.star_report.specs.Report.{report_text};
-ghost use Rattle.star_engine.specs.{Answered.HasGained, Answered.IsWritten, Answered.change, declared.fault.EngineFault.TheVariants.Write, Noted.IsNoted, Notes.counts_line, Notes.quote_line, Private.Steps.AreBothWritten, Private.Steps.IsPart};
-ghost use Rattle.star_merger.specs.Private.Written.{IsRefusedAfter, telling_of};
+ghost use Rattle.star_engine.specs.{Answered.HasGained, Answered.IsWritten, Answered.change, declared.fault.EngineFault.TheVariants.Write, WithNotes.IsAnsweredWithNotes, Notes.counts_line, Notes.quote_line, Private.Steps.AreBothWritten, Private.Steps.IsPart};
+ghost use Rattle.star_merger.specs.Private.Written.{IsRefusedAfter, run_text_of};
 
 use star_common::{Sink, write_whole};
 use star_engine::EngineFault;
@@ -87,9 +87,9 @@ pub(crate) fn write_outcome<S: Sink, N: Sink>(
     notes: &mut N,
 ) -> Result<(), EngineFault>
     requires { 0 < length note.now }
-    ensures { IsNoted (change S.contents S.is_failed out.old out.new)
+    ensures { IsAnsweredWithNotes (change S.contents S.is_failed out.old out.new)
         (change N.contents N.is_failed notes.old notes.new) (λ quoted. quoted ≡ note.now)
-        (λ telling. telling ≡ telling_of note.now outcome.now) (λ fault. ⊥) result }
+        (λ run. run ≡ run_text_of note.now outcome.now) (λ fault. ⊥) result }
 {
     write_note(notes, note, 0)?;
     write_run(alloc, outcome, out, notes)

@@ -9,7 +9,7 @@ use Rattle.std.proofs.{lemmas.List.Sorted.ranks_by, lemmas.Map.Keys.IsDistinct-I
 use Rattle.star_schema.specs.{declared.group.SortKey.SortKey, Order.AreInOrder, Order.row_cmp}
 use Rattle.star_common.proofs.Members.{at_each, contains_here, contains_later, from_contains_map, of_each}
 use Rattle.star_program.specs.{declared.key.KeyValue.KeyValue, Keys.key_value_cmp}
-use Rattle.star_group.specs.{declared.group_row.GroupRow.GroupRow, OwnKeys.key_eq, StoreRows.row_view}
+use Rattle.star_group.specs.{declared.group_row.GroupRow.GroupRow, BaseKeys.key_eq, StoreRows.row_view}
 use Rattle.star_group.proofs.GroupKeys.{key_decides, key_equiv}
 use Rattle.star_outcome.specs.Private.RowOrder.{all_sorts, row_order}
 use Rattle.star_outcome.proofs.RowOrders.{AreAlike, row_total, rows_level, same_order}

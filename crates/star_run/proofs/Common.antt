@@ -5,7 +5,7 @@ pub use Rattle.star_column.specs.Masks.{lies, lies_unsigned, mask_of}
 unfoldable pub use Rattle.star_column.specs.Masks.{narrowed}
 pub use Rattle.star_common.proofs.{Firsts.first_answer_none, Firsts.or_none, Members.from_contains_map, Members.map_agree}
 pub use Rattle.star_group.proofs.Contents.{if_ok, on_ok}
-pub use Rattle.star_group.specs.{Batches.HasRoomForRows, Batches.IsPutBatch, Batches.batch_keys, Batches.put_in, Placed.Has, Placed.group_view, Stores.HasRoom, Stores.group_declared, declared.batch.PutBatch.PutBatch, declared.placed.PlacedStore.PlacedStore}
+pub use Rattle.star_group.specs.{ArrayStores.Has, ArrayStores.group_view, Batches.HasRoomForRows, Batches.IsPutBatch, Batches.batch_keys, Batches.put_in, Stores.HasRoom, Stores.group_declared, declared.array_store.ArrayStore.ArrayStore, declared.batch.PutBatch.PutBatch}
 pub use Rattle.star_interval.specs.Range.{is_i64}
 pub use Rattle.star_outcome.proofs.Fine.{is_declared, is_placed, is_readable, row_within, sound_keys, sound_update}
 pub use Rattle.star_outcome.proofs.{Registers.sound_set, Stored.of_same, Stored.with_put}
@@ -27,23 +27,23 @@ pub use Rattle.star_program.specs.{declared.body.Step.Step, declared.body.Step.T
 pub use Rattle.star_program.specs.{declared.fault.Fault.TheVariants.WrongKind, declared.fault.TrapKind.TrapKind, declared.fault.TrapKind.TheVariants.AbsentKey, declared.fault.TrapKind.TheVariants.Overflow, declared.fault.TrapKind.TheVariants.Wrong, declared.group.GroupDecl.GroupDecl}
 pub use Rattle.star_program.specs.{declared.group.GroupKey.GroupKey, declared.op.Op.Op, declared.op.Op.TheVariants.Assign, declared.op.Op.TheVariants.Keep, declared.op.Op.TheVariants.Put, declared.op.Operation.Operation, declared.op.Operator.Operator, declared.outcome.Cell.Cell}
 pub use Rattle.star_program.specs.{declared.outcome.Outcome.Outcome, declared.program.Parts.Parts, declared.program.Show.Show, declared.value.Kind.Kind, declared.value.Value.Value}
-pub use Rattle.star_run.specs.Private.Conditions.{IsConditionOf, IsMaybeOf, IsScanRow, TellsCondition, joined_by, row_asked}
+pub use Rattle.star_run.specs.Private.Conditions.{IsConditionOf, IsMaybeOf, IsScanRow, MatchesCondition, joined_by, row_asked}
 pub use Rattle.star_run.specs.Private.Contents.{IsNumberRead, IsRowRead, IsSafe, Says, content_in, word_known}
-pub use Rattle.star_run.specs.Private.FilterPrefix.{are_leading, code_behind, early, early_looks, is_leading, looked_up, looks, looks_before, looks_early, op_looks, registers_behind, shifted}
-pub use Rattle.star_run.specs.Private.Filters.{AreAhead, AreLeft, CanCount, FewLooks, IsAhead, IsKeyOf, IsTestOf, ends_at, filter_goes_on, found_row, lost, passes, row_referred}
-pub use Rattle.star_run.specs.Private.Laid.{AreFine, AreLaid, AreTraced, ComesFrom, IsFine, IsLaid, KeepsLaid, Laying, Lays, laid_in, laid_of, nothing, source_of}
-pub use Rattle.star_run.specs.Private.Lanes.{AreLanesCut, AreNotBefore, ArePut, AreReady, CanMakeIn, CanPutAll, CanPutRows, CanSweep, HasLaid, HasLane, HasRunLanes, IsAtCode, IsBatch, IsHeldNarrow, IsLaneWritten, IsOnly, IsPutOf, IsReadyAt, code_from_put, is_kept, is_straight, looks_among}
-pub use Rattle.star_run.specs.Private.Lanes.{looks_run, made_in, places_kept, places_set, registers_put, row_of_word, rows_left, sum_over, updates_after, with_updates, word_in, words_at}
-pub use Rattle.star_run.specs.Private.Leading.{AreRead, AreTold, AreWords, IsLeading, is_known, is_told, read_content}
+pub use Rattle.star_run.specs.Private.FilterPrefix.{code_after, early, early_looks, is_prefix, looked_up, looks, looks_before, looks_early, op_looks, reads_no_total, registers_after, shifted}
+pub use Rattle.star_run.specs.Private.Filters.{AreFiltered, AreSelected, CanCount, FewLooks, IsFiltered, IsKeyOf, IsTestOf, ends_at, filter_goes_on, found_row, lost, passes, row_referred}
+pub use Rattle.star_run.specs.Private.RegisterFacts.{AddingFacts, AddsFacts, AreFine, AreTraced, ComesFrom, HasFacts, HaveFacts, IsFine, KeepsFacts, facts_in, facts_of, nothing, source_of}
+pub use Rattle.star_run.specs.Private.Vectors.{AreCompacted, AreNotBefore, ArePut, AreReady, CanMakeIn, CanPutAll, CanPutRows, CanRunBatch, HasEvaluated, HasMaterialized, HasVectorWord, IsAtCode, IsBatch, IsHeldNarrow, IsOnly, IsPutOf, IsReadyAt, IsVectorWritten, code_from_put, is_straight, looks_among, passes_keeps}
+pub use Rattle.star_run.specs.Private.Vectors.{looks_run, made_in, positions_passing, positions_set, registers_put, row_of_word, selected_rows, sum_over, updates_after, with_updates, word_in, words_at}
+pub use Rattle.star_run.specs.Private.PushedFilters.{AreDetermined, ArePushed, AreRead, AreWords, is_determined, is_known, read_content}
 pub use Rattle.star_run.specs.Private.Plans.{IsContentMade, IsMadeAt, IsNew, JoinsAt, Planned, PlannedOf, Prefix, condition_in, is_comparison, registers_at, registers_first}
 pub use Rattle.star_run.specs.Private.Puts.{AreKeyed, AreNumbered, CanPut, IsKeyAt, IsKeyWord, key_word}
-pub use Rattle.star_run.specs.Private.Walks.{CanMake, Ends, Finishes, Follows, Going, Holding, IsReady, Leaves, Makes, Turns, effort, means, rows_of, turn}
+pub use Rattle.star_run.specs.Private.Execution.{CanMake, Ends, Finishes, Follows, Going, Holding, IsReady, Leaves, Makes, Turns, effort, means, rows_of, turn}
 pub use Rattle.star_run.specs.Private.Words.{HasNarrowWord, IsFitting, IsWordKept, Keeps, Stand, flag_word, is_set, value_word, word, word_answer}
 pub use Rattle.star_run.specs.declared.contents.Content.TheVariants.{Before, Found, Own, Referred, ScanRow, Unknown}
 pub use Rattle.star_run.specs.{Private.Columns.AreColumns, Private.Columns.column_words, Private.Columns.words_of_kind, Private.Finds.CanFind, Private.Finds.IsLoadedFrom, Private.Flags.AllAre, Private.Flags.IsFlagOf, Private.Flags.IsTested, Private.Predicates.AreMasks}
 pub use Rattle.star_run.specs.{Private.Predicates.IsOver, Private.Predicates.batch_rows, Private.Predicates.predicate_holds, Private.Reads.is_source, Private.Reads.op_reads, Private.Reads.operation_reads, Private.Reads.reads, Private.Spans.compared_by, Private.Spans.lies_within}
 pub use Rattle.star_run.specs.{ShownRanges.ShownLie, ShownRanges.reported_range, declared.conditions.Condition.Condition, declared.contents.Content.Content, declared.filters.Filter.Filter, declared.filters.Test.Test, declared.filters.Test.TheVariants.Among}
-pub use Rattle.star_run.specs.{declared.filters.Test.TheVariants.Flagged, declared.laid.Laid.Laid, declared.laid.Source.Source, declared.leading.Leading.Leading, declared.machine.Machine.Machine, declared.plan.Made.Made, declared.plan.Plan.Plan, declared.predicates.Predicate.Predicate}
+pub use Rattle.star_run.specs.{declared.filters.Test.TheVariants.Flagged, declared.machine.Machine.Machine, declared.plan.Made.Made, declared.plan.Plan.Plan, declared.predicates.Predicate.Predicate, declared.pushed_filters.PushedFilters.PushedFilters, declared.register_facts.RegisterFacts.RegisterFacts, declared.register_facts.Source.Source}
 pub use Rattle.star_run.specs.{declared.predicates.Predicate.TheVariants.Range}
 pub use Rattle.star_safety.proofs.{Always.accepted_throughout, BeforePuts.moment_of, BeforePuts.no_fault, BeforePuts.room_before, Forward.first_standing, Instructions.unmapped_none, Sound.at_place_none}
 pub use Rattle.star_safety.specs.Contexts.{Context, after_op, after_scan, aggregate_in_group, at_end, at_first, in_scan, is_target}

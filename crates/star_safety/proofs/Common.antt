@@ -3,7 +3,7 @@ pub use Rattle.star_common.proofs.Members.{at_each, contains_cases, contains_her
 pub use Rattle.star_common.proofs.{Firsts.all_without_answer, Firsts.first_answer_none, Firsts.or_none, Tables.Gives, Tables.Gives2, Tables.Gives3}
 unfoldable pub use Rattle.star_common.specs.First.{first_answer}
 pub use Rattle.star_group.proofs.{GroupKeys.key_decides, GroupKeys.key_equiv, Rooms.count_small, SmallNumbers.small_room}
-pub use Rattle.star_group.specs.{OwnKeys.key_eq, Stores.AddUp, Stores.HasRoom, Stores.group_declared}
+pub use Rattle.star_group.specs.{BaseKeys.key_eq, Stores.AddUp, Stores.HasRoom, Stores.group_declared}
 unfoldable pub use Rattle.star_group.specs.Stores.{above_zero, below_zero}
 pub use Rattle.star_interval.proofs.Ranges.{holds_within, hull_within, range_same, within_hull_left, within_hull_right, within_trans}
 pub use Rattle.star_interval.proofs.{Products.products_held, Sums.differences_held, Sums.sum_ends, Sums.sums_held}

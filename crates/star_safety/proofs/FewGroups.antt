@@ -188,10 +188,11 @@ module _ {K : Type 0} where
   chosen (None ∷ qs) [] (vs ∷ vss) e h = absurd (omega (arith, e))
   chosen (Some k ∷ qs) [] (vs ∷ vss) e h = absurd (omega (arith, e))
 
-  all_hidden : (qs : List (Option K)) → list_all is_none qs ≡ true → qs ≡ replicate (length qs) None
-  all_hidden [] e = refl
-  all_hidden (None ∷ qs) e = ap (λ r. None ∷ r) (all_hidden qs e)
-  all_hidden (Some k ∷ qs) e = absurd (true≢false (sym e))
+  all_rolled_up : (qs : List (Option K)) → list_all is_none qs ≡ true → qs
+      ≡ replicate (length qs) None
+  all_rolled_up [] e = refl
+  all_rolled_up (None ∷ qs) e = ap (λ r. None ∷ r) (all_rolled_up qs e)
+  all_rolled_up (Some k ∷ qs) e = absurd (true≢false (sym e))
 
   module _ (rows : List (List K)) (vss : List (List K)) (updates : ℕ)
       (few : length rows ≤ updates) where
@@ -253,7 +254,7 @@ module _ {K : Type 0} where
             else choices (like qs counts) vss)) qs
         by true h =
             subst (Contains (replicate (length vss) None ∷ []))
-            (ap (λ n. replicate n None) (sym e) ∙ sym (all_hidden qs (sym hidden ∙ h)))
+            (ap (λ n. replicate n None) (sym e) ∙ sym (all_rolled_up qs (sym hidden ∙ h)))
             (contains_here (replicate (length vss) None) [])
         by false h = shown (nat_le updates (lists_of (like qs counts))) (sym hidden ∙ h)
 

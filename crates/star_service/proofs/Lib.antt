@@ -1,6 +1,6 @@
 mod NameLemmas
-mod Conversing
+mod RunningStatements
 mod ReportLemmas
 mod SessionLemmas
-mod Telling
+mod PrintingFaults
 mod WorkedFaults

@@ -2,50 +2,50 @@
 use Rattle.std.proofs.Common.{◌≡◌, ◌∙◌, ◌++◌, ◌+◌, ◌<◌, ◌&&◌, ℕ, suc, List, [], ◌∷◌, Bool, true, false, Option, Some, None, ap, drop, get_or, inl, inr, length, refl, subst, sym, take}
 use Rattle.std.proofs.{Math.Bool.and-true, Math.Bool.and_assoc, Math.Seq.drop-cons, lemmas.List.take-append-drop, lemmas.List.take_more}
 use Rattle.std.specs.Prelude.{Result, Ok, Err}
-use Rattle.star_engine.specs.{declared.fault.EngineFault.EngineFault, Answered.Change, Answered.HasGained, Answered.OrMemory, Loads.Loaded, Noted.Telling, Tellings.IsFileToldOver, Tellings.IsJudgedOver, Tellings.IsUnjudgedOver}
-use Rattle.star_service.specs.Reports.{AreDelivered, AreJudged, IsDelivered, IsDue, IsHalted, IsJudged, IsJudgingHalted, named_line, refused_line, told_line}
-use Rattle.star_service.specs.Shelves.{HasKept, HasKeptNone, KeepsAll, Kept, Shelving, shelving}
-use Rattle.star_service.specs.{Private.ReportSteps.IsKeptAndTold, Private.ReportSteps.IsLineWritten, Private.ReportSteps.IsRefusalTold, declared.reports.Errand.Errand, declared.reports.Halt.Halt, declared.reports.Halt.TheVariants.OutOfMemory, declared.reports.Halt.TheVariants.Unkept}
+use Rattle.star_engine.specs.{declared.fault.EngineFault.EngineFault, Answered.Change, Answered.HasGained, Answered.OrMemory, Loads.Loaded, WithNotes.RunText, RunTexts.IsFileRunOver, RunTexts.IsForecastOver, RunTexts.IsForecastErrorOver}
+use Rattle.star_service.specs.Reports.{AreJobsForecast, AreJobsRun, IsDue, IsForecastHalted, IsHalted, IsJobForecast, IsJobRun, named_line, refused_line, run_line}
+use Rattle.star_service.specs.ReportSinks.{HasStored, HasStoredNone, HaveSameReports, SinkChange, StoredReport, sink_change}
+use Rattle.star_service.specs.{Private.ReportSteps.IsLineWritten, Private.ReportSteps.IsRefusalPrinted, Private.ReportSteps.IsStoredAndPrinted, declared.reports.Halt.Halt, declared.reports.Halt.TheVariants.OutOfMemory, declared.reports.Halt.TheVariants.Unstored, declared.reports.ReportJob.ReportJob}
 use Rattle.star_service.specs.{declared.reports.Halt.TheVariants.Unwritten}
 use Rattle.star_engine.specs.declared.fault.EngineFault.TheVariants as engine
 
-keeps_self : (known : Option (List Kept)) → KeepsAll known known
-keeps_self None = tt
-keeps_self (Some reports) = refl
+same_self : (known : Option (List StoredReport)) → HaveSameReports known known
+same_self None = tt
+same_self (Some reports) = refl
 
--- a shelf that no report is put on keeps those that it has
-pub kept_none : {K : Type 0} (reports : K → Option (List Kept)) (failed_at : K → Option ℕ)
-    (shelf : K)
-    → HasKeptNone (shelving reports failed_at shelf shelf)
-kept_none reports failed_at shelf = record { same = keeps_self (reports shelf); untried = refl }
+-- a report sink that no report is put on keeps those that it has
+pub stored_none : {K : Type 0} (reports : K → Option (List StoredReport)) (failed_at : K → Option ℕ)
+    (sink : K)
+    → HasStoredNone (sink_change reports failed_at sink sink)
+stored_none reports failed_at sink = record { same = same_self (reports sink); untried = refl }
 
 module _ {K S : Type 0} (loaded : Loaded) where
-  pub delivered_more : (errands : List Errand) (errand : Errand) (shelf : Shelving K)
+  pub delivered_more : (jobs : List ReportJob) (job : ReportJob) (sink : SinkChange K)
       (out : Change S)
-      (kept : K) (told : S) (all answered : Bool)
-      → AreDelivered loaded errands (record shelf { new = kept }) (record out { new = told }) all
-      → IsDelivered loaded errand.name.now errand.file.now (record shelf { old = kept })
-      (record out { old = told }) (Ok answered)
-      → AreDelivered loaded (errands ++ errand ∷ []) shelf out (all && answered)
-  delivered_more [] errand shelf out kept told all answered before here =
-      let P : K → S → Type 0 = λ k s. IsDelivered loaded errand.name.now errand.file.now
-      (record shelf { old = k }) (record out { old = s }) (Ok answered) in (
+      (stored : K) (printed : S) (all answered : Bool)
+      → AreJobsRun loaded jobs (record sink { new = stored }) (record out { new = printed }) all
+      → IsJobRun loaded job.name.now job.file.now (record sink { old = stored })
+      (record out { old = printed }) (Ok answered)
+      → AreJobsRun loaded (jobs ++ job ∷ []) sink out (all && answered)
+  delivered_more [] job sink out stored printed all answered before here =
+      let P : K → S → Type 0 = λ k s. IsJobRun loaded job.name.now job.file.now
+      (record sink { old = k }) (record out { old = s }) (Ok answered) in (
         answered,
         (
           true,
           (
-            shelf.new,
+            sink.new,
             (
               out.new,
               (
-                subst (λ s. P shelf.old s) before.1 (subst (λ k. P k told) before.0 here),
+                subst (λ s. P sink.old s) before.1 (subst (λ k. P k printed) before.0 here),
                 ((refl, refl, refl), ap (λ b. b && answered) before.2 ∙ sym (and-true answered)),
               ),
             ),
           ),
         ),
       )
-  delivered_more (first ∷ others) errand shelf out kept told all answered
+  delivered_more (first ∷ others) job sink out stored printed all answered
       (a, (r, (k, (t, (here, (rest, e)))))) last = (
         a,
         (
@@ -57,8 +57,8 @@ module _ {K S : Type 0} (loaded : Loaded) where
               (
                 here,
                 (
-                  delivered_more others errand (record shelf { old = k }) (record out { old = t }) kept
-                      told r answered rest last,
+                  delivered_more others job (record sink { old = k }) (record out { old = t }) stored
+                      printed r answered rest last,
                   ap (λ b. b && answered) e ∙ and_assoc a r answered,
                 ),
               ),
@@ -68,14 +68,14 @@ module _ {K S : Type 0} (loaded : Loaded) where
       )
 
 module _ {S : Type 0} (loaded : Loaded) where
-  pub judged_more : (errands : List Errand) (errand : Errand) (out : Change S)
-      (told : S) (all accepted : Bool)
-      → AreJudged loaded errands (record out { new = told }) all
-      → IsJudged loaded errand.name.now errand.file.now (record out { old = told }) (Ok accepted)
-      → AreJudged loaded (errands ++ errand ∷ []) out (all && accepted)
-  judged_more [] errand out told all accepted before here =
+  pub forecast_more : (jobs : List ReportJob) (job : ReportJob) (out : Change S)
+      (printed : S) (all accepted : Bool)
+      → AreJobsForecast loaded jobs (record out { new = printed }) all
+      → IsJobForecast loaded job.name.now job.file.now (record out { old = printed }) (Ok accepted)
+      → AreJobsForecast loaded (jobs ++ job ∷ []) out (all && accepted)
+  forecast_more [] job out printed all accepted before here =
       let P : S → Type 0 = λ s.
-      IsJudged loaded errand.name.now errand.file.now (record out { old = s }) (Ok accepted) in (
+      IsJobForecast loaded job.name.now job.file.now (record out { old = s }) (Ok accepted) in (
         accepted,
         (
           true,
@@ -88,166 +88,170 @@ module _ {S : Type 0} (loaded : Loaded) where
           ),
         ),
       )
-  judged_more (first ∷ others) errand out told all accepted (a, (r, (t, (here, (rest, e))))) last = (
-    a,
-    (
-      r && accepted,
-      (
-        t,
+  forecast_more (first ∷ others) job out printed all accepted
+      (a, (r, (t, (here, (rest, e))))) last = (
+        a,
         (
-          here,
+          r && accepted,
           (
-            judged_more others errand (record out { old = t }) told r accepted rest last,
-            ap (λ b. b && accepted) e ∙ and_assoc a r accepted,
+            t,
+            (
+              here,
+              (
+                forecast_more others job (record out { old = t }) printed r accepted rest last,
+                ap (λ b. b && accepted) e ∙ and_assoc a r accepted,
+              ),
+            ),
           ),
         ),
-      ),
-    ),
-  )
+      )
 
--- a report that was kept, and its line told
-pub kept_delivered : {K S : Type 0} (loaded : Loaded) (name file : List ℕ) (telling : Telling)
-    (shelf : Shelving K) (out : Change S)
-    → IsFileToldOver loaded.visits loaded.database file telling
-    → HasKept shelf name telling.report → HasGained out (told_line name telling)
-    → IsDelivered loaded name file shelf out (Ok true)
-kept_delivered loaded name file telling shelf out told kept gained = (
-  told_line name telling,
-  record { telling = telling; told = told; kept = kept; lined = refl },
+-- a report that was kept, and its line printed
+pub stored_run : {K S : Type 0} (loaded : Loaded) (name file : List ℕ) (run : RunText)
+    (sink : SinkChange K) (out : Change S)
+    → IsFileRunOver loaded.visits loaded.database file run
+    → HasStored sink name run.report → HasGained out (run_line name run)
+    → IsJobRun loaded name file sink out (Ok true)
+stored_run loaded name file run sink out printed stored gained = (
+  run_line name run,
+  record { run = run; printed = printed; stored = stored; lined = refl },
   gained,
 )
 
--- the line of a fault that is due was told, or not to its end
+-- the line of a fault that is due was printed, or not to its end
 refusal_delivered : {K S : Type 0} (loaded : Loaded) (name file : List ℕ) (fault : EngineFault)
-    (shelf : Shelving K) (out : Change S) (result : Result Bool Halt) → HasKeptNone shelf
-    → IsUnjudgedOver loaded.visits loaded.database file fault → IsRefusalTold name fault out result
-    → IsDelivered loaded name file shelf out result
-refusal_delivered loaded name file fault shelf out (Ok answered) none due told =
+    (sink : SinkChange K) (out : Change S) (result : Result Bool Halt) → HasStoredNone sink
+    → IsForecastErrorOver loaded.visits loaded.database file fault
+    → IsRefusalPrinted name fault out result
+    → IsJobRun loaded name file sink out result
+refusal_delivered loaded name file fault sink out (Ok answered) none due printed =
     let line = refused_line name fault in
-    let refused : IsDue loaded name file shelf false line =
-    (record { fault = fault; due = due; told = refl }, none) in
-    (line, subst (λ b. IsDue loaded name file shelf b line) (sym told.0) refused, told.1)
-refusal_delivered loaded name file fault shelf out (Err OutOfMemory) none due told =
-    (told, inl none)
-refusal_delivered loaded name file fault shelf out (Err (Unkept named sent)) none due told =
-    absurd told
-refusal_delivered loaded name file fault shelf out (Err (Unwritten sent)) none due told = (
+    let refused : IsDue loaded name file sink false line =
+    (record { fault = fault; due = due; printed = refl }, none) in
+    (line, subst (λ b. IsDue loaded name file sink b line) (sym printed.0) refused, printed.1)
+refusal_delivered loaded name file fault sink out (Err OutOfMemory) none due printed =
+    (printed, inl none)
+refusal_delivered loaded name file fault sink out (Err (Unstored named sent)) none due printed =
+    absurd printed
+refusal_delivered loaded name file fault sink out (Err (Unwritten sent)) none due printed = (
   false,
   (
     refused_line name fault,
-    ((record { fault = fault; due = due; told = refl }, none), told),
+    ((record { fault = fault; due = due; printed = refl }, none), printed),
   ),
 )
 
--- of want of memory no line was told
+-- of want of memory no line was printed
 pub refused_delivered : {K S : Type 0} (loaded : Loaded) (name file : List ℕ) (fault : EngineFault)
-    (shelf : Shelving K) (out : Change S) (result : Result Bool Halt) → HasKeptNone shelf
-    → OrMemory (IsUnjudgedOver loaded.visits loaded.database file) fault
-    → IsRefusalTold name fault out result → (fault ≡ engine.OutOfMemory → result ≡ Err OutOfMemory)
-    → IsDelivered loaded name file shelf out result
-refused_delivered loaded name file engine.OutOfMemory shelf out result none due told memory =
-    let untold = subst (λ r. IsRefusalTold name engine.OutOfMemory out r) (memory refl) told in
-    subst (λ r. IsDelivered loaded name file shelf out r) (sym (memory refl)) (untold, inl none)
-refused_delivered loaded name file (engine.Write sent) shelf out result none due told memory =
+    (sink : SinkChange K) (out : Change S) (result : Result Bool Halt) → HasStoredNone sink
+    → OrMemory (IsForecastErrorOver loaded.visits loaded.database file) fault
+    → IsRefusalPrinted name fault out result → (fault ≡ engine.OutOfMemory → result
+    ≡ Err OutOfMemory)
+    → IsJobRun loaded name file sink out result
+refused_delivered loaded name file engine.OutOfMemory sink out result none due printed memory =
+    let untold = subst (λ r. IsRefusalPrinted name engine.OutOfMemory out r)
+    (memory refl) printed in
+    subst (λ r. IsJobRun loaded name file sink out r) (sym (memory refl)) (untold, inl none)
+refused_delivered loaded name file (engine.Write sent) sink out result none due printed memory =
     absurd due
-refused_delivered loaded name file fault shelf out result none due told memory =
-    refusal_delivered loaded name file fault shelf out result none due told
+refused_delivered loaded name file fault sink out result none due printed memory =
+    refusal_delivered loaded name file fault sink out result none due printed
 
--- a report that was told, and could not be kept or its line not written
-pub kept_halted : {K S : Type 0} (loaded : Loaded) (name file : List ℕ) (telling : Telling)
-    (shelf : Shelving K) (out : Change S) (halt : Halt)
-    → IsFileToldOver loaded.visits loaded.database file telling
-    → IsKeptAndTold name telling shelf out (Err halt)
-    → IsDelivered loaded name file shelf out (Err halt)
-kept_halted loaded name file telling shelf out OutOfMemory told is = (
+-- a report that was printed, and could not be kept or its line not written
+pub stored_halted : {K S : Type 0} (loaded : Loaded) (name file : List ℕ) (run : RunText)
+    (sink : SinkChange K) (out : Change S) (halt : Halt)
+    → IsFileRunOver loaded.visits loaded.database file run
+    → IsStoredAndPrinted name run sink out (Err halt)
+    → IsJobRun loaded name file sink out (Err halt)
+stored_halted loaded name file run sink out OutOfMemory printed is = (
   is.0,
   elim is.1 [
     | inl none ↦ inl none
-    | inr kept ↦ inr (
-      told_line name telling,
-      record { telling = telling; told = told; kept = kept; lined = refl },
+    | inr stored ↦ inr (
+      run_line name run,
+      record { run = run; printed = printed; stored = stored; lined = refl },
     )
   ],
 )
-kept_halted loaded name file telling shelf out (Unkept named sent) told is =
-    (is.0, record { telling = telling; told = told; failed = is.1 }, is.2)
-kept_halted loaded name file telling shelf out (Unwritten sent) told is = (
+stored_halted loaded name file run sink out (Unstored named sent) printed is =
+    (is.0, record { run = run; printed = printed; failed = is.1 }, is.2)
+stored_halted loaded name file run sink out (Unwritten sent) printed is = (
   true,
   (
-    told_line name telling,
-    (record { telling = telling; told = told; kept = is.0; lined = refl }, is.1),
+    run_line name run,
+    (record { run = run; printed = printed; stored = is.0; lined = refl }, is.1),
   ),
 )
 
 -- a forecast whose line could not be written
 pub forecast_halted : {S : Type 0} (loaded : Loaded) (name file forecast line : List ℕ)
     (out : Change S)
-    (halt : Halt) → IsJudgedOver loaded.visits loaded.database file forecast
+    (halt : Halt) → IsForecastOver loaded.visits loaded.database file forecast
     → line ≡ named_line name forecast → IsLineWritten out line (Err halt)
-    → IsJudged loaded name file out (Err halt)
+    → IsJobForecast loaded name file out (Err halt)
 forecast_halted loaded name file forecast line out OutOfMemory judged lined never = absurd never
-forecast_halted loaded name file forecast line out (Unkept named sent) judged lined never =
+forecast_halted loaded name file forecast line out (Unstored named sent) judged lined never =
     absurd never
 forecast_halted loaded name file forecast line out (Unwritten sent) judged lined part =
     (true, (line, ((forecast, judged, lined), part)))
 
 -- ---- by their places
 
-module _ {K S : Type 0} (loaded : Loaded) (errands : List Errand) (i : ℕ) (d : Errand)
-    (below : i < length errands) (shelf : Shelving K) (out : Change S) (kept : K) (told : S)
+module _ {K S : Type 0} (loaded : Loaded) (jobs : List ReportJob) (i : ℕ) (d : ReportJob)
+    (below : i < length jobs) (sink : SinkChange K) (out : Change S) (stored : K) (printed : S)
     (all : Bool)
-    (before : AreDelivered loaded (take i errands) (record shelf { new = kept })
-    (record out { new = told }) all) where
+    (before : AreJobsRun loaded (take i jobs) (record sink { new = stored })
+    (record out { new = printed }) all) where
   pub delivered_next : (answered : Bool)
-      → IsDelivered loaded (get_or errands i d).name.now (get_or errands i d).file.now
-      (record shelf { old = kept }) (record out { old = told }) (Ok answered)
-      → AreDelivered loaded (take (i + 1) errands) shelf out (all && answered)
+      → IsJobRun loaded (get_or jobs i d).name.now (get_or jobs i d).file.now
+      (record sink { old = stored }) (record out { old = printed }) (Ok answered)
+      → AreJobsRun loaded (take (i + 1) jobs) sink out (all && answered)
   delivered_next answered here =
-      subst (λ es. AreDelivered loaded es shelf out (all && answered))
-      (sym (take_more errands i d below))
-      (delivered_more loaded (take i errands) (get_or errands i d) shelf out kept told all answered
+      subst (λ es. AreJobsRun loaded es sink out (all && answered))
+      (sym (take_more jobs i d below))
+      (delivered_more loaded (take i jobs) (get_or jobs i d) sink out stored printed all answered
       before here)
 
   pub delivery_halted : (halt : Halt)
-      → IsDelivered loaded (get_or errands i d).name.now (get_or errands i d).file.now
-      (record shelf { old = kept }) (record out { old = told }) (Err halt)
-      → IsHalted loaded errands shelf out halt
+      → IsJobRun loaded (get_or jobs i d).name.now (get_or jobs i d).file.now
+      (record sink { old = stored }) (record out { old = printed }) (Err halt)
+      → IsHalted loaded jobs sink out halt
   delivery_halted halt here = record {
-    before = take i errands;
-    here = get_or errands i d;
-    behind = drop (suc i) errands;
-    parts = sym (take-append-drop i errands)
-        ∙ ap (λ l. take i errands ++ l) (drop-cons errands i d below);
+    before = take i jobs;
+    here = get_or jobs i d;
+    behind = drop (suc i) jobs;
+    parts = sym (take-append-drop i jobs)
+        ∙ ap (λ l. take i jobs ++ l) (drop-cons jobs i d below);
     all = all;
-    kept = kept;
-    told = told;
+    stored = stored;
+    printed = printed;
     delivered = before;
     halted = here;
   }
 
-module _ {S : Type 0} (loaded : Loaded) (errands : List Errand) (i : ℕ) (d : Errand)
-    (below : i < length errands) (out : Change S) (told : S) (all : Bool)
-    (before : AreJudged loaded (take i errands) (record out { new = told }) all) where
-  pub judged_next : (accepted : Bool)
-      → IsJudged loaded (get_or errands i d).name.now (get_or errands i d).file.now
-      (record out { old = told }) (Ok accepted)
-      → AreJudged loaded (take (i + 1) errands) out (all && accepted)
-  judged_next accepted here =
-      subst (λ es. AreJudged loaded es out (all && accepted)) (sym (take_more errands i d below))
-      (judged_more loaded (take i errands) (get_or errands i d) out told all accepted before here)
+module _ {S : Type 0} (loaded : Loaded) (jobs : List ReportJob) (i : ℕ) (d : ReportJob)
+    (below : i < length jobs) (out : Change S) (printed : S) (all : Bool)
+    (before : AreJobsForecast loaded (take i jobs) (record out { new = printed }) all) where
+  pub forecast_next : (accepted : Bool)
+      → IsJobForecast loaded (get_or jobs i d).name.now (get_or jobs i d).file.now
+      (record out { old = printed }) (Ok accepted)
+      → AreJobsForecast loaded (take (i + 1) jobs) out (all && accepted)
+  forecast_next accepted here =
+      subst (λ es. AreJobsForecast loaded es out (all && accepted)) (sym (take_more jobs i d below))
+      (forecast_more loaded (take i jobs) (get_or jobs i d) out printed all accepted before here)
 
   pub judging_halted : (halt : Halt)
-      → IsJudged loaded (get_or errands i d).name.now (get_or errands i d).file.now
-      (record out { old = told }) (Err halt)
-      → IsJudgingHalted loaded errands out halt
+      → IsJobForecast loaded (get_or jobs i d).name.now (get_or jobs i d).file.now
+      (record out { old = printed }) (Err halt)
+      → IsForecastHalted loaded jobs out halt
   judging_halted halt here = record {
-    before = take i errands;
-    here = get_or errands i d;
-    behind = drop (suc i) errands;
-    parts = sym (take-append-drop i errands)
-        ∙ ap (λ l. take i errands ++ l) (drop-cons errands i d below);
+    before = take i jobs;
+    here = get_or jobs i d;
+    behind = drop (suc i) jobs;
+    parts = sym (take-append-drop i jobs)
+        ∙ ap (λ l. take i jobs ++ l) (drop-cons jobs i d below);
     all = all;
-    told = told;
+    printed = printed;
     judged = before;
     halted = here;
   }

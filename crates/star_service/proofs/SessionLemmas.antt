@@ -8,13 +8,13 @@ use Rattle.star_service.specs.Sessions.{AreAllAnswered, AreAnswered, AreRounds, 
 module _ {S E : Type 0} (loaded : Loaded) (is_terminal : Bool) where
   pub rounds_more : (statements : List (List ℕ)) (statement : List ℕ) (out : Change S)
       (err : Change E)
-      (told : S) (noted : E)
-      → AreRounds loaded is_terminal statements (record out { new = told })
+      (printed : S) (noted : E)
+      → AreRounds loaded is_terminal statements (record out { new = printed })
       (record err { new = noted })
-      → IsRound loaded is_terminal statement (record out { old = told })
+      → IsRound loaded is_terminal statement (record out { old = printed })
       (record err { old = noted }) true
       → AreRounds loaded is_terminal (statements ++ statement ∷ []) out err
-  rounds_more [] statement out err told noted before round = (
+  rounds_more [] statement out err printed noted before round = (
     out.new,
     (
       err.new,
@@ -27,13 +27,13 @@ module _ {S E : Type 0} (loaded : Loaded) (is_terminal : Bool) where
       ),
     ),
   )
-  rounds_more (first ∷ others) statement out err told noted (t, (n, (here, rest))) round = (
+  rounds_more (first ∷ others) statement out err printed noted (t, (n, (here, rest))) round = (
     t,
     (
       n,
       (
         here,
-        rounds_more others statement (record out { old = t }) (record err { old = n }) told noted
+        rounds_more others statement (record out { old = t }) (record err { old = n }) printed noted
             rest round,
       ),
     ),
@@ -41,10 +41,10 @@ module _ {S E : Type 0} (loaded : Loaded) (is_terminal : Bool) where
 
   -- one statement more
   module _ (old mid new : Option (List ℕ)) (statements : List (List ℕ)) (statement kept : List ℕ)
-      (out : Change S) (err : Change E) (told : S) (noted : E)
-      (before : AreAnswered loaded is_terminal old mid statements (record out { new = told })
+      (out : Change S) (err : Change E) (printed : S) (noted : E)
+      (before : AreAnswered loaded is_terminal old mid statements (record out { new = printed })
       (record err { new = noted }))
-      (round : IsRound loaded is_terminal statement (record out { old = told })
+      (round : IsRound loaded is_terminal statement (record out { old = printed })
       (record err { old = noted }) true) where
     unfoldable pub answered_more : IsStatementRead mid new kept true statement
         → AreAnswered loaded is_terminal old new (statements ++ statement ∷ []) out err
@@ -56,7 +56,7 @@ module _ {S E : Type 0} (loaded : Loaded) (is_terminal : Bool) where
           ∙ before.first (statement ++ rest)
           ∙ ap (λ l. statements ++ l) (read.first refl rest)
           ∙ sym (append_assoc statements (statement ∷ []) (statements_of rest));
-      rounds = rounds_more statements statement out err told noted before.rounds round;
+      rounds = rounds_more statements statement out err printed noted before.rounds round;
     }
 
     pub all_answered : IsStatementRead mid new kept false statement
@@ -67,7 +67,7 @@ module _ {S E : Type 0} (loaded : Loaded) (is_terminal : Bool) where
           read = consumed_both old mid new before.text statement before.read read.read;
           at_end = read.at_end refl;
           rounds = subst (λ l. AreRounds loaded is_terminal l out err) (sym whole)
-              (rounds_more statements statement out err told noted before.rounds round);
+              (rounds_more statements statement out err printed noted before.rounds round);
         }
 
   pub none_answered : (known : Option (List ℕ)) (out : Change S) (err : Change E)

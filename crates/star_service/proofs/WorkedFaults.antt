@@ -5,7 +5,7 @@ use Rattle.std.specs.Prelude.{codes, map}
 use lib.Utf8.{encode, scalars}
 use Rattle.std.specs.Fmt.{digits}
 use Rattle.star_engine.specs.{FaultTexts.engine_fault_text, declared.fault.EngineFault.TheVariants.OutOfMemory, declared.fault.EngineFault.TheVariants.Write}
-use Rattle.star_service.specs.{Lines.fault_line, Reports.named_line, Reports.told_line, Names.printed_letter, Names.printed_name}
+use Rattle.star_service.specs.{Lines.fault_line, Reports.named_line, Reports.run_line, Names.printed_letter, Names.printed_name}
 
 lines : map fault_line (OutOfMemory ∷ Write 65536 ∷ [])
     ≡ codes "memory\n" ∷ codes "write 65536\n" ∷ []
@@ -28,7 +28,7 @@ unfolding encode
 names = refl
 
 -- of a report that was kept both notes on one line, and of a file that was not run the forecast
-reports : (name : List ℕ) → (told_line name (record {
+reports : (name : List ℕ) → (run_line name (record {
   quoted = codes "quote 10\n";
   report = codes "n\n2\n";
   done = codes "visits 10 lookups 0 updates 7\n";

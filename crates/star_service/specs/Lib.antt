@@ -3,4 +3,4 @@ pub mod Names
 pub mod Private
 pub mod Reports
 pub mod Sessions
-pub mod Shelves
+pub mod ReportSinks

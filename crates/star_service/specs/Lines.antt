@@ -18,12 +18,12 @@ fault_status (engine.Write sent) = 6
 fault_status engine.OutOfMemory = 7
 
 -- a sink has gained a whole text; or its first bytes, and is failed; nothing is written of no text
-abbrev pub IsTextTold : {S : Type 0} → Change S → List ℕ → Type 0
-IsTextTold sink text = ((text ≡ []) × IsUntouched sink)
+abbrev pub IsTextPrinted : {S : Type 0} → Change S → List ℕ → Type 0
+IsTextPrinted sink text = ((text ≡ []) × IsUntouched sink)
     ⊎ (HasGained sink text ⊎ ((sent : ℕ) × HasGainedPart sink text sent))
 
 -- a fault is printed with its status, or out of memory if there is none for its line
-abbrev pub IsFaultTold : {S : Type 0} → Change S → EngineFault → ℕ → Type 0
-IsFaultTold err fault status = (told : EngineFault)
-    × ((told ≡ fault) ⊎ (told ≡ engine.OutOfMemory))
-    × IsTextTold err (fault_line told) × (status ≡ fault_status told)
+abbrev pub IsFaultPrinted : {S : Type 0} → Change S → EngineFault → ℕ → Type 0
+IsFaultPrinted err fault status = (printed : EngineFault)
+    × ((printed ≡ fault) ⊎ (printed ≡ engine.OutOfMemory))
+    × IsTextPrinted err (fault_line printed) × (status ≡ fault_status printed)

@@ -1,12 +1,12 @@
 -- The output of a session: for each of its statements, and for all that a source has.
 use Rattle.std.specs.Prelude.{◌≡◌, ◌⊎◌, ◌++◌, ℕ, List, [], ◌∷◌, Bool, true, false, Option, Result, Ok, Err, codes, if◌then◌else◌}
 use Rattle.std.specs.{Io.KnownBytes.Consumes, Io.KnownBytes.IsAtEnd}
-use Rattle.star_engine.specs.Queries.{IsExplained, IsNoQuery, IsQueryQuoteOver, IsQueryToldOver, IsUnansweredOver}
-use Rattle.star_engine.specs.{declared.fault.EngineFault.EngineFault, declared.fault.EngineFault.TheVariants.Query, declared.fault.EngineFault.TheVariants.Write, Answered.Change, Answered.IsAnswered, Answered.IsUntouched, Loads.Loaded, Noted.IsNoted, QuoteTexts.IsQuoteTextOver}
-use Rattle.star_engine.specs.{QuoteTexts.IsUnquotedOver}
+use Rattle.star_engine.specs.Queries.{IsExplained, IsQueryError, IsQueryQuoteOver, IsQueryRunErrorOver, IsQueryRunOver}
+use Rattle.star_engine.specs.{declared.fault.EngineFault.EngineFault, declared.fault.EngineFault.TheVariants.Query, declared.fault.EngineFault.TheVariants.Write, Answered.Change, Answered.IsAnswered, Answered.IsUntouched, Loads.Loaded, WithNotes.IsAnsweredWithNotes, QuoteTexts.IsQuoteTextOver}
+use Rattle.star_engine.specs.{QuoteTexts.IsQuoteErrorOver}
 use Rattle.star_statements.specs.{Questions.asked_by, Sources.IsPastCounting, Sources.IsStatementRead, Statements.statements_of, declared.questions.Question.Question, declared.sources.ReadFault.TheVariants.Failed as ReadFailed}
 use Rattle.star_statements.specs.{declared.sources.ReadFault.TheVariants.OutOfMemory as ReadMemory}
-use Rattle.star_service.specs.{Lines.IsFaultTold, Lines.IsTextTold, declared.sessions.Stop.Stop, declared.sessions.Stop.TheVariants.Unread, declared.sessions.Stop.TheVariants.Unwritten}
+use Rattle.star_service.specs.{Lines.IsFaultPrinted, Lines.IsTextPrinted, declared.sessions.Stop.Stop, declared.sessions.Stop.TheVariants.Unread, declared.sessions.Stop.TheVariants.Unwritten}
 use Rattle.star_query.specs.declared.fault.QueryFault.TheVariants as parsing
 use Rattle.star_statements.specs.declared.questions.Question.TheVariants as asked
 
@@ -16,9 +16,9 @@ use Rattle.star_statements.specs.declared.questions.Question.TheVariants as aske
 abbrev pub IsReported : {S N : Type 0} → Loaded → List ℕ → Change S → Change N
     → Result (Unit {0}) EngineFault → Type 0
 IsReported loaded query out notes answer =
-    IsNoted out notes (IsQueryQuoteOver loaded.database query)
-    (IsQueryToldOver loaded.visits loaded.database query)
-    (IsUnansweredOver loaded.visits loaded.database query) answer
+    IsAnsweredWithNotes out notes (IsQueryQuoteOver loaded.database query)
+    (IsQueryRunOver loaded.visits loaded.database query)
+    (IsQueryRunErrorOver loaded.visits loaded.database query) answer
 
 -- an empty line after it
 abbrev pub IsLineEnded : {S : Type 0} → Change S → Result (Unit {0}) EngineFault → Type 0
@@ -43,9 +43,9 @@ IsAnswerTo loaded asked.TooLong out notes answer =
 IsAnswerTo loaded (asked.Query query) out notes answer =
     IsReportEnded loaded query out notes answer
 IsAnswerTo loaded (asked.Explain query) out notes answer =
-    IsAnswered out (IsExplained query) (IsNoQuery query) answer × IsUntouched notes
+    IsAnswered out (IsExplained query) (IsQueryError query) answer × IsUntouched notes
 IsAnswerTo loaded (asked.Quote query) out notes answer =
-    IsAnswered out (IsQuoteTextOver loaded.database query) (IsUnquotedOver query) answer
+    IsAnswered out (IsQuoteTextOver loaded.database query) (IsQuoteErrorOver query) answer
     × IsUntouched notes
 
 -- no session goes on after a write that failed
@@ -57,7 +57,7 @@ may_go_on fault = true
 abbrev pub IsStepEnded : {E : Type 0} → Change E → Result (Unit {0}) EngineFault → Bool → Type 0
 IsStepEnded err (Ok answer) goes_on = IsUntouched err × (goes_on ≡ true)
 IsStepEnded err (Err fault) goes_on =
-    ((status : ℕ) × IsFaultTold err fault status) × (goes_on ≡ may_go_on fault)
+    ((status : ℕ) × IsFaultPrinted err fault status) × (goes_on ≡ may_go_on fault)
 
 -- what both streams gain of what a statement asks for, and whether the session goes on
 pub record IsStep {S E : Type 0} (loaded : Loaded) (question : Question (List ℕ)) (out : Change S)
@@ -77,7 +77,7 @@ prompt_of is_terminal = if is_terminal then codes "star> " else []
 pub record IsRound {S E : Type 0} (loaded : Loaded) (is_terminal : Bool) (statement : List ℕ)
     (out : Change S) (err : Change E) (goes_on : Bool) : Type 0 where
   pub prompted : E
-  pub prompt : IsTextTold (record err { new = prompted }) (prompt_of is_terminal)
+  pub prompt : IsTextPrinted (record err { new = prompted }) (prompt_of is_terminal)
   pub step : IsStep loaded (asked_by statement) out (record err { old = prompted }) goes_on
 
 -- their gain by some statements: by the first, and then by the others
@@ -85,9 +85,11 @@ abbrev pub AreRounds : {S E : Type 0} → Loaded → (is_terminal : Bool) → Li
     → Change E → Type 0
 AreRounds loaded is_terminal [] out err = IsUntouched out × IsUntouched err
 AreRounds {S} {E} loaded is_terminal (statement ∷ others) out err =
-    (told : S) × ((noted : E)
-    × (IsRound loaded is_terminal statement (record out { new = told }) (record err { new = noted }) true
-    × AreRounds loaded is_terminal others (record out { old = told }) (record err { old = noted })))
+    (printed : S) × ((noted : E)
+    × (IsRound loaded is_terminal statement (record out { new = printed }) (record err
+    { new = noted }) true
+    × AreRounds loaded is_terminal others (record out { old = printed }) (record err
+    { old = noted })))
 
 -- ---- all that a source has
 
@@ -113,15 +115,15 @@ pub record IsUnwritten {S E : Type 0} (loaded : Loaded) (is_terminal : Bool) (ol
     (out : Change S) (err : Change E) : Type 0 where
   pub left : Option (List ℕ)
   pub statements : List (List ℕ)
-  pub told : S
+  pub printed : S
   pub noted : E
-  pub before : AreAnswered loaded is_terminal old left statements (record out { new = told })
+  pub before : AreAnswered loaded is_terminal old left statements (record out { new = printed })
       (record err { new = noted })
   pub kept : List ℕ
   pub is_ended : Bool
   pub statement : List ℕ
   pub read : IsStatementRead left new kept is_ended statement
-  pub round : IsRound loaded is_terminal statement (record out { old = told })
+  pub round : IsRound loaded is_terminal statement (record out { old = printed })
       (record err { old = noted }) false
 
 -- no statement was read after some that were answered, and nothing was printed but a prompt
@@ -132,20 +134,21 @@ pub record IsStatementUnread {S E : Type 0} (loaded : Loaded) (is_terminal : Boo
   pub noted : E
   pub before : AreAnswered loaded is_terminal old left statements out (record err { new = noted })
   pub is_prompted : Bool
-  pub prompt : IsTextTold (record err { old = noted }) (prompt_of is_prompted)
+  pub prompt : IsTextPrinted (record err { old = noted }) (prompt_of is_prompted)
 
 -- the output of a session for all that a source has, if a source has these bytes left before and after it,
 -- and whether a read of it has failed
-abbrev pub IsConversed : {S E : Type 0} → Loaded → (is_terminal : Bool) → (old new : Option (List ℕ))
+abbrev pub AreStatementsRun : {S E : Type 0} → Loaded → (is_terminal : Bool)
+    → (old new : Option (List ℕ))
     → (failed : Bool) → Change S → Change E → Result (Unit {0}) Stop → Type 0
-IsConversed loaded is_terminal old new failed out err (Ok answer) =
+AreStatementsRun loaded is_terminal old new failed out err (Ok answer) =
     AreAllAnswered loaded is_terminal old new out err
-IsConversed loaded is_terminal old new failed out err (Err Unwritten) =
+AreStatementsRun loaded is_terminal old new failed out err (Err Unwritten) =
     IsUnwritten loaded is_terminal old new out err
-IsConversed loaded is_terminal old new failed out err (Err (Unread ReadFailed)) =
+AreStatementsRun loaded is_terminal old new failed out err (Err (Unread ReadFailed)) =
     IsStatementUnread loaded is_terminal old out err
     × ((failed ≡ true) ⊎ ((read : List ℕ) × IsPastCounting old new read))
-IsConversed loaded is_terminal old new failed out err (Err (Unread ReadMemory)) =
+AreStatementsRun loaded is_terminal old new failed out err (Err (Unread ReadMemory)) =
     IsStatementUnread loaded is_terminal old out err
 
 -- ---- the exit status
@@ -158,17 +161,18 @@ parting_of is_terminal = if is_terminal then codes "\n" else []
 abbrev pub IsSessionEnded : {E : Type 0} → (is_terminal : Bool) → Change E
     → Result (Unit {0}) Stop → ℕ → Type 0
 IsSessionEnded is_terminal err (Ok answer) status =
-    IsTextTold err (parting_of is_terminal) × (status ≡ 0)
+    IsTextPrinted err (parting_of is_terminal) × (status ≡ 0)
 IsSessionEnded is_terminal err (Err Unwritten) status = IsUntouched err × (status ≡ 6)
 IsSessionEnded is_terminal err (Err (Unread ReadFailed)) status =
-    IsTextTold err (codes "file standard input\n") × (status ≡ 6)
+    IsTextPrinted err (codes "file standard input\n") × (status ≡ 6)
 IsSessionEnded is_terminal err (Err (Unread ReadMemory)) status =
-    IsTextTold err (codes "memory\n") × (status ≡ 7)
+    IsTextPrinted err (codes "memory\n") × (status ≡ 7)
 
 -- a session over all that a source has, and after it how it ends
 pub record IsSession {S E : Type 0} (loaded : Loaded) (is_terminal : Bool) (old new : Option (List ℕ))
     (failed : Bool) (out : Change S) (err : Change E) (status : ℕ) : Type 0 where
   pub result : Result (Unit {0}) Stop
   pub noted : E
-  pub conversed : IsConversed loaded is_terminal old new failed out (record err { new = noted }) result
+  pub statements_run : AreStatementsRun loaded is_terminal old new failed out (record err
+      { new = noted }) result
   pub ended : IsSessionEnded is_terminal (record err { old = noted }) result status

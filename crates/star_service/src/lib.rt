@@ -4,12 +4,12 @@
 
 mod lines;
 mod names;
+mod report_sink;
 mod reports;
 mod sessions;
-mod shelf;
 
-pub use crate::lines::{MEMORY_LINE, MEMORY_STATUS, status_of, tell, tell_fault};
+pub use crate::lines::{MEMORY_LINE, MEMORY_STATUS, print, print_fault, status_of};
 pub use crate::names::Shown;
-pub use crate::reports::{Errand, Halt, deliver_all, judge_all};
-pub use crate::sessions::{Stop, hold, step};
-pub use crate::shelf::{Shelf, ShelfFault};
+pub use crate::report_sink::{ReportSink, ReportSinkFault};
+pub use crate::reports::{Halt, ReportJob, forecast_jobs, run_jobs};
+pub use crate::sessions::{Stop, run_session, step};

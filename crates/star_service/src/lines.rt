@@ -2,7 +2,7 @@
 
 ghost use Rattle.std.specs.Prelude.{◌≡◌, IfOk, string_bytes};
 ghost use Rattle.star_engine.specs.Answered.{change};
-ghost use Rattle.star_service.specs.Lines.{IsFaultTold, IsTextTold, fault_line, fault_status};
+ghost use Rattle.star_service.specs.Lines.{IsFaultPrinted, IsTextPrinted, fault_line, fault_status};
 
 use star_common::{Sink, write_whole};
 use star_engine::{EngineFault, FaultLine};
@@ -15,8 +15,8 @@ pub const MEMORY_LINE: &str = "memory\n";
 pub const MEMORY_STATUS: u8 = 7;
 
 /// Writes a text on a sink, as far as the sink takes it.
-pub fn tell<S: Sink>(sink: &mut S, text: &[u8])
-    ensures { IsTextTold (change S.contents S.is_failed sink.old sink.new) text.now }
+pub fn print<S: Sink>(sink: &mut S, text: &[u8])
+    ensures { IsTextPrinted (change S.contents S.is_failed sink.old sink.new) text.now }
 {
     let _ = write_whole(sink, text);
 }
@@ -47,16 +47,16 @@ pub fn status_of(fault: &EngineFault) -> u8
 // the stream gains.
 /// Writes the line of a fault, and returns its exit status; those of out of memory if there is
 /// none for the line.
-pub fn tell_fault<S: Sink>(alloc: Global, err: &mut S, fault: &EngineFault) -> u8
-    ensures { IsFaultTold (change S.contents S.is_failed err.old err.new) fault.now result }
+pub fn print_fault<S: Sink>(alloc: Global, err: &mut S, fault: &EngineFault) -> u8
+    ensures { IsFaultPrinted (change S.contents S.is_failed err.old err.new) fault.now result }
 {
     match line_of(alloc, fault) {
         Ok(line) => {
-            tell(err, line.as_bytes());
+            print(err, line.as_bytes());
             status_of(fault)
         }
         Err(_) => {
-            tell(err, MEMORY_LINE.as_bytes());
+            print(err, MEMORY_LINE.as_bytes());
             MEMORY_STATUS
         }
     }

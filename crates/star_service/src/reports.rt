@@ -3,20 +3,20 @@
 
 ghost use Rattle.std.specs.Prelude.{◌≡◌, ◌<◌, Err, IfOk, MatchResult, length, string_bytes};
 ghost use Rattle.star_common.specs.Memory.{TellsMemory};
-ghost use Rattle.star_engine.specs.{Answered.OrMemory, Answered.change, Tellings.IsFileToldOver, Tellings.IsJudgedOver, Tellings.IsUnjudgedOver, Tellings.telling_of};
-ghost use Rattle.star_service.specs.Reports.{AreAllDelivered, AreAllJudged, IsDelivered, IsJudged, told_line};
-ghost use Rattle.star_service.specs.{Private.ReportSteps.IsKeptAndTold, Private.ReportSteps.IsLineWritten, Private.ReportSteps.IsRefusalTold, Shelves.shelving, declared.reports.Halt.TheVariants.OutOfMemory};
+ghost use Rattle.star_engine.specs.{Answered.OrMemory, Answered.change, RunTexts.IsFileRunOver, RunTexts.IsForecastErrorOver, RunTexts.IsForecastOver, RunTexts.run_text_of};
+ghost use Rattle.star_service.specs.Reports.{AreAllJobsForecast, AreAllJobsRun, IsJobForecast, IsJobRun, run_line};
+ghost use Rattle.star_service.specs.{Private.ReportSteps.IsLineWritten, Private.ReportSteps.IsRefusalPrinted, Private.ReportSteps.IsStoredAndPrinted, ReportSinks.sink_change, declared.reports.Halt.TheVariants.OutOfMemory};
 ghost use Rattle.star_service.specs.Reports as spec;
 
 use crate::names::Shown;
-use crate::shelf::{Shelf, ShelfFault};
+use crate::report_sink::{ReportSink, ReportSinkFault};
 use star_common::{Sink, write_whole};
-use star_engine::{Engine, EngineFault, FaultLine, Question, Told};
+use star_engine::{Engine, EngineFault, FaultLine, Question, RunOutput};
 use std::alloc::{AllocError, Global};
 
 /// A file, and the name of its report.
 #[derive(Clone, Copy)]
-pub struct Errand<'a> {
+pub struct ReportJob<'a> {
     pub name: &'a str,
     pub file: &'a [u8],
 }
@@ -27,7 +27,7 @@ pub enum Halt<'a> {
     /// Memory was refused.
     OutOfMemory,
     /// The report of this name was not kept: a write failed, `sent` bytes into the report.
-    Unkept { name: &'a str, sent: u64 },
+    Unstored { name: &'a str, sent: u64 },
     /// A line was not printed: a write failed, `sent` bytes into the line.
     Unwritten { sent: u64 },
 }
@@ -62,12 +62,12 @@ fn named(alloc: Global, name: &str, text: &[u8]) -> Result<Vec<u8>, AllocError>
 }
 
 // The line of a file that was answered.
-fn line_of(alloc: Global, name: &str, told: &Told) -> Result<Vec<u8>, AllocError>
-    ensures { IfOk result (λ line. line.items ≡ told_line name.now (telling_of told.now)) }
+fn line_of(alloc: Global, name: &str, printed: &RunOutput) -> Result<Vec<u8>, AllocError>
+    ensures { IfOk result (λ line. line.items ≡ run_line name.now (run_text_of printed.now)) }
 {
-    let mut line = named(alloc, name, without_end(told.quoted.as_bytes()))?;
+    let mut line = named(alloc, name, without_end(printed.quoted.as_bytes()))?;
     line.extend_from_slice(b" ")?;
-    line.extend_from_slice(told.done.as_bytes())?;
+    line.extend_from_slice(printed.done.as_bytes())?;
     Ok(line)
 }
 
@@ -76,8 +76,8 @@ fn line_of(alloc: Global, name: &str, told: &Told) -> Result<Vec<u8>, AllocError
 fn refusal_of(alloc: Global, name: &str, fault: &EngineFault) -> Result<Vec<u8>, AllocError>
     ensures { IfOk result (λ line. line.items ≡ spec.refused_line name.now fault.now) }
 {
-    let told = format!(in alloc; "{}\n", FaultLine(fault))?;
-    named(alloc, name, told.as_bytes())
+    let printed = format!(in alloc; "{}\n", FaultLine(fault))?;
+    named(alloc, name, printed.as_bytes())
 }
 
 // Writes a line that has a byte.
@@ -92,35 +92,35 @@ fn write_line<'a, S: Sink>(out: &mut S, line: &[u8]) -> Result<(), Halt<'a>>
 }
 
 // Keeps the report of a file, and prints its line.
-fn keep_told<'a, K: Shelf, S: Sink>(
+fn store_report<'a, K: ReportSink, S: Sink>(
     alloc: Global,
     name: &'a str,
-    told: &Told,
-    shelf: &mut K,
+    printed: &RunOutput,
+    sink: &mut K,
     out: &mut S,
 ) -> Result<(), Halt<'a>>
-    ensures { IsKeptAndTold name.now (telling_of told.now)
-        (shelving K.reports K.failed_at shelf.old shelf.new)
+    ensures { IsStoredAndPrinted name.now (run_text_of printed.now)
+        (sink_change K.reports K.failed_at sink.old sink.new)
         (change S.contents S.is_failed out.old out.new) result }
 {
-    match shelf.keep(alloc, name, told.report.as_slice()) {
+    match sink.store(alloc, name, printed.report.as_slice()) {
         Ok(()) => {
-            let line = line_of(alloc, name, told)?;
+            let line = line_of(alloc, name, printed)?;
             write_line(out, line.as_slice())
         }
-        Err(ShelfFault::OutOfMemory) => Err(Halt::OutOfMemory),
-        Err(ShelfFault::Write { sent }) => Err(Halt::Unkept { name, sent }),
+        Err(ReportSinkFault::OutOfMemory) => Err(Halt::OutOfMemory),
+        Err(ReportSinkFault::Write { sent }) => Err(Halt::Unstored { name, sent }),
     }
 }
 
 // Prints the line of a file that was not answered; out of memory has none.
-fn tell_refusal<'a, S: Sink>(
+fn print_refusal<'a, S: Sink>(
     alloc: Global,
     name: &'a str,
     fault: &EngineFault,
     out: &mut S,
 ) -> Result<bool, Halt<'a>>
-    ensures told { IsRefusalTold name.now fault.now
+    ensures printed { IsRefusalPrinted name.now fault.now
         (change S.contents S.is_failed out.old out.new) result }
     ensures memory { fault.now ≡ EngineFault.OutOfMemory → result ≡ Err Halt.OutOfMemory }
 {
@@ -133,10 +133,10 @@ fn tell_refusal<'a, S: Sink>(
 }
 
 // The printed counts of a file's run.
-fn report_of(alloc: Global, engine: &Engine, file: &[u8]) -> Result<Told, EngineFault>
-    ensures { MatchResult result (λ told.
-        IsFileToldOver engine.now.visits engine.now.database file.now (telling_of told))
-        (OrMemory (IsUnjudgedOver engine.now.visits engine.now.database file.now)) }
+fn report_of(alloc: Global, engine: &Engine, file: &[u8]) -> Result<RunOutput, EngineFault>
+    ensures { MatchResult result (λ printed.
+        IsFileRunOver engine.now.visits engine.now.database file.now (run_text_of printed))
+        (OrMemory (IsForecastErrorOver engine.now.visits engine.now.database file.now)) }
 {
     let question = Question::of_file(alloc, file)?;
     engine.report(alloc, question)
@@ -145,8 +145,8 @@ fn report_of(alloc: Global, engine: &Engine, file: &[u8]) -> Result<Told, Engine
 // The line of its forecast.
 fn forecast_of(alloc: Global, engine: &Engine, file: &[u8]) -> Result<String, EngineFault>
     ensures { MatchResult result (λ line.
-        IsJudgedOver engine.now.visits engine.now.database file.now (string_bytes line))
-        (OrMemory (IsUnjudgedOver engine.now.visits engine.now.database file.now)) }
+        IsForecastOver engine.now.visits engine.now.database file.now (string_bytes line))
+        (OrMemory (IsForecastErrorOver engine.now.visits engine.now.database file.now)) }
 {
     let question = Question::of_file(alloc, file)?;
     engine.forecast(alloc, question)
@@ -154,66 +154,66 @@ fn forecast_of(alloc: Global, engine: &Engine, file: &[u8]) -> Result<String, En
 
 // Answers a file over loaded tables: keeps its report under its name, and prints a line of it. The
 // answer is whether it was not refused.
-fn deliver<'a, K: Shelf, S: Sink>(
+fn run_job<'a, K: ReportSink, S: Sink>(
     alloc: Global,
     engine: &Engine,
-    errand: Errand<'a>,
-    shelf: &mut K,
+    job: ReportJob<'a>,
+    sink: &mut K,
     out: &mut S,
 ) -> Result<bool, Halt<'a>>
-    ensures { IsDelivered engine.now errand.entry.name.now errand.entry.file.now
-        (shelving K.reports K.failed_at shelf.old shelf.new)
+    ensures { IsJobRun engine.now job.entry.name.now job.entry.file.now
+        (sink_change K.reports K.failed_at sink.old sink.new)
         (change S.contents S.is_failed out.old out.new) result }
 {
-    let Errand { name, file } = errand;
+    let ReportJob { name, file } = job;
     match report_of(alloc, engine, file) {
-        Ok(told) => {
-            keep_told(alloc, name, &told, shelf, out)?;
+        Ok(printed) => {
+            store_report(alloc, name, &printed, sink, out)?;
             Ok(true)
         }
-        Err(fault) => tell_refusal(alloc, name, &fault, out),
+        Err(fault) => print_refusal(alloc, name, &fault, out),
     }
 }
 
 // Checks a file over loaded tables, and prints its forecast, or why it is refused. The
 // answer is whether it was not refused.
-fn judge<'a, S: Sink>(
+fn forecast_job<'a, S: Sink>(
     alloc: Global,
     engine: &Engine,
-    errand: Errand<'a>,
+    job: ReportJob<'a>,
     out: &mut S,
 ) -> Result<bool, Halt<'a>>
-    ensures { IsJudged engine.now errand.entry.name.now errand.entry.file.now
+    ensures { IsJobForecast engine.now job.entry.name.now job.entry.file.now
         (change S.contents S.is_failed out.old out.new) result }
 {
-    let Errand { name, file } = errand;
+    let ReportJob { name, file } = job;
     match forecast_of(alloc, engine, file) {
         Ok(forecast) => {
             let line = named(alloc, name, forecast.as_bytes())?;
             write_line(out, line.as_slice())?;
             Ok(true)
         }
-        Err(fault) => tell_refusal(alloc, name, &fault, out),
+        Err(fault) => print_refusal(alloc, name, &fault, out),
     }
 }
 
 /// Answers files over loaded tables, one after another: keeps the report of each under its name on
-/// `shelf`, and prints a line of it on `out`, or one that says why it is refused. The answer is
+/// `sink`, and prints a line of it on `out`, or one that says why it is refused. The answer is
 /// whether none was refused.
-pub fn deliver_all<'a, K: Shelf, S: Sink>(
+pub fn run_jobs<'a, K: ReportSink, S: Sink>(
     alloc: Global,
     engine: &Engine,
-    errands: &[Errand<'a>],
-    shelf: &mut K,
+    jobs: &[ReportJob<'a>],
+    sink: &mut K,
     out: &mut S,
 ) -> Result<bool, Halt<'a>>
-    ensures { AreAllDelivered engine.now errands.now
-        (shelving K.reports K.failed_at shelf.old shelf.new)
+    ensures { AreAllJobsRun engine.now jobs.now
+        (sink_change K.reports K.failed_at sink.old sink.new)
         (change S.contents S.is_failed out.old out.new) result }
 {
     let mut all = true;
-    for errand in errands {
-        let answered = deliver(alloc, engine, *errand, shelf, out)?;
+    for job in jobs {
+        let answered = run_job(alloc, engine, *job, sink, out)?;
         all &= answered;
     }
     Ok(all)
@@ -222,18 +222,18 @@ pub fn deliver_all<'a, K: Shelf, S: Sink>(
 /// Checks files over loaded tables, one after another, and prints of each how many visits are
 /// quoted and how many rows its report can have at most, or why it is refused. Nothing is run. The
 /// answer is whether none was refused.
-pub fn judge_all<'a, S: Sink>(
+pub fn forecast_jobs<'a, S: Sink>(
     alloc: Global,
     engine: &Engine,
-    errands: &[Errand<'a>],
+    jobs: &[ReportJob<'a>],
     out: &mut S,
 ) -> Result<bool, Halt<'a>>
-    ensures { AreAllJudged engine.now errands.now (change S.contents S.is_failed out.old out.new)
+    ensures { AreAllJobsForecast engine.now jobs.now (change S.contents S.is_failed out.old out.new)
         result }
 {
     let mut all = true;
-    for errand in errands {
-        let accepted = judge(alloc, engine, *errand, out)?;
+    for job in jobs {
+        let accepted = forecast_job(alloc, engine, *job, out)?;
         all &= accepted;
     }
     Ok(all)

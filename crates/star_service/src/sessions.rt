@@ -1,13 +1,13 @@
 // Sessions: statements that are read one after another, and answered over tables that are loaded once.
 
 ghost use Rattle.std.specs.Prelude.{◌≡◌};
-ghost use Rattle.star_engine.specs.{Answered.IsAnswered, Answered.change, QuoteTexts.IsQuoteTextOver, QuoteTexts.IsUnquotedOver};
-ghost use Rattle.star_service.specs.Sessions.{IsAnswerTo, IsConversed, IsLineEnded, IsReportEnded, IsReported, IsSession, IsSessionEnded, IsStep};
+ghost use Rattle.star_engine.specs.{Answered.IsAnswered, Answered.change, QuoteTexts.IsQuoteErrorOver, QuoteTexts.IsQuoteTextOver};
+ghost use Rattle.star_service.specs.Sessions.{AreStatementsRun, IsAnswerTo, IsLineEnded, IsReportEnded, IsReported, IsSession, IsSessionEnded, IsStep};
 ghost use Rattle.star_service.specs.{Private.Turns.IsTurn};
 ghost use Rattle.star_statements.specs.{Questions.asked_by_text, Sources.has_failed, Sources.reader_of};
 ghost use Rattle.star_service.specs.Sessions as spec;
 
-use crate::lines::{MEMORY_LINE, MEMORY_STATUS, tell, tell_fault};
+use crate::lines::{MEMORY_LINE, MEMORY_STATUS, print, print_fault};
 use star_common::{Sink, write_whole};
 use star_engine::{Engine, EngineFault, QueryFault, Question, explain_query};
 use star_statements::{Question as Statement, ReadFault, Source, question_of, read_statement};
@@ -53,7 +53,7 @@ fn quote<S: Sink>(
     out: &mut S,
 ) -> Result<(), EngineFault>
     ensures { IsAnswered (change S.contents S.is_failed out.old out.new)
-        (IsQuoteTextOver engine.now.database file.now) (IsUnquotedOver file.now) result }
+        (IsQuoteTextOver engine.now.database file.now) (IsQuoteErrorOver file.now) result }
 {
     let question = Question::of_file(alloc, file)?;
     engine.quote(alloc, &question, out)
@@ -121,7 +121,7 @@ pub fn step<S: Sink, E: Sink>(
     match answer_statement(alloc, engine, text, out, err) {
         Ok(()) => true,
         Err(fault) => {
-            tell_fault(alloc, err, &fault);
+            print_fault(alloc, err, &fault);
             may_go_on(&fault)
         }
     }
@@ -156,7 +156,7 @@ fn turn<R: Read, S: Sink, E: Sink>(
         (change S.contents S.is_failed out.old out.new)
         (change E.contents E.is_failed err.old err.new) result }
 {
-    tell(err, prompt_of(is_terminal).as_bytes());
+    print(err, prompt_of(is_terminal).as_bytes());
     match read_statement(source, text) {
         Ok(is_ended) => {
             if step(alloc, engine, text.as_slice(), out, err) {
@@ -170,7 +170,7 @@ fn turn<R: Read, S: Sink, E: Sink>(
 }
 
 // Reads and answers all statements of a source.
-fn converse<R: Read, S: Sink, E: Sink>(
+fn run_statements<R: Read, S: Sink, E: Sink>(
     alloc: Global,
     engine: &Engine,
     source: &mut Source<R>,
@@ -178,7 +178,7 @@ fn converse<R: Read, S: Sink, E: Sink>(
     out: &mut S,
     err: &mut E,
 ) -> Result<(), Stop>
-    ensures { IsConversed engine.now is_terminal (R.remaining (reader_of source.old))
+    ensures { AreStatementsRun engine.now is_terminal (R.remaining (reader_of source.old))
         (R.remaining (reader_of source.new)) (has_failed source.new)
         (change S.contents S.is_failed out.old out.new)
         (change E.contents E.is_failed err.old err.new) result }
@@ -198,16 +198,16 @@ fn part<E: Sink>(is_terminal: bool, ended: Result<(), Stop>, err: &mut E) -> u8
 {
     match ended {
         Ok(()) => {
-            tell(err, parting_of(is_terminal).as_bytes());
+            print(err, parting_of(is_terminal).as_bytes());
             0
         }
         Err(Stop::Unwritten) => 6,
         Err(Stop::Unread(ReadFault::Failed)) => {
-            tell(err, b"file standard input\n");
+            print(err, b"file standard input\n");
             6
         }
         Err(Stop::Unread(ReadFault::OutOfMemory)) => {
-            tell(err, MEMORY_LINE.as_bytes());
+            print(err, MEMORY_LINE.as_bytes());
             MEMORY_STATUS
         }
     }
@@ -217,7 +217,7 @@ fn part<E: Sink>(is_terminal: bool, ended: Result<(), Stop>, err: &mut E) -> u8
 /// `step` does. If a person types them, a prompt is printed on `err` before each. Returns the exit
 /// status: 0 at the end of the source, 6 if a read or a write failed, 7 if there is no memory
 /// for a statement.
-pub fn hold<R: Read, S: Sink, E: Sink>(
+pub fn run_session<R: Read, S: Sink, E: Sink>(
     alloc: Global,
     engine: &Engine,
     source: &mut Source<R>,
@@ -230,6 +230,6 @@ pub fn hold<R: Read, S: Sink, E: Sink>(
         (change S.contents S.is_failed out.old out.new)
         (change E.contents E.is_failed err.old err.new) result }
 {
-    let ended = converse(alloc, engine, source, is_terminal, out, err);
+    let ended = run_statements(alloc, engine, source, is_terminal, out, err);
     part(is_terminal, ended, err)
 }

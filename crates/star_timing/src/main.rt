@@ -5,7 +5,7 @@
 use star_cli::{Store, load_engine};
 use star_common::{Out, Sink, numeral_value, write_whole};
 use star_engine::{Engine, EngineFault, Question, THIRTEEN, run_text};
-use star_service::{MEMORY_LINE, MEMORY_STATUS, tell, tell_fault};
+use star_service::{MEMORY_LINE, MEMORY_STATUS, print, print_fault};
 use star_verify::Verified;
 use std::alloc::{AllocError, Global};
 use std::process::ExitCode;
@@ -103,13 +103,13 @@ fn print_times<R: Clock + AllocGlobal, S: Sink, E: Sink>(
         Ok(lines) => write_whole(out, lines.as_bytes()).map_err(EngineFault::from),
         Err(Failure::Engine(fault)) => Err(fault),
         Err(Failure::Clock) => {
-            tell(err, b"error: the clock can't be read\n");
+            print(err, b"error: the clock can't be read\n");
             return 6;
         }
     };
     match written {
         Ok(()) => 0,
-        Err(fault) => tell_fault(rt.alloc(), err, &fault),
+        Err(fault) => print_fault(rt.alloc(), err, &fault),
     }
 }
 
@@ -142,20 +142,20 @@ fn answer<R: Env + Store + Clock + AllocGlobal, S: Sink, E: Sink>(
     let arguments = match read_arguments(rt) {
         Ok(arguments) => arguments,
         Err(error) if error.kind() == io::ErrorKind::OutOfMemory => {
-            tell(err, MEMORY_LINE.as_bytes());
+            print(err, MEMORY_LINE.as_bytes());
             return MEMORY_STATUS;
         }
         Err(_) => {
-            tell(err, USAGE.as_bytes());
+            print(err, USAGE.as_bytes());
             return 2;
         }
     };
     if arguments.is_empty() {
-        tell(out, USAGE.as_bytes());
+        print(out, USAGE.as_bytes());
         return 0;
     }
     let Some((folder, runs)) = asked(arguments.as_slice()) else {
-        tell(err, USAGE.as_bytes());
+        print(err, USAGE.as_bytes());
         return 2;
     };
     match load_engine(rt, folder, &mut (), out, err) {

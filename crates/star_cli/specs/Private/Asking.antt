@@ -1,6 +1,6 @@
 -- What a task asks of an engine.
 use Rattle.std.specs.Prelude.{◌≡◌, ℕ, List, true, false}
-use Rattle.star_engine.specs.{declared.fault.EngineFault.EngineFault, Loads.IsNoProgram, Queries.IsNoQuery, Questions.Asks, QuoteTexts.IsUnquotedOver, QuoteTexts.is_program_file}
+use Rattle.star_engine.specs.{declared.fault.EngineFault.EngineFault, Loads.IsProgramError, Queries.IsQueryError, Questions.Asks, QuoteTexts.IsQuoteErrorOver, QuoteTexts.is_program_file}
 use Rattle.star_cli.specs.declared.answers.Asked.{Asked}
 use Rattle.star_words.specs.declared.request.Task.TheVariants.{Sample, Check, Bench, Query, Exec, Quote, Trial}
 use Rattle.star_words.specs.{declared.request.Task.Task}
@@ -21,8 +21,8 @@ AsksFor _ file _ = ⊥
 
 -- why nothing is
 abbrev pub IsNotAsked : Task → (file : List ℕ) → EngineFault → Type 0
-IsNotAsked (Query folder path) file fault = IsNoQuery file fault
-IsNotAsked (Exec folder path) file fault = IsNoProgram file fault
-IsNotAsked (Quote folder path) file fault = IsUnquotedOver file fault
-IsNotAsked (Trial folder path limits) file fault = IsNoProgram file fault
+IsNotAsked (Query folder path) file fault = IsQueryError file fault
+IsNotAsked (Exec folder path) file fault = IsProgramError file fault
+IsNotAsked (Quote folder path) file fault = IsQuoteErrorOver file fault
+IsNotAsked (Trial folder path limits) file fault = IsProgramError file fault
 IsNotAsked _ file fault = ⊥

@@ -2,8 +2,8 @@
 use Rattle.std.specs.Prelude.{◌≡◌, ℕ, List, Some}
 use Rattle.std.specs.{Borrow.Bor, Path.path_file_stem}
 use Rattle.star_engine.specs.{Questions.Asks, QuoteTexts.is_program_file, declared.question.Question.Question}
-use Rattle.star_service.specs.declared.reports.Errand.{Errand}
-use Rattle.star_cli.specs.{Stores.IsGivenFile, Stores.Known, declared.errands.ReadFile.ReadFile}
+use Rattle.star_service.specs.declared.reports.ReportJob.{ReportJob}
+use Rattle.star_cli.specs.{Stores.IsGivenFile, Stores.Known, declared.jobs.ReadFile.ReadFile}
 
 -- a file was read, is a query or a program, and its report is named
 pub record IsReadFrom (known : Known) (path : Bor (List ℕ)) (file : ReadFile) : Type 0 where
@@ -12,6 +12,6 @@ pub record IsReadFrom (known : Known) (path : Bor (List ℕ)) (file : ReadFile) 
   pub name : path_file_stem path.now ≡ Some file.name.now
 
 -- its errand
-pub record IsErrandFor (file : ReadFile) (errand : Errand) : Type 0 where
-  pub bytes : errand.file.now ≡ file.bytes.items
-  pub name : errand.name.now ≡ file.name.now
+pub record IsErrandFor (file : ReadFile) (job : ReportJob) : Type 0 where
+  pub bytes : job.file.now ≡ file.bytes.items
+  pub name : job.name.now ≡ file.name.now

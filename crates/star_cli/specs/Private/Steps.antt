@@ -4,9 +4,9 @@ use Rattle.std.specs.Borrow.{Bor}
 use Rattle.star_schema.specs.{Most.most_rows, Database.TableTexts}
 use Rattle.star_catalogue.specs.{Pieces.AreRead, declared.read_tables.ReadTables.ReadTables}
 use Rattle.star_words.specs.{Requests.HasMostRows, declared.request.Request.TheVariants.Answer, declared.request.Task.Task, declared.request.Task.TheVariants.Explain}
-use Rattle.star_service.specs.Shelves.{Shelving}
+use Rattle.star_service.specs.ReportSinks.{SinkChange}
 use Rattle.star_cli.specs.Commands.{AreTablesOf, IsFileOf}
-use Rattle.star_cli.specs.{Answers.IsOfTables, Failures.IsUnread, FolderLoads.AreTablesUnread, ReadFolders.AreReadIn, Stores.IsGivenFile, Stores.Known, declared.commands.Read.Read, declared.failure.Failure.Failure}
+use Rattle.star_cli.specs.{Answers.IsOfTables, Failures.IsReadError, FolderLoads.AreTablesUnread, ReadFolders.AreReadIn, Stores.IsGivenFile, Stores.Known, declared.commands.Read.Read, declared.failure.Failure.Failure}
 
 -- the tables that were read for a task have these texts; only an explanation needs none
 abbrev pub AreTablesFor : Task → TableTexts → Option ReadTables → Type 0
@@ -31,9 +31,9 @@ HasBoth known folder path read =
 
 -- one of them was not: the file, or else a table
 abbrev pub IsOneUnread : Known → (folder path : List ℕ) → Failure → Type 0
-IsOneUnread known folder path failure = IsUnread path failure
+IsOneUnread known folder path failure = IsReadError path failure
     ⊎ ((file : List ℕ) × IsGivenFile known path file × AreTablesUnread known folder failure)
 
--- some shelf keeps reports
-abbrev pub IsKept : {K : Type 0} → (Shelving K → Type 0) → Type 0
-IsKept {K} Is = (shelf : Shelving K) × Is shelf
+-- some report sink keeps reports
+abbrev pub IsKept : {K : Type 0} → (SinkChange K → Type 0) → Type 0
+IsKept {K} Is = (sink : SinkChange K) × Is sink

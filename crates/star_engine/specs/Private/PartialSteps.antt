@@ -10,7 +10,7 @@ use Rattle.star_compile_laws.specs.Compiled.{compiled}
 use Rattle.star_merge_laws.specs.{Parts.key_list_cmp, Plain.plain_plan}
 use Rattle.star_engine.specs.{Executions.IsAcceptedWithin, Partials.IsPlainOutcome, Queries.FitsRows, Queries.IsPlanOf}
 
-pub record IsPlainJudged (most : ℕ) (database : Database) (query : List ℕ) (p : Plan)
+pub record HasPlainProgramLaws (most : ℕ) (database : Database) (query : List ℕ) (p : Plan)
     (meant : IsPlanOf query p) : Type 0 where
   pub accepted : FitsRows most database query
       ↔ IsAcceptedWithin database most (compiled (plain_plan p))

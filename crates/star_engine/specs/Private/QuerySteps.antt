@@ -10,7 +10,8 @@ use Rattle.star_compile_laws.specs.{Compiled.compiled, Counts.HasCounted, Judged
 use Rattle.star_engine.specs.{Executions.IsAcceptedWithin, Executions.quote_over, Queries.FitsRows, Queries.IsPlanOf, Queries.fact_rows, QueryRuns.PrintsTheReport}
 
 -- the laws about the program of a query over the rows of five tables
-pub record IsJudged (most : ℕ) (database : Database) (query : List ℕ) (p : Plan) : Type 0 where
+pub record HasProgramLaws (most : ℕ) (database : Database) (query : List ℕ)
+    (p : Plan) : Type 0 where
   pub accepted : FitsRows most database query
       ↔ IsAcceptedWithin database most (compiled p)
   pub costly : most < fact_rows database

@@ -4,8 +4,8 @@ use Rattle.std.specs.{List.list_any, List.AllByRecursion, List.IsDistinct, Map.k
 use Rattle.star_schema.specs.{declared.group.Aggregate.Aggregate, declared.group.Shape.Shape, declared.group.Shape.TheVariants.Plain, declared.group.Shape.TheVariants.Rollup, Groups.is_grouping}
 use Rattle.star_program.specs.{declared.key.KeyValue.KeyValue, Puts.Update}
 use Rattle.star_group.specs.Base.{AreInBits, IsRowOver, group_with, key_view, row_found}
-use Rattle.star_group.specs.{OwnKeys.key_eq, OwnKeys.padded, OwnKeys.vary, Stores.Group, Private.Merged.IsMergedAt}
-use Rattle.star_group.specs.{Keyed.Entry, Keyed.Row, OwnKeys.RowKey}
+use Rattle.star_group.specs.{BaseKeys.key_eq, BaseKeys.padded, BaseKeys.vary, Stores.Group, Private.Merged.IsMergedAt}
+use Rattle.star_group.specs.{BaseKeys.RowKey, Keyed.Entry, Keyed.Row}
 
 -- the keys of a put's rows, with each of its keys from this place on as it is or ALL
 abbrev pub keys_from : ℕ → ℕ → List KeyValue → List RowKey

@@ -3,8 +3,8 @@ use Rattle.std.specs.Prelude.{◌≡◌, ℕ, ◌<◌, true, false, ℤ, pos, �
 use Rattle.std.specs.{Int.int_min, Int.int_max, Option.unwrap_or}
 use Rattle.star_schema.specs.{declared.group.Aggregate.Aggregate, declared.group.Aggregate.TheVariants.Sum, declared.group.Aggregate.TheVariants.Count, declared.group.Aggregate.TheVariants.Min, declared.group.Aggregate.TheVariants.Max}
 use Rattle.star_program.specs.{Puts.leaves}
-use Rattle.star_group.specs.{Base.row_found, OwnKeys.key_eq}
-use Rattle.star_group.specs.{Keyed.Entry, Keyed.Row, OwnKeys.RowKey}
+use Rattle.star_group.specs.{Base.row_found, BaseKeys.key_eq}
+use Rattle.star_group.specs.{BaseKeys.RowKey, Keyed.Entry, Keyed.Row}
 
 -- an aggregate over some puts and over some others, as one over all of them: sums and counts are added
 abbrev pub merged_total : Aggregate → ℤ → ℤ → ℤ

@@ -2,7 +2,7 @@
 use Rattle.std.specs.Prelude.{◌≡◌, ℕ, ◌+◌, ◌*◌, ◌^◌, ◌<◌, ◌≤◌, List, drop, length, vec_len}
 use Rattle.std.specs.{List.AllByRecursion, Vec.vec_capacity}
 use Rattle.star_schema.specs.declared.group.Aggregate.{Aggregate}
-use Rattle.star_group.specs.{declared.keyed.key.KeyPart.KeyPart, declared.keyed.KeyedRows.KeyedRows, declared.keyed.ListedRows.ListedRows, Keyed.all_hidden}
+use Rattle.star_group.specs.{declared.keyed.key.KeyPart.KeyPart, declared.keyed.KeyedRows.KeyedRows, declared.keyed.ListedRows.ListedRows, Keyed.all_rolled_up}
 use Rattle.star_program.specs.Rows.{cut}
 use Rattle.star_group.specs.{Keyed.Row}
 
@@ -14,7 +14,7 @@ keys_in rows = listed_keys rows.listed
 
 -- past `width` places a key has ALL
 abbrev pub IsNarrow : ℕ → List KeyPart → Type 0
-IsNarrow width key = drop width key ≡ drop width all_hidden
+IsNarrow width key = drop width key ≡ drop width all_rolled_up
 
 abbrev pub AreNarrow : ℕ → List (List KeyPart) → Type 0
 AreNarrow width keys = AllByRecursion (IsNarrow width) keys

@@ -2,8 +2,8 @@
 use Rattle.std.specs.Prelude.{◌≡◌, ℕ, Bool, true, false, List, [], Option, None, map, slice_index_or, take}
 use Rattle.std.specs.{List.list_any, Option.unwrap_or}
 use Rattle.star_schema.specs.{declared.group.Aggregate.Aggregate, declared.group.Shape.Shape, Groups.is_grouping}
-use Rattle.star_group.specs.{declared.keyed.key.KeyPart.KeyPart, Base.key_view, OwnKeys.key_eq, Private.Merged.IsMergedInto, Private.Merged.MergeLeaves, Private.Merged.MergeStays}
-use Rattle.star_group.specs.{Keyed.Row, OwnKeys.RowKey}
+use Rattle.star_group.specs.{declared.keyed.key.KeyPart.KeyPart, Base.key_view, BaseKeys.key_eq, Private.Merged.IsMergedInto, Private.Merged.MergeLeaves, Private.Merged.MergeStays}
+use Rattle.star_group.specs.{BaseKeys.RowKey, Keyed.Row}
 
 -- a row over no puts
 abbrev pub IsBlank : Row → Type 0

@@ -14,41 +14,45 @@ after_rows none change at items (suc row) =
 
 -- an aggregate's cells with one number more
 abbrev pub taking : Aggregate → List ℤ → ℕ → ℤ → ℤ
-taking g lane row cell = step g (slice_index_or lane row (pos 0)) (Some cell)
+taking g vector row cell = step g (slice_index_or vector row (pos 0)) (Some cell)
 
 abbrev pub column_after : Aggregate → List ℤ → List ℕ → List ℤ → ℕ → List ℤ
-column_after g lane at cells rows = after_rows (pos 0) (taking g lane) at cells rows
+column_after g vector at cells rows = after_rows (pos 0) (taking g vector) at cells rows
 
 -- no SUM and no COUNT leaves its bits at any of the rows
 abbrev pub CanTake : Aggregate → List ℤ → List ℕ → List ℤ → Type 0
-CanTake g lane at cells = (row : ℕ) → row < length at
-    → leaves g (Some (taking g lane row (slice_index_or (column_after g lane at cells row) (slice_index_or at row 0) (pos 0)))) ≡ false
+CanTake g vector at cells = (row : ℕ) → row < length at
+    → leaves g (Some (taking g vector row (slice_index_or (column_after g vector at cells row)
+    (slice_index_or at row 0) (pos 0)))) ≡ false
 
 abbrev pub AreWithin : List ℕ → ℕ → Type 0
 AreWithin at places = (row : ℕ) → row < length at → slice_index_or at row 0 < places
 
 -- the cells of each aggregate, one after another, with one number more for each of some rows
-pub record AreCellsTaken (gs : List Aggregate) (places : ℕ) (lanes : ℕ → List ℤ) (at : List ℕ) (old new : List ℤ) : Type 0 where
+pub record AreCellsTaken (gs : List Aggregate) (places : ℕ) (vectors : ℕ → List ℤ) (at : List ℕ)
+    (old new : List ℤ) : Type 0 where
   pub columns : (a : ℕ) → a < length gs → slice_index_or (cut places (length gs) new) a []
-      ≡ column_after (slice_index_or gs a Count) (lanes a) at (slice_index_or (cut places (length gs) old) a []) (length at)
+      ≡ column_after (slice_index_or gs a Count) (vectors a) at (slice_index_or (cut places
+      (length gs) old) a []) (length at)
   pub len : length new ≡ length old
 
 abbrev pub CanTakeAll : List Aggregate → ℕ → (ℕ → List ℤ) → List ℕ → List ℤ → Type 0
-CanTakeAll gs places lanes at cells = (a : ℕ) → a < length gs
-    → CanTake (slice_index_or gs a Count) (lanes a) at (slice_index_or (cut places (length gs) cells) a [])
+CanTakeAll gs places vectors at cells = (a : ℕ) → a < length gs
+    → CanTake (slice_index_or gs a Count) (vectors a) at (slice_index_or (cut places
+    (length gs) cells) a [])
 
--- the lanes of one put's numbers
-abbrev pub lanes_of : List ℤ → ℕ → List ℤ
-lanes_of values a = take 1 (drop a values)
+-- the vectors of one put's numbers
+abbrev pub vectors_of : List ℤ → ℕ → List ℤ
+vectors_of values a = take 1 (drop a values)
 
 -- the numbers of the first rows
 abbrev pub numbers_from : (ℕ → ℤ) → ℕ → List ℤ
 numbers_from number zero = []
 numbers_from number (suc rows) = number 0 ∷ numbers_from (λ row. number (suc row)) rows
 
--- the lanes of the numbers of a batch's puts
-abbrev pub batch_lanes : PutBatch → ℕ → List ℤ
-batch_lanes b a = numbers_from (λ row. put_number a (put_in b row)) b.rows
+-- the vectors of the numbers of a batch's puts
+abbrev pub batch_vectors : PutBatch → ℕ → List ℤ
+batch_vectors b a = numbers_from (λ row. put_number a (put_in b row)) b.rows
 
 -- the numbers of a batch's puts for an aggregate have 64 bits
 abbrev pub HasNarrow : PutBatch → ℕ → Type 0

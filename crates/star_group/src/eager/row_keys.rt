@@ -2,8 +2,8 @@
 
 ghost use Rattle.std.specs.Prelude.{◌≡◌, ◌≤◌, ◌<◌, ◌++◌, [], ◌∷◌, List, filter, length, map, slice_set, OnOk};
 ghost use Rattle.star_program.specs.declared.key.KeyValue.{KeyValue};
-ghost use Rattle.star_group.specs.{Base.key_view, OwnKeys.padded, Private.Rows.is_row_key, declared.keyed.key.KeyPart.KeyPart};
-ghost use Rattle.star_group.specs.OwnKeys as spec;
+ghost use Rattle.star_group.specs.{Base.key_view, BaseKeys.padded, Private.Rows.is_row_key, declared.keyed.key.KeyPart.KeyPart};
+ghost use Rattle.star_group.specs.BaseKeys as spec;
 
 use crate::KeyValue;
 use crate::keyed::key::{OrderedKey, base_key, is_grouping, with_all_at};

@@ -3,7 +3,7 @@
 ghost use Rattle.std.specs.Prelude.{◌≡◌, ◌≤◌, ◌<◌, Some, None, length, slice_set, take};
 ghost use Rattle.std.specs.{List.list_all, Option.is_some};
 ghost use Rattle.star_schema.specs.declared.group.Shape.TheVariants.{Rollup};
-ghost use Rattle.star_group.specs.{OwnKeys.padded, Base.key_view, Base.key_value_view, Keyed.filled};
+ghost use Rattle.star_group.specs.{BaseKeys.padded, Base.key_view, Base.key_value_view, Keyed.filled};
 ghost use Rattle.star_schema.specs.Groups as spec;
 
 use crate::KeyValue;

@@ -5,13 +5,13 @@ use Rattle.star_program.specs.declared.outcome.Outcome.{Outcome}
 use Rattle.star_partial.specs.Contents.{Contents}
 use Rattle.star_report.specs.Report.{report_text}
 use Rattle.star_verify.specs.declared.refusal.Refusal.{Refusal}
-use Rattle.star_engine.specs.{declared.fault.EngineFault.EngineFault, declared.fault.EngineFault.TheVariants.Write, Answered.Change, Answered.HasGained, Faults.fault_of_refusal, Noted.Telling, Notes.counts_line, Private.Steps.IsPart}
+use Rattle.star_engine.specs.{declared.fault.EngineFault.EngineFault, declared.fault.EngineFault.TheVariants.Write, Answered.Change, Answered.HasGained, Faults.fault_of_refusal, WithNotes.RunText, Notes.counts_line, Private.Steps.IsPart}
 use Rattle.star_merger.specs.declared.fault.{PartialsFault.PartialsFault, PartialsFault.TheVariants.Engine}
 use Rattle.star_merger.specs.Private.Outcomes.{IsMergedOutcome}
 
 -- the text of an outcome, with the note of its quote
-abbrev pub telling_of : (note : List ℕ) → Outcome → Telling
-telling_of note outcome =
+abbrev pub run_text_of : (note : List ℕ) → Outcome → RunText
+run_text_of note outcome =
     record {
       quoted = note;
       report = report_text outcome.names outcome.rows;
@@ -20,10 +20,10 @@ telling_of note outcome =
 
 -- it is the text of a merged outcome
 pub record IsMergedTelling (p : Plan) (all : List Contents) (count : ℕ) (note : List ℕ)
-    (telling : Telling) : Type 0 where
+    (run : RunText) : Type 0 where
   pub outcome : Outcome
   pub merged : IsMergedOutcome p all count outcome
-  pub told : telling ≡ telling_of note outcome
+  pub told : run ≡ run_text_of note outcome
 
 -- the refusal of a program after a note; or the note was not written whole
 abbrev pub IsRefusedAfter : {N : Type 0} → Change N → (note : List ℕ) → Refusal

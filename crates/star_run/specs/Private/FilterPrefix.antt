@@ -1,4 +1,4 @@
--- The leading filters of a body: the keeps among its first instructions, as long as these only write registers. A turn ends early if the flag of one of them is false.
+-- The pushed-down filters of a body: the keeps among its first instructions, as long as these only write registers. A turn ends early if the flag of one of them is false.
 use Rattle.std.specs.Prelude.{ℕ, zero, suc, ◌+◌, Bool, true, false, ◌&&◌, Option, Some, None, if◌then◌else◌}
 use Rattle.star_program.specs.{declared.op.Op.Op, declared.op.Op.TheVariants.Assign, declared.op.Op.TheVariants.Keep, declared.op.Operation.Operation, declared.op.Operation.TheVariants.Find, declared.op.Operation.TheVariants.Read, declared.program.Parts.Parts, Code.Code, Code.Then}
 use Rattle.star_program.specs.{Effects.State, Effects.empty_state, Effects.next_registers, Values.Registers, Values.flag_read, World.World}
@@ -11,9 +11,9 @@ looks (Find table k) = 1
 looks _ = 0
 
 -- whether the result of an operation depends on the registers and the tables only, and on no group
-abbrev pub is_leading : Operation → Bool
-is_leading (Read g a n) = false
-is_leading _ = true
+abbrev pub reads_no_total : Operation → Bool
+reads_no_total (Read g a n) = false
+reads_no_total _ = true
 
 -- how many look-ups a turn has, `looked` of them already done, if it ends at a keep among
 -- its first n instructions, if it does
@@ -22,7 +22,7 @@ early w parts zero code looked regs = None
 early w parts (suc n) (Then (Keep f) rest) looked regs =
     if flag_read (regs f) then early w parts n rest looked regs else Some looked
 early w parts (suc n) (Then (Assign t o) rest) looked regs =
-    if is_leading o
+    if reads_no_total o
     then early w parts n rest (looked + looks o) (next_registers w parts regs empty_state (Assign t o))
     else None
 early w parts (suc n) _ looked regs = None
@@ -30,23 +30,23 @@ early w parts (suc n) _ looked regs = None
 -- ---- the code after the first n instructions
 
 -- these only keep, or write registers by registers only
-abbrev pub are_leading : ℕ → Code → Bool
-are_leading zero code = true
-are_leading (suc n) (Then (Keep f) rest) = are_leading n rest
-are_leading (suc n) (Then (Assign t o) rest) = is_leading o && are_leading n rest
-are_leading (suc n) _ = false
+abbrev pub is_prefix : ℕ → Code → Bool
+is_prefix zero code = true
+is_prefix (suc n) (Then (Keep f) rest) = is_prefix n rest
+is_prefix (suc n) (Then (Assign t o) rest) = reads_no_total o && is_prefix n rest
+is_prefix (suc n) _ = false
 
-abbrev pub code_behind : ℕ → Code → Code
-code_behind zero code = code
-code_behind (suc n) (Then op rest) = code_behind n rest
-code_behind (suc n) code = code
+abbrev pub code_after : ℕ → Code → Code
+code_after zero code = code
+code_after (suc n) (Then op rest) = code_after n rest
+code_after (suc n) code = code
 
 -- the registers there, if each keep lets the turn go on
-abbrev pub registers_behind : World → Parts → ℕ → Code → Registers → Registers
-registers_behind w parts zero code regs = regs
-registers_behind w parts (suc n) (Then op rest) regs =
-    registers_behind w parts n rest (next_registers w parts regs empty_state op)
-registers_behind w parts (suc n) code regs = regs
+abbrev pub registers_after : World → Parts → ℕ → Code → Registers → Registers
+registers_after w parts zero code regs = regs
+registers_after w parts (suc n) (Then op rest) regs =
+    registers_after w parts n rest (next_registers w parts regs empty_state op)
+registers_after w parts (suc n) code regs = regs
 
 -- how many look-ups there are before it
 abbrev pub op_looks : Op → ℕ

@@ -2,7 +2,7 @@
 use Rattle.std.specs.Prelude.{◌≡◌, ◌⊎◌, ℕ, List, Bool, true, false, Option, Result, Ok, Err}
 use Rattle.star_engine.specs.{Answered.Change, Answered.IsUntouched, Loads.Loaded}
 use Rattle.star_statements.specs.{Sources.IsPastCounting, Sources.IsStatementRead, declared.sources.ReadFault.TheVariants.Failed as ReadFailed, declared.sources.ReadFault.TheVariants.OutOfMemory as ReadMemory}
-use Rattle.star_service.specs.{Lines.IsTextTold, Sessions.IsRound, Sessions.prompt_of, declared.sessions.Stop.Stop, declared.sessions.Stop.TheVariants.Unread, declared.sessions.Stop.TheVariants.Unwritten}
+use Rattle.star_service.specs.{Lines.IsTextPrinted, Sessions.IsRound, Sessions.prompt_of, declared.sessions.Stop.Stop, declared.sessions.Stop.TheVariants.Unread, declared.sessions.Stop.TheVariants.Unwritten}
 
 -- a statement was read, and answered
 pub record IsStatementAnswered {S E : Type 0} (loaded : Loaded) (is_terminal : Bool) (old new : Option (List ℕ))
@@ -14,7 +14,7 @@ pub record IsStatementAnswered {S E : Type 0} (loaded : Loaded) (is_terminal : B
 
 -- nothing but the prompt was printed
 abbrev pub IsPrompted : {S E : Type 0} → (is_terminal : Bool) → Change S → Change E → Type 0
-IsPrompted is_terminal out err = IsUntouched out × IsTextTold err (prompt_of is_terminal)
+IsPrompted is_terminal out err = IsUntouched out × IsTextPrinted err (prompt_of is_terminal)
 
 abbrev pub IsTurn : {S E : Type 0} → Loaded → (is_terminal : Bool) → (old new : Option (List ℕ))
     → (failed : Bool) → Change S → Change E → Result Bool Stop → Type 0

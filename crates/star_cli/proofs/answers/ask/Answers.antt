@@ -1,7 +1,7 @@
 use Rattle.std.proofs.Common.{refl}
 use Rattle.star_schema.specs.{Loadable.database_of, Most.most_rows, Most.most_visits}
-use Rattle.star_engine.specs.{Answered.change, QuoteTexts.IsQuoteTextOver, QuoteTexts.IsUnquoted, QuoteTexts.is_program_file, Trials.IsBoundedReport, Trials.IsNoTrial, Trials.IsNoTrialOver}
-use Rattle.star_engine.proofs.{Loaded.answered_over, TellingLemmas.noted_of_texts, Trials.no_trial_over}
+use Rattle.star_engine.specs.{Answered.change, QuoteTexts.IsQuoteError, QuoteTexts.IsQuoteTextOver, QuoteTexts.is_program_file, Trials.IsBoundedReport, Trials.IsTrialError, Trials.IsTrialErrorOver}
+use Rattle.star_engine.proofs.{Loaded.answered_over, RunTextLemmas.noted_of_texts, Trials.no_trial_over}
 use Rattle.star_cli.proofs.Giving.{answer_given, bench_given, benched, both_given, list_given, listed, nothing_given, quote_given, trial_given}
 use Rattle.star_cli.proofs.answers.ask.Goals as goal
 
@@ -52,7 +52,7 @@ returns-in-Quote g c = λ texts loadable loaded task file asks of_tables.
     c.in-Quote.question c.quote.result (rw c.in-Quote.is at asks)
     (λ is. answered_over most_rows texts (database_of texts) loadable refl out
     (λ database. IsQuoteTextOver database file) (λ database fault. ⊥)
-    (IsUnquoted most_rows texts file) c.quote.result (λ fault loadable never. absurd never)
+    (IsQuoteError most_rows texts file) c.quote.result (λ fault loadable never. absurd never)
     (rw loaded at (c.quote.ensures (is_program_file file) file is))) c.whole-in-Quote.ensures refl
 
 pub returns-in-Trial : goal.returns-in-Trial
@@ -63,6 +63,6 @@ returns-in-Trial g c = λ texts loadable loaded task file asks of_tables.
     c.in-Trial.question c.in-Trial.limits c.trial.result (rw c.in-Trial.is at asks) of_tables
     (λ is. answered_over most_rows texts (database_of texts) loadable refl out
     (λ database. IsBoundedReport database file visits)
-    (λ database. IsNoTrialOver database file visits) (IsNoTrial most_rows texts file visits)
+    (λ database. IsTrialErrorOver database file visits) (IsTrialError most_rows texts file visits)
     c.trial.result (no_trial_over most_rows texts file visits)
     (rw loaded at (c.trial.ensures file is))) c.whole-in-Trial.ensures refl

@@ -1,5 +1,5 @@
 use Rattle.std.proofs.Common.{refl}
-use Rattle.star_engine.specs.{Answered.change, Queries.IsExplained, Queries.IsNoQuery}
+use Rattle.star_engine.specs.{Answered.change, Queries.IsExplained, Queries.IsQueryError}
 use Rattle.star_engine.proofs.ByClauses.{is_answered}
 use Rattle.star_cli.proofs.answers.explain.Goals as goal
 
@@ -12,7 +12,7 @@ returns g c = λ path texts.
         (
           c.explain_query.result,
           is_answered (change g.S.Sink.contents g.S.Sink.is_failed c.args.out.now c.explain_query.new.out)
-              (IsExplained c.args.file.now) (IsNoQuery c.args.file.now) c.explain_query.result
+              (IsExplained c.args.file.now) (IsQueryError c.args.file.now) c.explain_query.result
               explained.written explained.broken explained.refused explained.memory,
           c.whole-given.ensures,
         ),

@@ -1,6 +1,6 @@
 use Rattle.std.proofs.{Common.refl, lemmas.Result.err_from_is_err_and}
 use Rattle.star_schema.specs.Most.{most_rows}
-use Rattle.star_engine.specs.{Answered.change, Loads.IsUnloaded}
+use Rattle.star_engine.specs.{Answered.change, Loads.IsLoadError}
 use Rattle.star_cli.specs.Private.Asking.{IsNotAsked}
 use Rattle.star_cli.proofs.Giving.{given_up, never_asked, not_asked, not_loaded}
 use Rattle.star_cli.proofs.answers.give.Goals as goal
@@ -24,7 +24,8 @@ returns-in_err-engine g c = λ texts are of_tables.
     rw (p.1, p.2)
     (given_up (change g.S.Sink.contents g.S.Sink.is_failed c.args.out.now c.args.out.now)
     (change g.N.Sink.contents g.N.Sink.is_failed c.args.notes.now c.args.notes.now) refl refl texts file
-    c.in_err-engine.field-0.0 (IsUnloaded most_rows texts) (c.in_err-engine.ensures.loaded texts are)
+    c.in_err-engine.field-0.0 (IsLoadError most_rows texts)
+    (c.in_err-engine.ensures.loaded texts are)
     (λ refusal never. never) c.args.task
     (not_loaded c.args.task texts file c.in_ok-asked.asked (c.in_ok-asked.ensures of_tables)
     of_tables))

@@ -12,4 +12,4 @@ returns-in-Ok g c = λ rows.
     task_answered texts c.in-Ok.read.file.items tables file (c.answer_over.ensures texts are rows)
 
 pub returns-in-Err : goal.returns-in-Err
-returns-in-Err g c = λ rows. task_unread c.in-Err.failure c.in-Err.ensures c.tell.ensures
+returns-in-Err g c = λ rows. task_unread c.in-Err.failure c.in-Err.ensures c.print.ensures

@@ -2,7 +2,7 @@ use Rattle.star_cli.specs.Commands.{a_merge, a_session, an_answer, no_command, s
 use Rattle.star_cli.proofs.commands.command.Goals as goal
 
 pub returns-in-Err : goal.returns-in-Err
-returns-in-Err g c = no_command c.in-Err.fault c.in-Err.ensures c.tell.ensures
+returns-in-Err g c = no_command c.in-Err.fault c.in-Err.ensures c.print.ensures
 
 pub returns-in-Answer : goal.returns-in-Answer
 returns-in-Answer g c =
@@ -11,7 +11,7 @@ returns-in-Answer g c =
 
 pub returns-in-Session : goal.returns-in-Session
 returns-in-Session g c =
-    a_session c.in-Session.folder (rw c.in-Session.is at c.in-Ok.ensures) c.hold_session.ensures
+    a_session c.in-Session.folder (rw c.in-Session.is at c.in-Ok.ensures) c.start_session.ensures
 
 pub returns-in-Reports : goal.returns-in-Reports
 returns-in-Reports g c =

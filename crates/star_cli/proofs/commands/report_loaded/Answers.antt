@@ -14,4 +14,4 @@ returns-in-Ok g c = λ read from.
     c.report_over-made.ensures.made c.end.ensures
 
 pub returns-in-Err : goal.returns-in-Err
-returns-in-Err g c = λ read from. reports_unready OutOfMemory (inr tt) c.tell.ensures
+returns-in-Err g c = λ read from. reports_unready OutOfMemory (inr tt) c.print.ensures

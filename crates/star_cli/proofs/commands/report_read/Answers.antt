@@ -12,4 +12,4 @@ returns-in-Ok g c = λ read.
     (c.report_loaded.ensures read c.in-Ok.ensures.engine)
 
 pub returns-in-Err : goal.returns-in-Err
-returns-in-Err g c = λ read. reports_unloaded c.in-Err.ensures.told
+returns-in-Err g c = λ read. reports_unloaded c.in-Err.ensures.printed

@@ -12,8 +12,8 @@ returns-in-Ok-engine_of-clause-engine g c =
     let made = c.in-Ok-engine_of.ensures.loaded texts given in
     (texts, are, made.0, made.1)
 
-pub returns-in-Err-engine_of-clause-told : goal.returns-in-Err-engine_of-clause-told
-returns-in-Err-engine_of-clause-told g c =
+pub returns-in-Err-engine_of-clause-printed : goal.returns-in-Err-engine_of-clause-printed
+returns-in-Err-engine_of-clause-printed g c =
     let (texts, are, given) = c.in-Ok.ensures.read in
     inr (
       refl {a = c.args.out.now},
@@ -21,5 +21,5 @@ returns-in-Err-engine_of-clause-told g c =
       are,
       c.in-Err-engine_of.unloaded,
       c.in-Err-engine_of.ensures.loaded texts given,
-      c.tell_fault.ensures,
+      c.print_fault.ensures,
     )

@@ -7,7 +7,8 @@ use Rattle.star_column.proofs.mask.keep_few.Given as goal
 abbrev pub invariant-loop-left : goal.invariant-loop-left
 invariant-loop-left g l =
     bit_and l.left (mask_of (g.T.RowTest.test l.fn.test) (g.T.RowTest.numbers l.fn.test) l.fn.first) + l.kept
-    ≡ bit_and l.fn.alive (mask_of (g.T.RowTest.test l.fn.test) (g.T.RowTest.numbers l.fn.test) l.fn.first)
+    ≡ bit_and l.fn.bitmap (mask_of (g.T.RowTest.test l.fn.test)
+    (g.T.RowTest.numbers l.fn.test) l.fn.first)
 
 abbrev pub decreases-loop-left : goal.decreases-loop-left
 decreases-loop-left g l = l.left

@@ -1,7 +1,7 @@
 use Rattle.std.proofs.{Common.refl, lemmas.Result.err_from_is_err_and}
 use Rattle.star_catalogue.specs.Load.{texts_view}
-use Rattle.star_engine.specs.{Answered.change, Loads.IsUnloaded, QuoteTexts.IsNoneOfKind, Private.TextSteps.IsQuoteOfTexts, Private.TextSteps.IsToldOfTexts, Private.TextSteps.IsUntoldOfTexts}
-use Rattle.star_engine.proofs.{Noting.noted_stopped, TellingLemmas.never_refused, TellingLemmas.none, TellingLemmas.noted_of_texts, TellingLemmas.unloaded}
+use Rattle.star_engine.specs.{Answered.change, Loads.IsLoadError, QuoteTexts.IsErrorOfKind, Private.TextSteps.IsQuoteOfTexts, Private.TextSteps.IsRunOfTexts, Private.TextSteps.IsRunErrorOfTexts}
+use Rattle.star_engine.proofs.{Noting.noted_stopped, RunTextLemmas.never_refused, RunTextLemmas.none, RunTextLemmas.noted_of_texts, RunTextLemmas.unloaded}
 use Rattle.star_engine.proofs.calls.answer.Goals as goal
 
 pub returns-in_err-question : goal.returns-in_err-question
@@ -14,8 +14,8 @@ returns-in_err-question g c = λ is_program file read.
     rw (p.1, p.2)
     (noted_stopped (change g.S.Sink.contents g.S.Sink.is_failed c.args.out.now c.args.out.now)
     (change g.N.Sink.contents g.N.Sink.is_failed c.args.notes.now c.args.notes.now)
-    (IsQuoteOfTexts is_program rows texts file) (IsToldOfTexts is_program rows visits texts file)
-    (IsNoneOfKind is_program file) (IsUntoldOfTexts is_program rows visits texts file)
+    (IsQuoteOfTexts is_program rows texts file) (IsRunOfTexts is_program rows visits texts file)
+    (IsErrorOfKind is_program file) (IsRunErrorOfTexts is_program rows visits texts file)
     c.in_err-question.field-0.0 refl refl (never_refused is_program file)
     (none is_program rows visits texts file) (rw c.in_err-question.was at read))
 
@@ -30,8 +30,8 @@ returns-in_err-engine g c = λ is_program file read.
     rw (p.1, p.2)
     (noted_stopped (change g.S.Sink.contents g.S.Sink.is_failed c.args.out.now c.args.out.now)
     (change g.N.Sink.contents g.N.Sink.is_failed c.args.notes.now c.args.notes.now)
-    (IsQuoteOfTexts is_program rows texts file) (IsToldOfTexts is_program rows visits texts file)
-    (IsUnloaded rows texts) (IsUntoldOfTexts is_program rows visits texts file)
+    (IsQuoteOfTexts is_program rows texts file) (IsRunOfTexts is_program rows visits texts file)
+    (IsLoadError rows texts) (IsRunErrorOfTexts is_program rows visits texts file)
     c.in_err-engine.field-0.0 refl refl (λ refusal never. never)
     (unloaded is_program rows visits texts file c.in_ok-question.question.program asks)
     c.in_err-engine.ensures.refused)

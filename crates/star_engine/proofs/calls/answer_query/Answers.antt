@@ -1,7 +1,7 @@
 use Rattle.star_catalogue.specs.Load.{texts_view}
-use Rattle.star_engine.specs.{Answered.change, Queries.IsQueryQuote, Queries.IsQueryTold, Queries.IsReportOf, Queries.IsUnanswered}
+use Rattle.star_engine.specs.{Answered.change, Queries.IsQueryQuote, Queries.IsQueryRun, Queries.IsQueryRunError, Queries.IsReportOf}
 use Rattle.std.specs.Prelude.{false}
-use Rattle.star_engine.proofs.ByClauses.{has_reported, has_told, is_telling_broken_off, is_telling_refused, is_telling_untold}
+use Rattle.star_engine.proofs.ByClauses.{has_reported, has_written_run, is_run_broken_off, is_run_refused, is_run_unwritten}
 use Rattle.star_engine.proofs.{Reported.query_report}
 use Rattle.star_engine.proofs.calls.answer_query.Goals as goal
 
@@ -14,13 +14,13 @@ returns g c =
     let out = change g.S.Sink.contents g.S.Sink.is_failed c.args.out.now c.answer.new.out in
     let notes = change g.N.Sink.contents g.N.Sink.is_failed c.args.notes.now c.answer.new.notes in
     let of_quote = IsQueryQuote rows texts file in
-    let of_run = IsQueryTold rows visits texts file in
-    let of_fault = IsUnanswered rows visits texts file in
+    let of_run = IsQueryRun rows visits texts file in
+    let of_fault = IsQueryRunError rows visits texts file in
     let is = c.answer.ensures false file c.query.ensures in record {
       reported = has_reported out notes of_quote of_run of_fault c.answer.result
           (IsReportOf rows texts file) (query_report rows visits texts file) is;
-      noted = has_told out notes of_quote of_run of_fault c.answer.result is;
-      broken = is_telling_broken_off out notes of_quote of_run of_fault c.answer.result is;
-      refused = is_telling_refused out notes of_quote of_run of_fault c.answer.result is;
-      memory = is_telling_untold out notes of_quote of_run of_fault c.answer.result is;
+      noted = has_written_run out notes of_quote of_run of_fault c.answer.result is;
+      broken = is_run_broken_off out notes of_quote of_run of_fault c.answer.result is;
+      refused = is_run_refused out notes of_quote of_run of_fault c.answer.result is;
+      memory = is_run_unwritten out notes of_quote of_run of_fault c.answer.result is;
     }

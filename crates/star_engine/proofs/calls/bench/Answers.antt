@@ -1,7 +1,7 @@
 use Rattle.std.proofs.{Common.refl, lemmas.Result.err_from_is_err_and}
 use Rattle.star_schema.specs.Loadable.{database_of}
 use Rattle.star_catalogue.specs.Load.{texts_view}
-use Rattle.star_engine.specs.{Answered.IsAnswered, Answered.change, Bench.IsBench, Bench.IsBenchOver, Loads.IsUnloaded}
+use Rattle.star_engine.specs.{Answered.IsAnswered, Answered.change, Bench.IsBench, Bench.IsBenchOver, Loads.IsLoadError}
 use Rattle.std.specs.Prelude.{Bool}
 use Rattle.star_engine.proofs.{Answering.stopped, ByClauses.has_written, ByClauses.is_broken_off, ByClauses.is_refused, ByClauses.is_untouched, Loaded.answered_over}
 use Rattle.star_engine.proofs.calls.bench.Goals as goal
@@ -15,7 +15,7 @@ returns-in_err-engine g c =
     let p = err_from_is_err_and from.result from.ensures.1 in
     let sink = change g.S.Sink.contents g.S.Sink.is_failed c.args.out.now c.args.out.now in
     let of_text = IsBench rows visits texts in
-    let of_fault = IsUnloaded rows texts in
+    let of_fault = IsLoadError rows texts in
     let is : IsAnswered sink of_text of_fault from.result = rw (p.1, p.2)
     (stopped (Bool) sink of_text of_fault c.in_err-engine.field-0.0 refl
     c.in_err-engine.ensures.refused) in record {
@@ -33,7 +33,7 @@ returns g c =
     let visits = c.args.limits.visits in
     let sink = change g.S.Sink.contents g.S.Sink.is_failed c.args.out.now c.bench.new.out in
     let of_text = IsBench rows visits texts in
-    let of_fault = IsUnloaded rows texts in
+    let of_fault = IsLoadError rows texts in
     let is = answered_over rows texts (database_of texts) c.in_ok-engine.ensures.loadable refl sink
     (IsBenchOver visits) (λ database fault. ⊥) of_fault c.bench.result
     (λ fault loadable never. absurd never)

@@ -1,6 +1,6 @@
 use Rattle.std.proofs.Common.{◌∙◌}
 use Rattle.star_compile_laws.specs.Compiled.{compiled}
-use Rattle.star_engine.specs.{Answered.change, Queries.IsExplained, Queries.IsNoQuery}
+use Rattle.star_engine.specs.{Answered.change, Queries.IsExplained, Queries.IsQueryError}
 use Rattle.star_engine.proofs.{Answering.written, ByClauses.has_written, ByClauses.is_broken_off, ByClauses.is_refused, ByClauses.is_untouched, ProgramTexts.program_text_some}
 use Rattle.star_engine.proofs.calls.explain_query.Goals as goal
 
@@ -14,7 +14,7 @@ returns g c =
     let query = c.args.query.now in
     let sink = change g.S.Sink.contents g.S.Sink.is_failed c.args.out.now c.write_text.new.out in
     let of_text = IsExplained query in
-    let of_fault = IsNoQuery query in
+    let of_fault = IsQueryError query in
     let is = written sink c.as_slice.result.now of_text of_fault c.write_text.result
     (rw c.as_slice.ensures.value (c.in_ok-text.ensures query c.in_ok-question.ensures))
     c.write_text.ensures in record {

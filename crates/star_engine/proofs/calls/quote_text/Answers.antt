@@ -1,8 +1,8 @@
 use Rattle.std.proofs.{Common.refl, lemmas.Result.err_from_is_err_and}
 use Rattle.star_schema.specs.Loadable.{database_of}
 use Rattle.star_catalogue.specs.Load.{texts_view}
-use Rattle.star_engine.specs.{Answered.IsAnswered, Answered.change, Loads.IsUnloaded, QuoteTexts.IsQuoteText, QuoteTexts.IsQuoteTextOver, QuoteTexts.IsUnquoted, QuoteTexts.is_program_file}
-use Rattle.star_engine.proofs.{QueryFaults.or_memory, TellingLemmas.unquoted_tables, Answering.stopped, ByClauses.has_written, ByClauses.is_broken_off, ByClauses.is_refused, ByClauses.is_untouched, Loaded.answered_over}
+use Rattle.star_engine.specs.{Answered.IsAnswered, Answered.change, Loads.IsLoadError, QuoteTexts.IsQuoteError, QuoteTexts.IsQuoteText, QuoteTexts.IsQuoteTextOver, QuoteTexts.is_program_file}
+use Rattle.star_engine.proofs.{QueryFaults.or_memory, RunTextLemmas.unquoted_tables, Answering.stopped, ByClauses.has_written, ByClauses.is_broken_off, ByClauses.is_refused, ByClauses.is_untouched, Loaded.answered_over}
 use Rattle.star_engine.proofs.calls.quote_text.Goals as goal
 
 pub returns-in_err-engine : goal.returns-in_err-engine
@@ -14,10 +14,10 @@ returns-in_err-engine g c =
     let p = err_from_is_err_and from.result from.ensures.1 in
     let sink = change g.S.Sink.contents g.S.Sink.is_failed c.args.out.now c.args.out.now in
     let of_text = IsQuoteText rows texts file in
-    let of_fault = IsUnquoted rows texts file in
+    let of_fault = IsQuoteError rows texts file in
     let is : IsAnswered sink of_text of_fault from.result = rw (p.1, p.2)
     (stopped (Unit {0}) sink of_text of_fault c.in_err-engine.field-0.0 refl
-    (or_memory (IsUnloaded rows texts) of_fault c.in_err-engine.field-0.0
+    (or_memory (IsLoadError rows texts) of_fault c.in_err-engine.field-0.0
     (unquoted_tables (is_program_file file) rows texts file c.in_ok-question.question.program
     c.in_ok-question.ensures) c.in_err-engine.ensures.refused)) in record {
       written = has_written sink of_text of_fault from.result is;
@@ -33,7 +33,7 @@ returns g c =
     let file = c.args.file.now in
     let sink = change g.S.Sink.contents g.S.Sink.is_failed c.args.out.now c.quote.new.out in
     let of_text = IsQuoteText rows texts file in
-    let of_fault = IsUnquoted rows texts file in
+    let of_fault = IsQuoteError rows texts file in
     let is = answered_over rows texts (database_of texts) c.in_ok-engine.ensures.loadable refl sink
     (λ database. IsQuoteTextOver database file) (λ database fault. ⊥) of_fault c.quote.result
     (λ fault loadable never. absurd never)

@@ -1,6 +1,6 @@
 use Rattle.std.proofs.Common.{◌∙◌, Err, ap, refl, sym}
 use Rattle.std.proofs.{lemmas.Result.err_from_is_err_and}
-use Rattle.star_engine.specs.{Answered.change, Executions.IsQuote, Executions.IsProgramTold, Executions.quote_over, Private.Steps.IsNotVerified, Tellings.telling_of}
+use Rattle.star_engine.specs.{Answered.change, Executions.IsQuote, Executions.IsProgramRun, Executions.quote_over, Private.Steps.IsNotVerified, RunTexts.run_text_of}
 use Rattle.star_engine.proofs.{Executing.note_has_bytes, Executing.quote_some, Executing.report_has_bytes, Noting.delivered, Noting.note_broken}
 use Rattle.star_engine.proofs.executions.execute.Goals as goal
 
@@ -13,33 +13,33 @@ pub returns-in_err-write_note : goal.returns-in_err-write_note
 returns-in_err-write_note g c =
     let p = err_from_is_err_and c.from_residual-in_err-write_note.result
     c.from_residual-in_err-write_note.ensures.1 in
-    let told = c.in_err-write_note.ensures in
+    let ran = c.in_err-write_note.ensures in
     note_broken (change g.S.Sink.contents g.S.Sink.is_failed c.args.out.now c.args.out.now)
     (change g.N.Sink.contents g.N.Sink.is_failed c.args.notes.now c.write_note.new.notes)
     (IsQuote c.args.catalogue.now c.args.program)
-    (IsProgramTold c.args.catalogue.now c.args.limits.visits c.args.program)
+    (IsProgramRun c.args.catalogue.now c.args.limits.visits c.args.program)
     (IsNotVerified c.args.catalogue.now c.args.limits.visits c.args.program)
     c.as_bytes.result.now c.from_residual-in_err-write_note.result
-    (p.1 ∙ ap Err (p.2 ∙ told.0)) (c.as_bytes.ensures.value ∙ c.in_ok-note.ensures) told.1 refl
+    (p.1 ∙ ap Err (p.2 ∙ ran.0)) (c.as_bytes.ensures.value ∙ c.in_ok-note.ensures) ran.1 refl
 
-pub write_told-requires-clause-report : goal.write_told-requires-clause-report
-write_told-requires-clause-report g c =
+pub write_run-requires-clause-report : goal.write_run-requires-clause-report
+write_run-requires-clause-report g c =
     report_has_bytes c.args.catalogue.now c.args.limits.visits c.args.program
-    (telling_of c.in_ok-told.told) c.in_ok-told.ensures
+    (run_text_of c.in_ok-ran.ran) c.in_ok-ran.ensures
 
-pub write_told-requires-clause-done : goal.write_told-requires-clause-done
-write_told-requires-clause-done g c =
+pub write_run-requires-clause-done : goal.write_run-requires-clause-done
+write_run-requires-clause-done g c =
     note_has_bytes c.args.catalogue.now c.args.limits.visits c.args.program
-    (telling_of c.in_ok-told.told) c.in_ok-told.ensures
+    (run_text_of c.in_ok-ran.ran) c.in_ok-ran.ensures
 
 pub returns : goal.returns
 returns g c =
-    let told = c.in_ok-told.ensures in
-    let noted = rw (c.as_bytes.ensures.value ∙ c.in_ok-note.ensures ∙ sym told.quoted) at
+    let ran = c.in_ok-ran.ensures in
+    let noted = rw (c.as_bytes.ensures.value ∙ c.in_ok-note.ensures ∙ sym ran.quoted) at
     c.in_ok-write_note.ensures in
-    delivered (change g.S.Sink.contents g.S.Sink.is_failed c.args.out.now c.write_told.new.out)
+    delivered (change g.S.Sink.contents g.S.Sink.is_failed c.args.out.now c.write_run.new.out)
     g.N.Sink.contents g.N.Sink.is_failed c.args.notes.now c.write_note.new.notes
-    c.write_told.new.notes (IsQuote c.args.catalogue.now c.args.program)
-    (IsProgramTold c.args.catalogue.now c.args.limits.visits c.args.program)
+    c.write_run.new.notes (IsQuote c.args.catalogue.now c.args.program)
+    (IsProgramRun c.args.catalogue.now c.args.limits.visits c.args.program)
     (IsNotVerified c.args.catalogue.now c.args.limits.visits c.args.program)
-    (telling_of c.in_ok-told.told) c.write_told.result told.quoted told noted c.write_told.ensures
+    (run_text_of c.in_ok-ran.ran) c.write_run.result ran.quoted ran noted c.write_run.ensures

@@ -13,6 +13,6 @@ returns c =
       bounds = facts_bounds c.args.catalogue.now c.of-facts.result c.of-facts.ensures (omega arith);
       run = run_plain c.args.limits.visits c.args.catalogue.now c.args.query.now
           c.in_ok-program.program is
-          (c.each_plain_query_is_judged.ensures c.args.limits.visits c.args.query.now is.p is.meant)
+          (c.each_plain_query_has_laws.ensures c.args.limits.visits c.args.query.now is.p is.meant)
           c.in_ok-run.run' c.in_ok-run.ensures;
     }

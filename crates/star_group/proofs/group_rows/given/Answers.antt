@@ -1,4 +1,4 @@
-use Rattle.star_group.proofs.Common.{Entry, ◌≡◌, [], ℕ, Some, length, nat_eq, slice_get, subst, sym, take, ◌∙◌, and_parts, eqb-true, is_grouping, key_view, all_hidden, group_with, listed_entries, AreRows}
+use Rattle.star_group.proofs.Common.{Entry, ◌≡◌, [], ℕ, Some, length, nat_eq, slice_get, subst, sym, take, ◌∙◌, and_parts, eqb-true, is_grouping, key_view, all_rolled_up, group_with, listed_entries, AreRows}
 use Rattle.star_group.proofs.GivenGroups.{given_are_rows, hides_none, none_put, nothing_rows, some_put}
 use Rattle.star_group.proofs.{Contents.if_ok, ListedRows.row_wide}
 use Rattle.star_group.proofs.group_rows.given.Goals as goal
@@ -13,7 +13,7 @@ returns-then-is_bare c =
     let d = group_with c.args.shape c.args.key_count c.args.aggregates.now in
     let es = listed_entries c.args.rows in
     let both = and_parts (nat_eq (length es) 0)
-    (is_grouping c.args.shape (take c.args.key_count (key_view all_hidden)))
+    (is_grouping c.args.shape (take c.args.key_count (key_view all_rolled_up)))
     (sym c.is_bare.ensures ∙ c.if-is_bare.true) in
     if_ok _ _ c.nothing_given.result
     (λ given is once puts grouped. subst (λ us. AreRows d us given)
@@ -30,6 +30,6 @@ returns c = λ once puts grouped.
     row_wide c.args.rows i e at ∙ sym c.requires.aggregate_count in
     given_are_rows d puts es few grouped once wide
     (λ none. hides_none (length es)
-    (is_grouping c.args.shape (take c.args.key_count (key_view all_hidden)))
+    (is_grouping c.args.shape (take c.args.key_count (key_view all_rolled_up)))
     (sym c.is_bare.ensures ∙ c.if-is_bare.false)
     (λ some. some_put d puts es few grouped once wide some none))

@@ -1,8 +1,8 @@
 use Rattle.std.proofs.Common.{◌≡◌, List, map, refl, ℕ}
 use Rattle.star_partial.specs.Contents.{contents_of}
-use Rattle.star_engine.specs.{Answered.change, Noted.Telling}
+use Rattle.star_engine.specs.{Answered.change, WithNotes.RunText}
 use Rattle.star_engine.proofs.NotedAs.{noted_as}
-use Rattle.star_merger.specs.{Private.Outcomes.IsUnmerged, Private.Written.IsMergedTelling, Private.Written.telling_of}
+use Rattle.star_merger.specs.{Private.Outcomes.IsUnmerged, Private.Written.IsMergedTelling, Private.Written.run_text_of}
 use Rattle.star_merger.proofs.{Results.as_noted, Results.not_merged, Results.noted_unprinted, Results.unprinted_same}
 use Rattle.star_merger.proofs.merges.write_merged.Goals as goal
 
@@ -17,9 +17,9 @@ returns-in-Ok-clause-merged g c = λ query is.
     rw c.as_merge.ensures
     (as_noted out notes IsQuote IsTold (λ fault. ⊥) (IsUnmerged all) c.write_outcome.result
     (noted_as out notes IsQuote IsQuote
-    (λ (telling : Telling). telling ≡ telling_of c.args.note.now c.in-Ok.outcome) IsTold
+    (λ (run : RunText). run ≡ run_text_of c.args.note.now c.in-Ok.outcome) IsTold
     (λ fault. ⊥) (λ fault. ⊥) c.write_outcome.result (λ quoted is. is)
-    (λ telling same.
+    (λ run same.
     record { outcome = c.in-Ok.outcome; merged = c.in-Ok.ensures.merged query is; told = same })
     (λ fault never. never) c.write_outcome.ensures))
 
@@ -40,7 +40,7 @@ returns-in-Ok-clause-unprinted g c =
     (change g.S.Sink.contents g.S.Sink.is_failed c.args.out.now c.write_outcome.new.out)
     (change g.N.Sink.contents g.N.Sink.is_failed c.args.notes.now c.write_outcome.new.notes)
     (λ (quoted : List ℕ). quoted ≡ c.args.note.now)
-    (λ (telling : Telling). telling ≡ telling_of c.args.note.now c.in-Ok.outcome)
+    (λ (run : RunText). run ≡ run_text_of c.args.note.now c.in-Ok.outcome)
     c.write_outcome.result c.write_outcome.ensures)
 
 pub returns-in-Err-clause-unprinted : goal.returns-in-Err-clause-unprinted

@@ -1,6 +1,6 @@
 use Rattle.std.proofs.lemmas.Result.{err_from_is_err_and}
-use Rattle.star_engine.specs.{QuoteTexts.IsUnquotedOver, QuoteTexts.is_program_file, Tellings.IsUnjudgedOver}
-use Rattle.star_engine.proofs.{QueryFaults.or_memory, TellingLemmas.unread}
+use Rattle.star_engine.specs.{QuoteTexts.IsQuoteErrorOver, QuoteTexts.is_program_file, RunTexts.IsForecastErrorOver}
+use Rattle.star_engine.proofs.{QueryFaults.or_memory, RunTextLemmas.unread}
 use Rattle.star_service.proofs.reports.report_of.Goals as goal
 
 pub returns-in_err-question : goal.returns-in_err-question
@@ -10,7 +10,7 @@ returns-in_err-question c =
     let database = c.args.engine.now.database in
     let file = c.args.file.now in
     rw (p.1, p.2)
-    (or_memory (IsUnquotedOver file) (IsUnjudgedOver visits database file)
+    (or_memory (IsQuoteErrorOver file) (IsForecastErrorOver visits database file)
     c.in_err-question.field-0.0 (unread (is_program_file file) visits database file)
     c.in_err-question.ensures)
 

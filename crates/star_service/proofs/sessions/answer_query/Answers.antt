@@ -1,6 +1,6 @@
 use Rattle.std.proofs.{Common.false, Common.refl, lemmas.Result.err_from_is_err_and}
-use Rattle.star_engine.specs.{Answered.change, Queries.IsNoQuery, Queries.IsQueryQuoteOver, Queries.IsQueryToldOver, Queries.IsUnansweredOver}
-use Rattle.star_engine.proofs.{Noting.noted_stopped, TellingLemmas.unread}
+use Rattle.star_engine.specs.{Answered.change, Queries.IsQueryError, Queries.IsQueryQuoteOver, Queries.IsQueryRunErrorOver, Queries.IsQueryRunOver}
+use Rattle.star_engine.proofs.{Noting.noted_stopped, RunTextLemmas.unread}
 use Rattle.star_service.proofs.sessions.answer_query.Goals as goal
 
 pub returns-in_err-question : goal.returns-in_err-question
@@ -12,8 +12,8 @@ returns-in_err-question g c =
     rw (p.1, p.2)
     (noted_stopped (change g.S.Sink.contents g.S.Sink.is_failed c.args.out.now c.args.out.now)
     (change g.N.Sink.contents g.N.Sink.is_failed c.args.notes.now c.args.notes.now)
-    (IsQueryQuoteOver database query) (IsQueryToldOver visits database query) (IsNoQuery query)
-    (IsUnansweredOver visits database query) c.in_err-question.field-0.0 refl refl
+    (IsQueryQuoteOver database query) (IsQueryRunOver visits database query) (IsQueryError query)
+    (IsQueryRunErrorOver visits database query) c.in_err-question.field-0.0 refl refl
     (λ refusal never. never) (unread false visits database query) c.in_err-question.ensures)
 
 pub returns : goal.returns

@@ -1,6 +1,6 @@
 use Rattle.std.specs.Prelude.{string_bytes}
-use Rattle.star_engine.specs.{Private.Steps.IsNotVerified, Tellings.IsJudgedOfKind, Tellings.IsProgramForecast, Tellings.IsUnjudgedOfKind}
-use Rattle.star_engine.proofs.TellingLemmas.{judged, matched_as, unjudged}
+use Rattle.star_engine.specs.{Private.Steps.IsNotVerified, RunTexts.IsForecastErrorOfKind, RunTexts.IsForecastOfKind, RunTexts.IsProgramForecast}
+use Rattle.star_engine.proofs.RunTextLemmas.{forecast_error, judged, matched_as}
 use Rattle.star_engine.proofs.engine.Engine.forecast.Goals as goal
 
 pub returns : goal.returns
@@ -8,11 +8,11 @@ returns c = λ is_program file asks.
     let most = c.self.inside.limits.visits in
     let database = c.self.inside.catalogue in
     let program = c.args.question.program in
-    let laws = c.each_query_is_judged.ensures most file in
+    let laws = c.each_query_has_laws.ensures most file in
     rw (← c.self.view_is)
     (matched_as (λ line. IsProgramForecast database most program (string_bytes line))
-    (λ line. IsJudgedOfKind is_program most database file (string_bytes line))
-    (IsNotVerified database most program) (IsUnjudgedOfKind is_program most database file)
+    (λ line. IsForecastOfKind is_program most database file (string_bytes line))
+    (IsNotVerified database most program) (IsForecastErrorOfKind is_program most database file)
     c.forecast.result
     (λ line. judged most database file program laws is_program asks (string_bytes line))
-    (unjudged most database file program laws is_program asks) c.forecast.ensures)
+    (forecast_error most database file program laws is_program asks) c.forecast.ensures)

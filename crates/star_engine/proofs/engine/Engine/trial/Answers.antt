@@ -1,4 +1,4 @@
-use Rattle.star_engine.specs.{Answered.change, Trials.IsBoundedReport, Trials.IsNoTrialOver}
+use Rattle.star_engine.specs.{Answered.change, Trials.IsBoundedReport, Trials.IsTrialErrorOver}
 use Rattle.star_engine.proofs.Answering.{written}
 use Rattle.star_engine.proofs.engine.Engine.trial.Goals as goal
 
@@ -11,5 +11,5 @@ returns g c = λ file asks.
     rw (← c.self.view_is) (written
     (change g.S.Sink.contents g.S.Sink.is_failed c.args.out.now c.write_text.new.out)
     c.as_slice.result.now (IsBoundedReport database file c.args.visits)
-    (IsNoTrialOver database file c.args.visits) c.write_text.result
-    (rw c.as_slice.ensures.value (c.in_ok-report.ensures.told file asks)) c.write_text.ensures)
+    (IsTrialErrorOver database file c.args.visits) c.write_text.result
+    (rw c.as_slice.ensures.value (c.in_ok-report.ensures.ran file asks)) c.write_text.ensures)

@@ -3,7 +3,7 @@ use Rattle.std.proofs.Common.{◌≡◌}
 use Rattle.std.specs.Prelude.{IfErr}
 use Rattle.star_schema.specs.{Database.Database, Loadable.IsLoadable}
 use Rattle.star_catalogue.specs.Pieces.{IsReadNextTo, with_lineorder_text}
-use Rattle.star_engine.specs.{Answered.OrMemory, Loads.IsUnloaded, Loads.Loaded, Loads.loaded_of}
+use Rattle.star_engine.specs.{Answered.OrMemory, Loads.IsLoadError, Loads.Loaded, Loads.loaded_of}
 use Rattle.star_engine.proofs.engine.Engine.with_lineorder.Goals as goal
 
 pub load_next-requires : goal.load_next-requires
@@ -20,7 +20,7 @@ pub returns-in_err-loaded-clause-refused : goal.returns-in_err-loaded-clause-ref
 returns-in_err-loaded-clause-refused c = λ texts text.
     let p = err_from_is_err_and c.from_residual.result c.from_residual.ensures.1 in
     subst (λ (l : Loaded). IsReadNextTo l.database c.args.reader.value l.rows texts text
-    → IfErr c.from_residual.result (OrMemory (IsUnloaded l.rows (with_lineorder_text texts text))))
+    → IfErr c.from_residual.result (OrMemory (IsLoadError l.rows (with_lineorder_text texts text))))
     c.self.view_is (λ is. rw (p.1, p.2) (c.in_err-loaded.ensures _ texts text is))
 
 pub invariant_of-result : goal.invariant_of-result

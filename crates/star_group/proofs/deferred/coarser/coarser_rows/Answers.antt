@@ -1,4 +1,4 @@
-use Rattle.star_group.proofs.Common.{◌≡◌, ◌<◌, ◌∙◌, [], None, ap, arith, drop, get_or, length, set, subst, sym, drop-set-lt, slice_get-get_or, key_view, row_found, All, entries_of, listed_entries, all_hidden, IsMergedWhere, RowsStay}
+use Rattle.star_group.proofs.Common.{◌≡◌, ◌<◌, ◌∙◌, [], None, ap, arith, drop, get_or, length, set, subst, sym, drop-set-lt, slice_get-get_or, key_view, row_found, All, entries_of, listed_entries, all_rolled_up, IsMergedWhere, RowsStay}
 use Rattle.star_group.proofs.KeyedRows.{rows_once}
 use Rattle.star_group.proofs.Rolling.{IsMergedSoFar, none_before, rolls_up, turn_merges, turn_stays}
 use Rattle.star_group.proofs.deferred.coarser.coarser_rows.Goals as goal
@@ -22,7 +22,7 @@ merge_coarser-requires-clause-narrow c =
     omega (arith, c.requires.place, c.requires.key_count, c.loop-index.invariant.width) in
     ap (drop width) c.with_all_at-key.ensures.parts
     ∙ drop-set-lt width c.key.result c.args.place All within
-    ∙ subst (λ n. drop n c.key.result ≡ drop n all_hidden) (sym c.loop-index.invariant.width)
+    ∙ subst (λ n. drop n c.key.result ≡ drop n all_rolled_up) (sym c.loop-index.invariant.width)
     c.key.ensures.narrow
 
 pub merge_coarser-requires-clause-stays : goal.merge_coarser-requires-clause-stays

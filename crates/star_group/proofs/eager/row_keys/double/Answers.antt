@@ -1,5 +1,5 @@
 use Rattle.star_group.proofs.Common.{◌<◌, ◌++◌, ◌∷◌, [], ◌∙◌, Bool, List, ap, arith, length, set, filter, key_view, is_row_key, KeyPart, All}
-use Rattle.star_group.proofs.OwnKeyLemmas.{next_hidden}
+use Rattle.star_group.proofs.BaseKeyLemmas.{next_hidden}
 use Rattle.star_group.proofs.eager.row_keys.double.Goals as goal
 
 pub loop-index-preserved : goal.loop-index-preserved

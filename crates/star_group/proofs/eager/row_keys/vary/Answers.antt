@@ -1,5 +1,5 @@
 use Rattle.star_group.proofs.Common.{◌∷◌, [], ◌≡◌, ◌+◌, ◌-◌, cond, map, arith, sym, ap, ◌∙◌, filter, padded, key_view, keys_from, is_row_key}
-use Rattle.star_group.proofs.{AllRows.base_keys, AllRows.cube_keys, OwnKeyLemmas.doubled, GroupKeys.own_grouping, Rolling.row_keys_more}
+use Rattle.star_group.proofs.{AllRows.base_keys, AllRows.cube_keys, BaseKeyLemmas.doubled, GroupKeys.own_grouping, Rolling.row_keys_more}
 use Rattle.star_group.proofs.eager.row_keys.vary.Goals as goal
 
 pub loop-place-init : goal.loop-place-init

@@ -1,4 +1,4 @@
-use Rattle.star_group.proofs.{Common.◌∙◌, Common.sym, Common.true≢false, OwnKeyLemmas.part_more, keyed.key.are_shown_first.Goals.else-shown-via-then-shown+else-hides, keyed.key.are_shown_first.Goals.else-shown-via-else-shown}
+use Rattle.star_group.proofs.{Common.◌∙◌, Common.sym, Common.true≢false, BaseKeyLemmas.part_more, keyed.key.are_shown_first.Goals.else-shown-via-then-shown+else-hides, keyed.key.are_shown_first.Goals.else-shown-via-else-shown}
 use Rattle.star_group.proofs.keyed.key.are_shown_first.Goals as goal
 
 pub loop-part-preserved : goal.loop-part-preserved

@@ -1,5 +1,5 @@
 use Rattle.star_group.proofs.Common.{add-one, sym, ap, ◌∙◌, Some, get_or, pos, slice_set, map-set, Number, key_view, key_value_view}
-use Rattle.star_group.proofs.OwnKeyLemmas.{padded-set, all_padded}
+use Rattle.star_group.proofs.BaseKeyLemmas.{padded-set, all_padded}
 use Rattle.star_group.proofs.keyed.key.base_key.Goals as goal
 
 pub loop-place-init : goal.loop-place-init

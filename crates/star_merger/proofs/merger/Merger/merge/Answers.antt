@@ -9,7 +9,7 @@ use Rattle.star_safety.specs.Admissible.{first_refusal}
 use Rattle.star_verify.specs.{Facts.AreFacts, Views.refusal_view}
 use Rattle.star_world.specs.WorldOf.{world_of}
 use Rattle.star_compile_laws.specs.Compiled.{compiled}
-use Rattle.star_engine.specs.{Answered.change, Queries.IsQueryQuote, Queries.IsQueryTold, Queries.IsUnanswered}
+use Rattle.star_engine.specs.{Answered.change, Queries.IsQueryQuote, Queries.IsQueryRun, Queries.IsQueryRunError}
 use Rattle.star_merger.specs.{Merged.IsOverlap, Merged.spans_of, Private.Checked.AreDisjointSpans, Private.Outcomes.IsUnmerged, Private.Shown.IsUsable, Private.Written.IsMergedTelling}
 use Rattle.star_merger.specs.TextShares.{all_contents, whole_texts}
 use Rattle.star_merger.proofs.JoinedFacts.{are_facts}
@@ -42,8 +42,8 @@ returns-in-Err-clause-merged g c = λ query hash texts share other shares others
     let count = count_moved rows visits texts query hash xs ys moved in
     not_checked (change g.S.Sink.contents g.S.Sink.is_failed c.args.out.now c.args.out.now)
     (change g.N.Sink.contents g.N.Sink.is_failed c.args.notes.now c.args.notes.now)
-    (IsQueryQuote rows whole query) (IsQueryTold rows visits whole query)
-    (IsUnanswered rows visits whole query) rows
+    (IsQueryQuote rows whole query) (IsQueryRun rows visits whole query)
+    (IsQueryRunError rows visits whole query) rows
     (whole_rows rows visits texts query hash share shares are) c.args.is_distinct
     (spans_of (map contents_of c.args.partials.now)) c.in-Err.fault
     (λ fault is_many many. too_many_due rows visits texts query hash other others are_ys is.p is.meant
@@ -92,15 +92,15 @@ returns-in-Ok-forecast-clause-merged g c = λ query hash texts share other share
     merged_as (change g.S.Sink.contents g.S.Sink.is_failed c.args.out.now c.write_merged.new.out)
     (change g.N.Sink.contents g.N.Sink.is_failed c.args.notes.now c.write_merged.new.notes)
     (λ (quoted : List ℕ). quoted ≡ note) (IsQueryQuote rows whole query)
-    (IsMergedTelling is.p all count note) (IsQueryTold rows visits whole query)
-    (λ fault. ⊥) (IsUnanswered rows visits whole query) (IsUnmerged all)
+    (IsMergedTelling is.p all count note) (IsQueryRun rows visits whole query)
+    (λ fault. ⊥) (IsQueryRunError rows visits whole query) (IsUnmerged all)
     (IsOverlap c.args.is_distinct (spans_of all)) c.write_merged.result
     (λ text e. quote_due rows visits texts query hash other others are_ys loads is.p is.meant count note
     text counted quoted e)
-    (λ telling told. telling_due rows visits texts query hash other others are_ys loads is.p is.meant
-    count note (all_contents ys) telling refl counted quoted fits
-    (telling_moved rows visits texts query hash xs ys moved is.p count note telling
-    (subst (λ all. IsMergedTelling is.p all count note telling) same told)))
+    (λ run told. telling_due rows visits texts query hash other others are_ys loads is.p is.meant
+    count note (all_contents ys) run refl counted quoted fits
+    (telling_moved rows visits texts query hash xs ys moved is.p count note run
+    (subst (λ all. IsMergedTelling is.p all count note run) same told)))
     (λ fault never. absurd never)
     (only_overflow all c.args.is_distinct (spans_of all)
     (subst (All IsUsable) (sym same)
@@ -140,11 +140,11 @@ returns-clause-merged g c = λ query hash texts share other shares others is are
     let notes = change g.N.Sink.contents g.N.Sink.is_failed c.args.notes.now
     c.write_refused.new.notes in
     rw c.as_merge.ensures
-    (as_noted out notes (IsQueryQuote rows whole query) (IsQueryTold rows visits whole query)
-    (IsUnanswered rows visits whole query) (IsOverlap c.args.is_distinct (spans_of all))
+    (as_noted out notes (IsQueryQuote rows whole query) (IsQueryRun rows visits whole query)
+    (IsQueryRunError rows visits whole query) (IsOverlap c.args.is_distinct (spans_of all))
     c.write_refused.result
-    (refused_after out notes (IsQueryQuote rows whole query) (IsQueryTold rows visits whole query)
-    (IsUnanswered rows visits whole query) note c.in-Err-forecast.refusal
+    (refused_after out notes (IsQueryQuote rows whole query) (IsQueryRun rows visits whole query)
+    (IsQueryRunError rows visits whole query) note c.in-Err-forecast.refusal
     ((w : World) → AreFacts w facts
     → first_refusal w visits c.args.self.now.program ≡ refusal_view c.in-Err-forecast.refusal)
     c.write_refused.result c.in-Err-forecast.ensures.refused

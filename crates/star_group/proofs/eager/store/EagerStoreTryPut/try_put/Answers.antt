@@ -1,7 +1,7 @@
 use Rattle.star_group.proofs.Common.{◌≡◌, ◌≢◌, ◌∙◌, false, refl, inl, inr, ap, arith, length, map, rules, subst, sym, ⊎_elim, IsDistinct, filter, MatchBool-at_false, MatchBool-at_true, AllPairs-filter, AllPairs-from_IsDistinct, IsDistinct-from_AllPairs, err_from_is_err_and, Update, SomeLeaves}
 use Rattle.star_group.proofs.Common.{key_view, row_found, entries_of, key_eq, padded, vary, is_row_key}
-use Rattle.star_group.proofs.Contents.{own_keys, put_has, put_leaves, put_stays}
-use Rattle.star_group.proofs.{OwnKeyLemmas.vary_distinct, GroupKeys.key_decides, KeyedRows.row_keys_narrow}
+use Rattle.star_group.proofs.Contents.{base_keys, put_has, put_leaves, put_stays}
+use Rattle.star_group.proofs.{BaseKeyLemmas.vary_distinct, GroupKeys.key_decides, KeyedRows.row_keys_narrow}
 use Rattle.star_group.proofs.eager.store.EagerStoreTryPut.try_put.Goals as goal
 
 pub fill_row_keys-requires : goal.fill_row_keys-requires
@@ -46,7 +46,7 @@ returns-in_err-put_rows-clause-overflow c =
     (λ some. inr (put_leaves s u _ _ same c.row_of_put-more.ensures c.requires.keys
     (inr (subst (λ o. SomeLeaves (row_found (entries_of s.rows)) o
     c.as_slice-aggregates.result.now c.row_of_put-more.result)
-    (own_keys s u _ _ same c.row_of_put-more.ensures c.requires.keys c.as_slice.result.now
+    (base_keys s u _ _ same c.row_of_put-more.ensures c.requires.keys c.as_slice.result.now
     (ap (map key_view) c.as_slice.ensures.value ∙ c.in_ok-fill_row_keys.ensures)) some))))
     c.in_err-put_rows.ensures.overflow)
 

@@ -1,8 +1,0 @@
--- The errands so far.
-use Rattle.std.proofs.Common.{take}
-use Rattle.std.specs.List.{AllZip}
-use Rattle.star_cli.specs.Private.Errands.{IsErrandFor}
-use Rattle.star_cli.proofs.errands.errands_of.Given as goal
-
-abbrev pub invariant-loop-file : goal.invariant-loop-file
-invariant-loop-file l = AllZip IsErrandFor (take l.file-index l.files) l.errands.items

@@ -1,9 +1,0 @@
--- The files so far.
-use Rattle.std.proofs.Common.{take}
-use Rattle.std.specs.List.{AllZip}
-use Rattle.star_cli.specs.Private.Errands.{IsReadFrom}
-use Rattle.star_cli.proofs.errands.read_files.Given as goal
-
-abbrev pub invariant-loop-path : goal.invariant-loop-path
-invariant-loop-path g l =
-    AllZip (IsReadFrom (g.R.Store.known l.rt)) (take l.path-index l.paths) l.files.items

@@ -1,5 +1,0 @@
-use Rattle.star_group.proofs.Common.{◌≡◌, column_after}
-use Rattle.star_group.proofs.placed.cells.take_lane.Given as goal
-
-abbrev pub invariant-loop-row : goal.invariant-loop-row
-invariant-loop-row l = l.cells ≡ column_after l.aggregate l.lane l.at l.fn.cells l.row
