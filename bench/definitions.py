@@ -1,18 +1,50 @@
 """Reads the crates' sources as text: their definitions, what each cites, and what the clauses of functions cite."""
 
 import re
-from collections import Counter, defaultdict
+from collections import defaultdict
 from pathlib import Path
 from typing import Iterator, NamedTuple
 
-from layout import lines_of
-from repository import CRATES
+from repository import CRATES, reachable
 
 NAME = re.compile(r"[A-Za-zℕℤ_][\w'\-]*(?:\.[A-Za-z_0-9][\w'\-]*)*")
 USE = re.compile(r"(?:pub )?(?:ghost )?use (?:Rattle\.)?(?P<path>[\w.'\-]+?)(?:\.\{(?P<names>.*)\}| as (?P<alias>\w+))?;?\s*$")
 CASE = re.compile(r"([A-Za-z][\w' ]*) : ")
 FUNCTION = re.compile(r"\s*(?:pub(?:\(\w+\))?\s+)?fn (\w+)")
 CLAUSE = re.compile(r"\s*(?:requires|ensures)\*?\s*(\w+)?\s*\{")
+# Definitions begin at the left margin, or indented within `mutual` and `module _` blocks.
+BLOCK = re.compile(r"(?:(?:abbrev |unfoldable )?mutual|(?:private )?module _ .*)$")
+HEAD = re.compile(
+    r"(?:(?:abbrev |unfoldable )?(?:pub )?(?P<type>record|data) (?P<type_name>[^\s:]+)"
+    r"|(?:abbrev pub|unfoldable pub|abbrev|unfoldable|pub)\s+(?P<name>[A-Za-z_][\w'\-]*) :)"
+)
+
+
+class Line(NamedTuple):
+    """A line of a file: its offset, its code, its indentation, and that of the definitions around it."""
+
+    offset: int
+    code: str
+    indent: int
+    margin: int
+
+    def is_at_margin(self) -> bool:
+        """Returns whether the line begins a definition, an equation, a comment or a block."""
+        return self.indent == self.margin
+
+
+def lines_of(text: str) -> Iterator[Line]:
+    """Yields the lines of a file but blank ones. A block's margin is the indentation of its first definition."""
+    margin, opened, offset = 0, False, 0
+    for raw in text.splitlines(keepends=True):
+        code, indent = raw.strip(), len(raw) - len(raw.lstrip())
+        if code and not code.startswith("--"):
+            if indent < margin or opened and (HEAD.match(code) or BLOCK.match(code)):
+                margin, opened = indent, False
+            opened = opened or indent == margin and bool(BLOCK.match(code))
+        if code:
+            yield Line(offset, code, indent, margin)
+        offset += len(raw)
 
 
 class Key(NamedTuple):
@@ -22,16 +54,17 @@ class Key(NamedTuple):
     module: str
     name: str
 
-    def is_declared(self) -> bool:
-        """Returns whether the name is a type, a variant or a constant of the Rust code."""
-        return self.module.split(".")[0] in ("declared", "contracts")
-
-    def declaration(self) -> "Key":
-        """Returns the file, and the type or the constant, of a declared name."""
-        *parts, last = self.module.split(".")[1:]
+    def declaration(self) -> "Key | None":
+        """Returns the file of a name of the Rust code, and the type or the constant that declares it."""
+        area, *parts = self.module.split(".")
+        if area not in ("declared", "contracts"):
+            return None
+        last = parts.pop()
         if last == "TheConstants":
-            return Key(self.crate, ".".join(parts), self.name)
-        return Key(self.crate, ".".join(parts[:-1]), parts[-1]) if last == "TheVariants" else Key(self.crate, ".".join(parts), last)
+            last = self.name
+        elif last == "TheVariants":
+            last = parts.pop()
+        return Key(self.crate, ".".join(parts), last)
 
     def place(self) -> str:
         return f"{self.crate}/specs/{self.module.replace('.', '/')}.antt"
@@ -74,27 +107,24 @@ class Imports:
 class Definitions:
     """The definitions of all crates: the lines of each, and what it cites."""
 
-    def __init__(self, crates: Path = CRATES) -> None:
-        self.crates = crates
+    def __init__(self) -> None:
         self.lines: dict[Key, int] = {}
         self.cites: dict[Key, set[Key]] = defaultdict(set)
-        for file in sorted(crates.glob("*/specs/**/*.antt")):
-            crate, _, *module = file.relative_to(crates).with_suffix("").parts
-            self.read(crate, ".".join(module), file.read_text(encoding="utf-8"))
+        for file in sorted(CRATES.glob("*/specs/**/*.antt")):
+            crate, _, *module = file.relative_to(CRATES).with_suffix("").parts
+            self.read(crate, ".".join(module), file.read_text())
 
     def read(self, crate: str, module: str, text: str) -> None:
         """Reads a file."""
         imports, here, is_data = Imports((crate, module)), None, False
         for line in lines_of(text):
             code = line.code
-            if code.startswith(("use ", "pub use ")):
+            if code.startswith(("use ", "pub use ", "--")):
                 imports.add(code)
                 continue
-            if code.startswith("--"):
-                continue
-            if line.opens_block():
+            if line.is_at_margin() and BLOCK.match(code):
                 here = None
-            if head := line.head():
+            if line.is_at_margin() and (head := HEAD.match(code)):
                 here, is_data = Key(crate, module, head["type_name"] or head["name"]), head["type"] == "data"
                 self.lines.setdefault(here, 0)
             if here:
@@ -108,48 +138,28 @@ class Definitions:
 
     def reached(self, keys: set[Key]) -> set[Key]:
         """Returns the definitions among some keys, and all that these cite, directly or not."""
-        found, todo = set(), list(keys)
-        while todo:
-            if (key := todo.pop()) in self.lines and key not in found:
-                found.add(key)
-                todo += self.cites[key]
-        return found
-
-    def by_crate(self, keys: set[Key]) -> Counter[str]:
-        """Returns how many lines some definitions have in each crate."""
-        found: Counter[str] = Counter()
-        for key in keys:
-            found[key.crate] += self.lines[key]
-        return found
+        return reachable(keys & self.lines.keys(), lambda it: self.cites[it] & self.lines.keys())
 
     def outside(self, keys: set[Key]) -> tuple[dict[Key, int], set[Key]]:
-        """Returns the Rust declarations that some definitions cite, with their lines, and definitions of the toolchain."""
-        cited = set().union(*(self.cites[key] for key in keys))
-        has = lambda it: (self.crates / it.crate).is_dir()
-        declared = {it.declaration() if it.is_declared() else it for it in cited if it.is_declared() or not has(it)}
-        return {it: self.declaration_lines(it) for it in declared if has(it)}, {it for it in declared if not has(it)}
-
-    def declaration_lines(self, key: Key) -> int:
-        """Returns how many lines a declaration has, without blank lines and comments."""
-        file = (self.crates / key.crate / "src").joinpath(*key.module.split(".")).with_suffix(".rt")
-        lines = file.read_text(encoding="utf-8").splitlines()
-        start = next(at for at, it in enumerate(lines) if re.match(rf"(?:pub(?:\(\w+\))? )?(?:enum|struct|const|static) {key.name}\b", it))
-        end = next(at for at, it in enumerate(lines) if at >= start and re.match(r"\S.*[;}]$|[;}]$", it))
-        return sum(1 for it in lines[start : end + 1] if it.strip() and not it.lstrip().startswith("//"))
+        """Returns the Rust declarations that some definitions cite, with their lines, and those of the toolchain."""
+        cited, ours = {it for key in keys for it in self.cites[key]} - self.lines.keys(), set(CRATES.iterdir())
+        found = {it.declaration() or it for it in cited if it.declaration() or CRATES / it.crate not in ours}
+        declared = {it for it in found if CRATES / it.crate in ours}
+        return {it: declaration_lines(it) for it in declared}, found - declared
 
 
-class PublicClause(NamedTuple):
-    """A clause of a public function, and what it cites."""
+def declaration_lines(key: Key) -> int:
+    """Returns how many lines a declaration of the Rust code has, without blank lines and comments."""
+    file = (CRATES / key.crate / "src").joinpath(*key.module.split(".")).with_suffix(".rt")
+    pattern = rf"^(?:pub(?:\(\w+\))? )?(?:enum|struct|const|static) {key.name}\b(?:.*[;}}]$|(?:.|\n)*?^(?:\S.*)?[;}}]$)"
+    lines = re.search(pattern, file.read_text(), re.M)[0].splitlines()
+    return sum(1 for it in lines if it.strip() and not it.lstrip().startswith("//"))
 
-    function: str
-    name: str
-    keys: set[Key]
 
-
-def clauses_in(file: Path) -> Iterator[PublicClause]:
-    """Yields the clauses of the public functions in a file, those of public traits among them."""
+def clauses_in(file: Path) -> Iterator[tuple[str, str, set[Key]]]:
+    """Yields the clauses of public functions and traits: the function, the clause's name, and what it cites."""
     imports, function, is_trait = Imports(None), "", False
-    lines = iter(file.read_text(encoding="utf-8").splitlines())
+    lines = iter(file.read_text().splitlines())
     for line in lines:
         imports.add(line)
         is_trait = line.startswith("pub trait ") or (is_trait and not line.startswith("}"))
@@ -160,24 +170,21 @@ def clauses_in(file: Path) -> Iterator[PublicClause]:
             while text.count("{") > text.count("}"):
                 text += "\n" + next(lines)
             if function:
-                yield PublicClause(function, head[1] or "", imports.keys_in(text))
+                yield function, head[1] or "", imports.keys_in(text)
 
 
-def keys_of(crates: Path, promise: str) -> set[Key]:
+def keys_of(promise: str) -> set[Key]:
     """Returns what a public function's clauses cite, or those of one name: CRATE.FUNCTION[.CLAUSE]."""
-    crate, function, clause = (promise.split(".") + [""])[:3]
-    clauses = (it for file in sorted((crates / crate / "src").rglob("*.rt")) for it in clauses_in(file))
-    return set().union(*(it.keys for it in clauses if it.function == function and clause in ("", it.name)))
+    crate, *wanted = promise.split(".")
+    clauses = (it for file in (CRATES / crate / "src").rglob("*.rt") for it in clauses_in(file))
+    return set().union(*(keys for function, name, keys in clauses if wanted in ([function], [function, name])))
 
 
 def private_citations(definitions: Definitions) -> Iterator[str]:
-    """Yields each file outside `specs/Private` that cites one in it, and each public clause that reaches one."""
+    """Yields each definition outside `specs/Private` and each public clause that cites one in it."""
     is_private = lambda it: it.module.split(".")[0] == "Private" and it in definitions.lines
-    for key, cited in sorted(definitions.cites.items()):
-        for other in sorted(filter(is_private, cited)) if not is_private(key) else ():
-            yield f"{key.place()}: {key.name} cites {other.name} of {other.place()}"
-    for file in sorted(definitions.crates.glob("*/src/**/*.rt")):
-        for clause in clauses_in(file):
-            for other in sorted(filter(is_private, definitions.reached(clause.keys))):
-                where = f"{file.relative_to(definitions.crates)}: {clause.function} {clause.name}".rstrip()
-                yield f"{where} reaches {other.name} of {other.place()}"
+    cited = [(f"{it.place()}: {it.name}", keys) for it, keys in sorted(definitions.cites.items()) if not is_private(it)]
+    for file in sorted(CRATES.glob("*/src/**/*.rt")):
+        cited += [(f"{file.relative_to(CRATES)}: {function} {name}", keys) for function, name, keys in clauses_in(file)]
+    for place, keys in cited:
+        yield from (f"{place} cites {it.name} of {it.place()}" for it in sorted(filter(is_private, keys)))

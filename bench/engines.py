@@ -1,4 +1,4 @@
-"""The engines that are measured: each loads a folder of tables and answers queries over them, in one thread."""
+"""The engines that are measured: each loads a folder of tables, and answers queries over them in one thread."""
 
 import os
 import re
@@ -9,23 +9,23 @@ import socket
 import subprocess
 import sys
 import time
+from collections import defaultdict
 from contextlib import contextmanager
 from pathlib import Path
 from typing import Callable, Iterator, NamedTuple
 
-from repository import OTHERS, TABLES, THIRTEEN, TOP
-from timing import run
+from repository import OTHERS, TABLES, THIRTEEN, TOP, run
 
-KEYS = {"date": "d_datekey", "customer": "c_custkey", "supplier": "s_suppkey", "part": "p_partkey", "lineorder": "lo_orderkey, lo_linenumber"}
+KEYS = dict(zip(TABLES, ("d_datekey", "c_custkey", "s_suppkey", "p_partkey", "lo_orderkey, lo_linenumber")))
 REFERRED = {"lo_custkey": "customer", "lo_partkey": "part", "lo_suppkey": "supplier", "lo_orderdate": "date", "lo_commitdate": "date"}
-COLUMN = re.compile(r"### `(\w+)\.tbl`|\| \d+ \| `(\w+)` \| (number|text)s")
+COLUMN = re.compile(r"\| \d+ \| `(\w+)` \| (number|text)s")
 NAMES = re.compile(r"\b(?:lo|[cspd])_\w+")
 QUERY = re.compile(r"select (.*?) from (.*?)(?: where (.*?))?(?: group by (?:(cube|rollup)\()?(.*?)\)?)?(?: order by (.*))?$")
 Answer = tuple[float, bytes]
 
 
 class Engine(NamedTuple):
-    """An engine with loaded tables: a function from a query to its seconds and its report, and seconds and peak of the load."""
+    """An engine with loaded tables: what answers a query with a time and a report, and time and peak of the load."""
 
     ask: Callable[[str], Answer | None]
     load: float
@@ -44,12 +44,14 @@ class Query(NamedTuple):
 
     def text(self, shape: str = "") -> str:
         """Returns the query without its order, as standard SQL."""
-        where = f" where {self.condition}" if self.condition else ""
-        keys = ", ".join(self.keys)
-        return f"select {self.items} from {self.tables}{where}" + (f" group by {shape}({keys})" if shape else f" group by {keys}" * bool(keys))
+        where, keys = f" where {self.condition}" * bool(self.condition), ", ".join(self.keys)
+        return f"select {self.items} from {self.tables}{where}" + f" group by {f'{shape}({keys})' if shape else keys}" * bool(keys)
+
+    def null(self) -> str:
+        return "ALL" if self.shape else "NULL"
 
     def sort(self, key: str = "{}") -> str:
-        return f" order by {', '.join(key.format(it) for it in self.order)}" * bool(self.order)
+        return f" order by {', '.join(map(key.format, self.order))}" * bool(self.order)
 
 
 def query_of(text: str) -> Query:
@@ -62,42 +64,37 @@ def query_of(text: str) -> Query:
 
 def creations(number: str, text: str, keys: Callable[[str], str] = lambda name: "") -> dict[str, str]:
     """Returns the columns of each table, as docs/TABLES.md lists them, for `create table`."""
-    found: dict[str, list[str]] = {}
-    for table, name, kind in COLUMN.findall((TOP / "docs/TABLES.md").read_text()):
-        if table:
-            columns = found.setdefault(table, [])
-        else:
-            columns.append(f"{name} {number if kind == 'number' else text}{keys(name)}")
-    return {table: ", ".join(columns) for table, columns in found.items()}
+    found = re.findall(r"### `(\w+)\.tbl`((?:.|\n)*?)(?=\n##|\Z)", (TOP / "docs/TABLES.md").read_text())
+    column = lambda name, kind: f"{name} {number if kind == 'number' else text}{keys(name)}"
+    return {table: ", ".join(column(*it) for it in COLUMN.findall(rows)) for table, rows in found}
 
 
-def call(words: list, text: str = "", source=None) -> str:
-    """Runs a client with a text or a file as its input, and returns both of its streams."""
-    how = {"stdin": source} if source else {"input": text}
-    ran = subprocess.run(words, text=True, stdout=subprocess.PIPE, stderr=subprocess.STDOUT, **how)
+def call(words: list, text: str = "") -> str:
+    """Runs a client with a text as its input, and returns both of its streams."""
+    ran = subprocess.run(words, input=text, text=True, stdout=subprocess.PIPE, stderr=subprocess.STDOUT)
     if ran.returncode:
         sys.exit(f"{words[0]} failed: {ran.stdout[:500]}")
     return ran.stdout
 
 
 @contextmanager
-def running(words: list, client: list, stop: int, **how) -> Iterator[None]:
-    """Runs a server, from when it answers a client until it is stopped by a signal."""
-    process = subprocess.Popen(words, stdout=subprocess.DEVNULL, stderr=subprocess.DEVNULL, **how)
-    try:
-        while subprocess.run(client, input=b"select 1", capture_output=True).returncode:
-            if process.poll() is not None:
-                sys.exit(f"{words[0]} ended")
-            time.sleep(0.2)
-        yield
-    finally:
-        process.send_signal(stop)
-        process.wait()
+def running(words: list, client: list, stop: int, room: Path) -> Iterator[None]:
+    """Runs a server in a folder, from when it answers a client."""
+    with subprocess.Popen(words, cwd=room, stdout=subprocess.DEVNULL, stderr=subprocess.DEVNULL) as process:
+        try:
+            while subprocess.run(client, input=b"select 1", capture_output=True).returncode:
+                if process.poll() is not None:
+                    sys.exit(f"{words[0]} ended")
+                time.sleep(0.2)
+            yield
+        finally:
+            process.send_signal(stop)
 
 
 @contextmanager
-def session(words: list, end: str, report: Path) -> Iterator[Callable[[str], Answer]]:
-    """Runs a client that reads statements from a pipe. An answer ends with a line that begins with `end`; its report is in a file."""
+def session(words: list, end: str, room: Path) -> Iterator[Callable[[str], Answer]]:
+    """Runs a client that reads statements. An answer ends with a line that begins with `end`; its report is in a file."""
+    report = room / "report"
     with subprocess.Popen(words, stdin=subprocess.PIPE, stdout=subprocess.PIPE, stderr=subprocess.STDOUT, text=True) as child:
         def ask(text: str) -> Answer:
             report.write_bytes(b"")
@@ -115,7 +112,7 @@ def session(words: list, end: str, report: Path) -> Iterator[Callable[[str], Ans
 @contextmanager
 def star(folder: str, room: Path, command: str) -> Iterator[Engine]:
     load = run([*shlex.split(command), "check", folder])
-    with session(["sh", "-c", f'exec {command} session "$0" 2>&1 >>"$1"', folder, room / "report"], "visits", room / "report") as ask:
+    with session(["sh", "-c", f'exec {command} session "$0" 2>&1 >>"$1"', folder, room / "report"], "visits", room) as ask:
         def answer(text: str) -> Answer:
             took, report = ask(f"{text};\n")
             # The empty line after a report may follow the note.
@@ -125,24 +122,22 @@ def star(folder: str, room: Path, command: str) -> Iterator[Engine]:
         yield Engine(answer, load.wall, load.peak)
 
 
-def in_processes(counts: bool) -> Callable:
-    """Returns an engine that asks `star` in a process for each report: its processor time or instructions, less a load's."""
-    @contextmanager
-    def engine(folder: str, room: Path, command: str) -> Iterator[Engine]:
-        load, file = run([*shlex.split(command), "check", folder], counts), room / "query"
-        def answer(text: str) -> Answer:
-            file.write_text(text)
-            ran = run([*shlex.split(command), "exec" if text.startswith("star program") else "query", folder, str(file)], counts)
-            above, lines = max(0, ran.peak - load.peak), len(ran.out.splitlines())
-            print(f"peak above the load's: {above / 2**20:.1f} MiB, {above / lines:.0f} bytes a line of {text}", file=sys.stderr)
-            return ran.spent - load.spent, ran.out
-        yield Engine(answer, load.spent, load.peak)
-    return engine
+@contextmanager
+def processes(folder: str, room: Path, command: str, counts: bool) -> Iterator[Engine]:
+    """A process of `star` for each report: its processor time or its instructions, less a load's."""
+    load, file = run([*shlex.split(command), "check", folder], counts), room / "query"
+    def answer(text: str) -> Answer:
+        file.write_text(text)
+        ran = run([*shlex.split(command), "exec" if text.startswith("star program") else "query", folder, str(file)], counts)
+        above, lines = max(0, ran.peak - load.peak), len(ran.out.splitlines())
+        print(f"peak above the load's: {above / 2**20:.1f} MiB, {above / lines:.0f} bytes a line of {text}", file=sys.stderr)
+        return ran.spent - load.spent, ran.out
+    yield Engine(answer, load.spent, load.peak)
 
 
 @contextmanager
 def hand_written(folder: str, room: Path, command: str) -> Iterator[Engine]:
-    """A program of thirteen queries: called with FOLDER --runs N --reports OUT, it prints `load SECONDS` and `query NAME BEST`."""
+    """A program of the thirteen queries, which writes reports and prints `load SECONDS` and `query NAME BEST`."""
     words = [it.split() for it in call([*shlex.split(command), folder, "--runs", "5", "--reports", room]).splitlines()]
     answers = {THIRTEEN[it[1]]: (float(it[2]), (room / it[1]).read_bytes()) for it in words if it[0] == "query"}
     yield Engine(answers.get, min(float(it[1]) for it in words if it[0] == "load"))
@@ -151,30 +146,29 @@ def hand_written(folder: str, room: Path, command: str) -> Iterator[Engine]:
 @contextmanager
 def postgres(folder: str, room: Path, command: str) -> Iterator[Engine]:
     binaries = max(Path("/usr/lib/postgresql").glob("*/bin"))
-    # It refuses to run as root.
-    user = {"user": "postgres", "group": "postgres", "extra_groups": []} if os.getuid() == 0 else {}
-    if user:
+    user = []
+    if os.getuid() == 0:
+        # It refuses to run as root.
+        user = ["setpriv", "--reuid=postgres", "--regid=postgres", "--clear-groups"]
         shutil.chown(room, "postgres")
-    make = [binaries / "initdb", "-D", room / "data", "-A", "trust", "-U", "star", "-N", "--locale=C"]
-    subprocess.run(make, cwd=room, stdout=subprocess.DEVNULL, check=True, **user)
-    settings = "listen_addresses= fsync=off shared_buffers=2GB work_mem=512MB maintenance_work_mem=1GB max_parallel_workers_per_gather=0 jit=off"
-    words = [binaries / "postgres", "-D", room / "data", "-k", room, *(f"--{it}" for it in f"{settings} max_wal_size=8GB".split())]
+    call([*user, binaries / "initdb", "-D", room / "data", "-A", "trust", "-U", "star", "-N", "--locale=C"])
+    settings = "listen_addresses= fsync=off shared_buffers=2GB work_mem=512MB maintenance_work_mem=1GB max_wal_size=8GB jit=off"
+    settings += " max_parallel_workers_per_gather=0"
+    words = [*user, binaries / "postgres", "-D", room / "data", "-k", room, *(f"--{it}" for it in settings.split())]
     psql = ["psql", "-h", room, "-U", "star", "-d", "postgres", "-X", "-q", "-v", "ON_ERROR_STOP=1"]
-    with running(words, psql, signal.SIGINT, cwd=room, **user):
+    with running(words, psql, signal.SIGINT, room):
         started = time.perf_counter()
         for table, columns in creations("bigint not null", "text not null").items():
-            call(psql, f"create table {table} ({columns}, bar text)")
-            with open(f"{folder}/{table}.tbl") as file:
-                call([*psql, "-c", f"copy {table} from stdin with (delimiter '|', null '\\N')"], source=file)
+            copy = f"\\copy {table} from '{folder}/{table}.tbl' with (delimiter '|', null '\\N')"
+            call(psql, f"create table {table} ({columns}, bar text);\n{copy}\n")
         keys = [f"alter table {table} add primary key ({key});" for table, key in KEYS.items()]
         keys += [f"alter table lineorder add foreign key ({name}) references {table};" for name, table in REFERRED.items()]
         call(psql, "\n".join([*keys, "vacuum (freeze, analyze);"]))
         load = time.perf_counter() - started
-        with session(["stdbuf", "-oL", *psql, "-A", "-F", "|", "-P", "footer=off"], "done", room / "report") as ask:
+        with session(["stdbuf", "-oL", *psql, "-A", "-F", "|", "-P", "footer=off"], "done", room) as ask:
             def answer(text: str) -> Answer:
                 query = query_of(text)
-                null = "ALL" if query.shape else "NULL"
-                return ask(f"\\pset null {null}\n\\o {room}/report\n{query.text(query.shape)}{query.sort()};\n\\o\n\\echo done\n")
+                return ask(f"\\pset null {query.null()}\n\\o {room}/report\n{query.text(query.shape)}{query.sort()};\n\\o\n\\echo done\n")
             yield Engine(answer, load)
 
 
@@ -204,15 +198,14 @@ def sqlite(folder: str, room: Path, command: str) -> Iterator[Engine]:
     if absent := call(["sqlite3", "-batch", "-bail", room / "data"], settings + "\n".join(texts)):
         sys.exit(f"sqlite3: {absent[:300]}")
     load = time.perf_counter() - started
-    with session(["stdbuf", "-oL", "sqlite3", "-batch", room / "data"], "done", room / "report") as ask:
+    with session(["stdbuf", "-oL", "sqlite3", "-batch", room / "data"], "done", room) as ask:
         ask(f'{settings}.mode list\n.separator | "\\n"\n.headers on\n.print done\n')
         def answer(text: str) -> Answer:
             query = query_of(text)
             if text in OTHERS.values():
                 # Otherwise it may scan lineorder once for each date.
                 query = query._replace(tables=query.tables.replace(", ", " cross join "))
-            null = "ALL" if query.shape else "NULL"
-            took, report = ask(f".nullvalue {null}\n.once {room}/report\n{in_sqlite(query)};\n.print done\n")
+            took, report = ask(f".nullvalue {query.null()}\n.once {room}/report\n{in_sqlite(query)};\n.print done\n")
             # It prints no names above no rows.
             return took, report or ("|".join(it.split(" as ")[-1] for it in query.items.split(", ")) + "\n").encode()
         yield Engine(answer, load)
@@ -220,24 +213,24 @@ def sqlite(folder: str, room: Path, command: str) -> Iterator[Engine]:
 
 def nested(query: Query) -> str:
     """Returns a query as ClickHouse 18 needs it: nested joins of two, and dimensions without shown columns as sets of keys."""
-    shown, own, joins, conditions = set(NAMES.findall(query.items)), [], {}, {}
+    # Tables go by the first letters of their columns.
+    shown, joins, conditions = set(NAMES.findall(query.items)), {}, defaultdict(list)
     for it in re.sub(r"(between \S+) and ", r"\1 AND ", query.condition).split(" and "):
         if pair := re.fullmatch(r"(lo_\w+) = (([cspd])_\w+)", it):
-            joins[pair[3]] = (pair[1], pair[2], next(table for table, key in KEYS.items() if key == pair[2]))
-        elif it.startswith(("lo_", "(lo_")):
-            own.append(it)
+            joins[pair[3]] = (pair[1], pair[2])
         elif it:
-            conditions.setdefault(NAMES.search(it)[0][0], []).append(it)
-    filtered = lambda it: f"from {joins[it][2]}" + (f" where {' and '.join(conditions[it])}" if it in conditions else "")
-    own += [f"{joins[it][0]} in (select {joins[it][1]} {filtered(it)})" for it in conditions]
+            conditions[NAMES.search(it)[0][0]].append(it)
+    where = lambda some: f" where {' and '.join(some)}" * bool(some)
+    source = lambda letter: "from " + next(it for it in TABLES if it[0] == letter) + where(conditions.get(letter, []))
+    own = conditions.pop("l", []) + [f"{joins[it][0]} in (select {joins[it][1]} {source(it)})" for it in conditions]
     joined = [it for it in joins if any(name.startswith(f"{it}_") for name in shown)]
     columns = sorted({it for it in shown if it.startswith("lo_")} | {joins[it][0] for it in joined})
-    body = f"select {', '.join(columns)} from lineorder" + (f" where {' and '.join(own)}" if own else "")
+    body = f"select {', '.join(columns)} from lineorder{where(own)}"
     for letter in joined:
-        foreign, key, _ = joins[letter]
+        foreign, key = joins[letter]
         names = sorted(it for it in shown if it.startswith(f"{letter}_"))
         columns += names
-        side = f"select {key} as {foreign}, {', '.join(names)} {filtered(letter)}"
+        side = f"select {key} as {foreign}, {', '.join(names)} {source(letter)}"
         body = f"select {', '.join(columns)} from ({body}) any inner join ({side}) using {foreign}"
     text = query._replace(tables=f"({body})", condition="").text()
     # A key that is ALL is 0 or empty.
@@ -266,13 +259,13 @@ def clickhouse(folder: str, room: Path, command: str) -> Iterator[Engine]:
     for file, values in (("config.xml", config), ("users.xml", users)):
         (room / file).write_text(xml({"yandex": values}))
     client = ["clickhouse-client", "--port", str(port), "-n"]
-    with running(["clickhouse-server", "--config-file", room / "config.xml"], client, signal.SIGTERM, cwd=room):
+    with running(["clickhouse-server", "--config-file", room / "config.xml"], client, signal.SIGTERM, room):
         started = time.perf_counter()
         for table, columns in creations("UInt32", "LowCardinality(String)").items():
             order = "lo_orderdate, lo_orderkey" if table == "lineorder" else KEYS[table]
             call(client, f"create table {table} ({columns}) engine = MergeTree order by ({order})")
-            cut = subprocess.Popen(["bash", "-c", 'LC_ALL=C sed "s/|$//" "$0" | tr "|" "\\t"', f"{folder}/{table}.tbl"], stdout=subprocess.PIPE)
-            call([*client, "--query", f"insert into {table} format TabSeparated"], source=cut.stdout)
+            insert = shlex.join([*client, "--query", f"insert into {table} format TabSeparated"])
+            call(["sh", "-c", f"LC_ALL=C sed 's/|$//' '{folder}/{table}.tbl' | tr '|' '\\t' | {insert}"])
             call(client, f"optimize table {table} final")
         load = time.perf_counter() - started
         def answer(text: str) -> Answer:
@@ -285,8 +278,9 @@ def clickhouse(folder: str, room: Path, command: str) -> Iterator[Engine]:
         yield Engine(answer, load)
 
 
-# Each engine's function, and its command.
+# Each engine's function, and a command that prints the version of an installed peer.
 ENGINES = {
-    "star": (star, "sh"), "before": (star, "sh"), "hand-written": (hand_written, "sh"), "ClickHouse": (clickhouse, "clickhouse-server"),
-    "SQLite": (sqlite, "sqlite3"), "PostgreSQL": (postgres, "psql"),
+    "star": (star, ""), "before": (star, ""), "hand-written": (hand_written, ""),
+    "ClickHouse": (clickhouse, "command -v clickhouse-server && clickhouse-client --version"),
+    "SQLite": (sqlite, "sqlite3 --version"), "PostgreSQL": (postgres, "psql --version"),
 }  # fmt: skip

@@ -9,14 +9,14 @@ from itertools import groupby
 from pathlib import Path
 from typing import Iterator, NamedTuple
 
-from repository import TOP
+from repository import CRATES, TOP
 
 # A heading; or a command, its here document, and its output, with blank lines between other lines.
 PIECE = re.compile(r"^(#.*)|^    \$ (.*)\n((?:    >.*\n)*)((?:    (?!\$ ).*\n|\n(?=\n*    (?!\$ )))*)", re.M)
 
 
 class Step(NamedTuple):
-    """A command of a case: its heading, its place, its text for bash, and what it is expected to print and return."""
+    """A command of a case: its heading, place and text for bash, and its expected streams and status."""
 
     case: str
     place: str
@@ -49,16 +49,16 @@ def steps_of(page: Path) -> Iterator[Step]:
         yield Step(case, f"{place}: $ {command}", text, *streams, status)
 
 
-def cases_of(pages: list[Path]) -> Iterator[list[Step]]:
+def cases_of(pages: list[str]) -> Iterator[list[Step]]:
     """Yields the cases of pages, by default of all: the commands below a heading."""
-    steps = (step for page in sorted(pages or TOP.glob("crates/star_cases/data/*/*.md")) for step in steps_of(page))
+    steps = (step for page in sorted(pages or CRATES.glob("star_cases/data/*/*.md")) for step in steps_of(Path(page)))
     return (list(of_case) for _, of_case in groupby(steps, lambda step: step.case))
 
 
 @contextmanager
-def folder_of_case(program: Path) -> Iterator[str]:
+def folder_of_case(program: str) -> Iterator[str]:
     """Makes a folder for a case, with the examples and the program, and removes it afterwards."""
     with tempfile.TemporaryDirectory(prefix="star-cases-") as folder:
         shutil.copytree(TOP / "examples", f"{folder}/examples")
-        os.symlink(program, f"{folder}/star")
+        os.symlink(os.path.abspath(program), f"{folder}/star")
         yield folder

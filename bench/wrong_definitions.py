@@ -2,17 +2,14 @@
 
 import re
 from collections import Counter
-from pathlib import Path
 from typing import Iterator, NamedTuple
 
-from layout import lines_of
+from definitions import lines_of
 
 # Tokens that replace each other.
 PAIRS = ("nat_lt nat_le", "is_lt is_le", "< ≤", "true false", "&& ||", "× ⊎", "+ℤ -ℤ", "int_min int_max", "Less Greater")
-OTHERS = {"*ℤ": "+ℤ"}
-for one, two in map(str.split, PAIRS):
-    OTHERS |= {one: two, two: one}
-# The operators that the toolchain's Prelude has under these names, and what a wrong definition may import from it.
+OTHERS = {"*ℤ": "+ℤ"} | {one: two for it in PAIRS for one, two in (it.split(), it.split()[::-1])}
+# What a wrong definition may import from the toolchain's Prelude.
 OPERATORS = {"<", "≤", "&&", "||", "⊎", "+ℤ", "-ℤ"}
 PRELUDE = OPERATORS | {"true", "false", "nat_lt", "nat_le"}
 # Functions of two exchangeable arguments.
@@ -31,7 +28,7 @@ DATA = re.compile(r"pub data (\S+)(.*)Type 0 where$")
 
 
 class Clause(NamedTuple):
-    """An equation of a definition, a field of a record or a case of a relation: the offsets of its right side."""
+    """An equation, a field of a record or a case of a relation: the offsets of its right side."""
 
     name: str
     start: int
@@ -58,17 +55,17 @@ def clauses(text: str) -> list[Clause]:
     # Each part's start, its block's margin, the pattern of its left side, and the relation that it is a case of.
     parts, relation, cases = [], "", None
     for line in lines_of(text):
-        code, start = line.code, line.offset + line.indent
+        code, part = line.code, (line.offset + line.indent, line.margin)
         if line.is_at_margin():
             data = DATA.match(code)
             if not code.startswith("--"):
-                relation, cases = (data[1], None) if is_relation(data) else ("", None)
-            parts.append((start, line.margin, EQUATION, ""))
+                relation, cases = data[1] if is_relation(data) else "", None
+            parts.append((*part, EQUATION, ""))
         elif relation and CASE.match(code) and line.indent == (cases or line.indent):
             cases = line.indent
-            parts.append((start, line.margin, CASE, relation))
+            parts.append((*part, CASE, relation))
         elif FIELD.match(code):
-            parts.append((start, line.margin, FIELD, ""))
+            parts.append((*part, FIELD, ""))
     found = []
     for (start, margin, pattern, relation), end in zip(parts, [*(it[0] for it in parts[1:]), len(text)]):
         body = re.split(r"\n *--", text[start:end].rstrip())[0].rstrip()
@@ -117,18 +114,18 @@ def left_out(body: str) -> Iterator[tuple[str, str]]:
 
 
 def arguments(body: str) -> Iterator[tuple[str, str]]:
-    """Yields a body with two adjacent plain arguments exchanged, but those of a binder or a symmetric function."""
+    """Yields a body with two adjacent arguments exchanged, but those of a binder or a symmetric function."""
     name = r"[a-z][\w.'-]*"
     for found in re.finditer(rf"(?<=[\w)] )({name}) ({name})(?=$|[\s)])", body):
-        before = re.search(r"([\w'-]+) $", body[: found.start()])
+        before = re.search(r"([\w'-]*) $", body[: found.start()])[1]
         binds = re.match(r"[^()]* : ", body[found.end() :])
         is_keyword = {"then", "else", "if", "in", "let", "λ"} & {found[1], found[2]}
-        if not (found[1] == found[2] or is_keyword or binds or (before and before[1] in SYMMETRIC)):
+        if not (found[1] == found[2] or is_keyword or binds or before in SYMMETRIC):
             yield f"exchanged: {found[1]} {found[2]}", f"{body[: found.start()]}{found[2]} {found[1]}{body[found.end() :]}"
 
 
 def of_a_case(body: str, other: str | None) -> Iterator[tuple[str, str]]:
-    """Yields a case without a premise, with two variables of a kind exchanged in its result, and with another's result."""
+    """Yields a case without a premise, with two variables exchanged in its result, and with another's result."""
     *premises, result = split_outside(body, "→ ")
     for at, premise in enumerate(premises):
         if not re.match(r"\s*(?:\{|\([^()]* : )", premise):
@@ -182,8 +179,3 @@ def edits(text: str) -> Iterator[Edit]:
                 made[line, change] += 1
                 number = f" ({made[line, change]})" if made[line, change] > 1 else ""
                 yield Edit(clause.name, f"line {line}: {change}{number}", imported(whole, change))
-
-
-def files_of(specs: Path) -> list[Path]:
-    """Returns the files of definitions that a public clause may cite: all but those in specs/Private."""
-    return [it for it in sorted(specs.rglob("*.antt")) if "Private" not in str(it.relative_to(specs))]

@@ -1,7 +1,5 @@
-"""Tests of the scripts: what they read in blocks.txt, which no crate uses, and how they classify endings of runs."""
+"""Tests of the scripts: which wrong definitions a text has, and how endings of runs are classified."""
 
-import importlib.machinery
-import importlib.util
 import sys
 import unittest
 from collections import defaultdict
@@ -10,23 +8,33 @@ from pathlib import Path
 BENCH = Path(__file__).resolve().parent.parent
 sys.path.insert(0, str(BENCH))
 
-from definitions import Definitions, Key
+from repository import names_of
 from wrong_definitions import edits
 
-TEXT = (BENCH / "tests/blocks.txt").read_text(encoding="utf-8")
+TEXT = """use Rattle.std.specs.Prelude.{ℕ, ◌||◌, Bool}
+
+mutual
+  pub data Either : Type 0 where
+    both : Either → Single → Either
+
+abbrev mutual
+  -- from the left
+  pub either_text : Either → List ℕ
+  either_text (both a b) = either_text a ++ 124 ∷ single_text b
+  either_text (single a) = single_text a
+
+abbrev pub is_true : (Single → Bool) → Either → Bool
+is_true at (both a b) = is_true at a || at b
+
+pub data IsText : List ℕ → Either → Type 0 where
+  -- a bar between
+  bar : {ms ns : List ℕ} {a : Either} {b : Single} → IsText ms a → ns ≡ single_text b
+      → IsText (ms ++ 124 ∷ ns) (both a b)
+  lone : {b : Single} → IsText (single_text b) (single b)
+"""
 
 
-class Blocks(unittest.TestCase):
-    """Definitions in `mutual` and `module _` blocks."""
-
-    def test_definitions_have_their_lines(self) -> None:
-        definitions = Definitions(BENCH / "none")
-        definitions.read("a", "B", TEXT)
-        lines = {it.name: count for it, count in definitions.lines.items() if count}
-        self.assertEqual(lines, {"Either": 3, "Single": 2, "either_text": 3, "single_text": 2, "is_true": 3, "IsWritten": 3, "IsText": 4})
-        reached = {it.name for it in definitions.reached({Key("a", "B", "either_text")})}
-        self.assertEqual(reached, {"either_text", "single_text", "both", "single", "letter", "Either", "Single"})
-
+class Definitions(unittest.TestCase):
     def test_wrong_definitions_change_each_clause(self) -> None:
         made = defaultdict(list)
         for edit in edits(TEXT):
@@ -40,22 +48,14 @@ class Blocks(unittest.TestCase):
 
 
 class Endings(unittest.TestCase):
-    """How runs with a refused allocation end."""
-
     def test_endings_of_commands_and_tests(self) -> None:
-        loader = importlib.machinery.SourceFileLoader("refuse_memory", str(BENCH / "refuse-memory"))
-        memory = importlib.util.module_from_spec(importlib.util.spec_from_loader("refuse_memory", loader))
-        sys.modules["refuse_memory"] = memory
-        loader.exec_module(memory)
+        memory = names_of(f"{BENCH}/refuse-memory")
         usual, good, due = memory.End(b"n\n2\n", b"quote 5\nvisits 5\n", 0), b"quote 5\nmemory\n", memory.OUT_OF_MEMORY
         accepted = [(b"", good, 7, "query"), (b"", b"memory\n", 7, "query"), (b"n\n", good, 7, "reports"), (b"2\n", good, 0, "session")]
-        refused = [(b"n\n", good, 7, "query"), (b"", b"visits 5\nmemory\n", 7, "query"), (b"", good, 1, "query"), (b"3\n", good, 0, "session")]
+        refused = [(b"n\n", good, 7, "query"), (b"", b"visits 5\nmemory\n", 7, "query"), (b"", good, 1, "query")]
+        refused.append((b"3\n", good, 0, "session"))
         for out, err, status, command in accepted + refused:
             ending = memory.end_of_command(memory.End(out, err, status), usual, f"./star {command}")
             self.assertEqual(ending == due, (out, err, status, command) in accepted, (out, err, status, command))
         for error, expected in ((b"error: AllocError\n", due), (b"error: 3 is not 4\n", memory.OTHERWISE)):
             self.assertEqual(memory.end_of_test(memory.End(b"", error, 101), memory.End(b"ok\n", b"", 0)), expected)
-
-
-if __name__ == "__main__":
-    unittest.main()
