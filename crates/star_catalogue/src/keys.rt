@@ -105,6 +105,8 @@ fn rises(before: (i64, i64), after: (i64, i64)) -> bool
 }
 
 /// Tests whether each pair of numbers is greater than the pair before.
+// In a function of its own it takes fewer instructions.
+#[inline(never)]
 fn is_rising(firsts: &FlatNumbers, seconds: &FlatNumbers) -> bool
     requires { length firsts.now ≡ length seconds.now }
     ensures { IsTrue result → AllPairs (λ a b. a ≢ b) (zip firsts.now seconds.now) }

@@ -1,9 +1,10 @@
 // The rows that the foreign keys of lineorder refer to.
 
-ghost use Rattle.std.specs.Prelude.{◌≡◌, ◌<◌, ◌≤◌, ◌^◌, ◌∷◌, [], ℕ, All, Contains, IfOk, MatchOption, Some, length, map};
+ghost use Rattle.std.specs.Prelude.{◌≡◌, ◌<◌, ◌≤◌, ◌^◌, ◌∷◌, ◌↔◌, [], ℕ, ℤ, All, Contains, IfOk, MatchOption, Some, length, map, slice_get};
 ghost use Rattle.star_schema.specs.{Loadable.RefersTo, Loadable.keys_of, Schema.index_of, Schema.references, declared.column.ColumnId.ColumnId, declared.table.TableId.TableId};
-ghost use Rattle.star_catalogue.specs.Private.Referred.{AreFound, AreReferred, AreRowsReferredTo, rows_view};
+ghost use Rattle.star_catalogue.specs.{Private.Indexed.lent_row, Private.Referred.AreFound, Private.Referred.AreReferred, Private.Referred.AreRowsReferredTo, Private.Referred.rows_view};
 
+use crate::dimension::LentKeys;
 use crate::table::LoadedTable;
 use crate::tables::Tables;
 use star_column::{ColumnData, JoinIndex, PackedColumn};
@@ -83,12 +84,16 @@ impl RowWord for u32 {
 
 /// Returns the rows of a table that have these numbers as their keys, in words that fit each row of
 /// the table, if each number is a key.
+#[inline(always)]
 fn find_all<W: RowWord>(
     alloc: Global,
     table: &LoadedTable,
+    keys: LentKeys<'_>,
     numbers: &PackedColumn,
 ) -> Result<Option<Vec<W>>, AllocError>
-    requires { length table.now.rows ≤ W.limit }
+    requires few { length table.now.rows ≤ W.limit }
+    requires keys { (key : ℤ) (row : ℕ) → (lent_row keys key ≡ Some row)
+        ↔ (slice_get (keys_of table.now.table table.now.rows) row ≡ Some (key ∷ [])) }
     ensures { let keys = keys_of table.now.table table.now.rows in IfOk result
         (λ found. MatchOption found
         (¬ All (λ number. Contains keys (number ∷ [])) numbers.now)
@@ -96,7 +101,6 @@ fn find_all<W: RowWord>(
 {
     let mut rows = Vec::with_capacity(alloc, numbers.len() as usize)?;
     let lent = numbers.view();
-    let keys = table.lend_keys();
     for row in 0..numbers.len() {
         match keys.find(lent.at(row)) {
             Some(found) => rows.push_reserved(W::of(found)),
@@ -107,7 +111,9 @@ fn find_all<W: RowWord>(
 }
 
 /// Returns the join index of numbers, in words that fit each row of a table, if each number is a
-/// key of the table.
+/// key of the table. A loop of its own for dense keys is so short that the compiler looks at the
+/// width of the numbers once and not in each turn.
+#[inline(never)]
 fn index_in<W: RowWord>(
     alloc: Global,
     table: &LoadedTable,
@@ -119,7 +125,13 @@ fn index_in<W: RowWord>(
         (¬ All (λ number. Contains keys (number ∷ [])) numbers.now)
         (λ rows. AreFound keys numbers.now rows)) }
 {
-    match find_all::<W>(alloc, table, numbers)? {
+    let found = match table.lend_keys() {
+        LentKeys::Dense(least, rows) => {
+            find_all::<W>(alloc, table, LentKeys::Dense(least, rows), numbers)?
+        }
+        keys => find_all::<W>(alloc, table, keys, numbers)?,
+    };
+    match found {
         Some(rows) => Ok(Some(W::index(rows))),
         None => Ok(None),
     }

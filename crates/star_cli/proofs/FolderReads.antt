@@ -1,18 +1,15 @@
 -- The tables of a folder, as they are read.
 use Rattle.std.proofs.Common.{◌≡◌, ◌≤◌, ◌<◌, ◌+◌, ◌++◌, ◌∷◌, ◌∙◌, ℕ, List, [], Bool, true, false, Some, None, inl, inr, refl, sym, ap, subst, length, length-append, arith, append_assoc, append-nil}
 use Rattle.std.specs.Prelude.{◌⊎◌, Result, Ok, Err, IfOk, IfSome, Option, option_map}
-use Rattle.std.specs.Borrow.{Bor}
-use Rattle.std.specs.Io.KnownBytes.{Consumes, IsAtEnd}
+use Rattle.std.specs.{Borrow.Bor, Io.KnownBytes.Consumes, Io.KnownBytes.IsAtEnd}
 use Rattle.star_schema.specs.declared.table.TableId.TheVariants.{Date, Customer, Supplier, Part, Lineorder}
 use Rattle.star_schema.specs.{declared.table.TableId.TableId, Database.TableTexts, Most.most_rows}
 use Rattle.star_reader.specs.Partway.{HasRead, Reading}
 use Rattle.star_catalogue.specs.{Pieces.AreRead, declared.read_tables.ReadTables.ReadTables}
 use Rattle.star_cli.specs.Stores.{ArePartsFrom, AreTablesIn, IsAt, IsTableFile, IsTextIn, IsWhole, Known, part_name, path_in, table_name}
 use Rattle.star_cli.specs.Private.Reads.{AreAllRead, ArePartsFed, ArePartsUnread, GoesOnByParts, IsFed, IsLineorderFed, IsLineorderRead, IsLineorderUnread, IsReadIn, IsTableUnread}
-use Rattle.star_cli.specs.FolderLoads.{AreBefore, AreTablesUnread, IsThere}
-use Rattle.star_cli.specs.declared.failure.Failure.{Failure}
+use Rattle.star_cli.specs.{declared.failure.Failure.Failure, ReadFolders.AreWidelyRead, ReadFolders.HasReadSome, FolderLoads.AreBefore, FolderLoads.AreTablesUnread, FolderLoads.IsThere}
 use Rattle.star_cli.specs.declared.failure.Failure.TheVariants as failures
-use Rattle.star_cli.specs.ReadFolders.{AreWidelyRead, HasReadSome}
 
 -- ---- one file
 
@@ -85,12 +82,7 @@ some_read known path table first last rows widest new fed =
     let (bytes, is, on) = fed in
     let was : HasRead first table most_rows [] [] = rw widest at new in (
       bytes ∷ [],
-      record {
-        parts = bytes ∷ [];
-        left = [];
-        read = on table most_rows [] was;
-        whole = refl;
-      },
+      record { parts = bytes ∷ []; left = []; read = on table most_rows [] was; whole = refl },
     )
 
 -- ---- the parts of lineorder

@@ -4,11 +4,11 @@ use Rattle.std.specs.Prelude.{◌↔◌, Result, Err, IfOk, IsTrue}
 use Rattle.star_schema.specs.{Database.TableTexts, Loadable.IsLoadable, Loadable.database_of, Most.most_rows, Most.most_visits, declared.limits.Limits.Limits}
 use Rattle.star_verify.specs.declared.refusal.Refusal.{Refusal}
 use Rattle.star_engine.specs.Queries.{IsExplained, IsQueryError, IsQueryQuote, IsQueryRun, IsQueryRunError}
+use Rattle.star_engine.specs.{Trials.IsTrialError, Trials.IsTrialReport, Private.TextSteps.IsQuoteOfTexts, Private.TextSteps.IsRunOfTexts, Private.TextSteps.IsRunErrorOfTexts}
 use Rattle.star_engine.specs.{declared.fault.EngineFault.EngineFault, declared.fault.EngineFault.TheVariants.Refused, declared.question.Question.Question, Answered.Change, Answered.IsAnswered, Answered.IsUntouched, Answered.OrMemory, Bench.AllFit, Bench.IsBench, Bench.IsBenchOver}
 use Rattle.star_engine.specs.{Executions.IsQuoteOf, Executions.IsRunError, Executions.IsRunOf, Listing.IsListing, Listing.IsListingOver, Loads.IsLoadError, Questions.Asks, QuoteTexts.IsQuoteError, QuoteTexts.IsQuoteText, QuoteTexts.is_program_file, WithNotes.IsAnsweredWithNotes, WithNotes.RunText}
-use Rattle.star_engine.specs.{Trials.IsTrialError, Trials.IsTrialReport, Private.TextSteps.IsQuoteOfTexts, Private.TextSteps.IsRunOfTexts, Private.TextSteps.IsRunErrorOfTexts}
 use Rattle.star_engine.proofs.RunTextLemmas.{never_refused, none, unloaded, unquoted_none, unquoted_tables}
-use Rattle.star_engine.proofs.{Answering.stopped, Loaded.answered_over, Noting.noted_stopped, QueryFaults.or_memory, Trials.no_trial_none, Trials.no_trial_unloaded}
+use Rattle.star_engine.proofs.{ByClauses.stopped, Loaded.answered_over, Noting.noted_stopped, QueryFaults.or_memory, Trials.no_trial_none, Trials.no_trial_unloaded}
 use Rattle.star_cli.specs.Answers.{IsBenched, IsGivenOf, IsListed, IsListedAndBenched, IsNoneRefused, IsOfTables, IsQuoted, none_refused}
 use Rattle.star_cli.specs.{Private.Asking.AsksFor, Private.Asking.IsNotAsked, declared.answers.Asked.Asked}
 use Rattle.star_words.specs.declared.request.Task.TheVariants.{Sample, Check, Bench, Query, Explain, Exec, Quote, Trial}
@@ -37,6 +37,11 @@ module _ {S N : Type 0} (out : Change S) (notes : Change N) (same : IsUntouched 
   stops A IsText IsDue on =
       stopped A out IsText IsDue fault same (or_memory IsBefore IsDue fault on is)
 
+  text_stops : (IsText : List ℕ → Type 0) (IsDue : EngineFault → Type 0)
+      → ((f : EngineFault) → IsBefore f → IsDue f)
+      → IsNoneRefused (IsAnswered out IsText IsDue) (Err fault) × IsUntouched notes
+  text_stops IsText IsDue on = ((Err fault, stops (Unit {0}) IsText IsDue on, refl), still)
+
   notes_stop : (IsQuote : List ℕ → Type 0) (IsRun : RunText → Type 0)
       (IsDue : EngineFault → Type 0) → ((f : EngineFault) → IsBefore f → IsDue f)
       → IsNoneRefused (IsAnsweredWithNotes out notes IsQuote IsRun IsDue) (Err fault)
@@ -48,23 +53,11 @@ module _ {S N : Type 0} (out : Change S) (notes : Change N) (same : IsUntouched 
 
   pub given_up : (task : Task) → ((f : EngineFault) → IsBefore f → IsDueOf task texts file f)
       → IsGivenOf task texts file out notes (Err fault)
-  given_up Sample on = (
-    inl (
-      fault,
-      stops (Unit {0}) (IsListing most_rows texts)
-          (IsLoadError most_rows texts) on,
-      refl,
-    ),
-    still,
-  )
-  given_up (Check folder) on = (
-    (
-      Err fault,
-      stops (Unit {0}) (IsListing most_rows texts) (IsLoadError most_rows texts) on,
-      refl,
-    ),
-    still,
-  )
+  given_up Sample on =
+      let listed = stops (Unit {0}) (IsListing most_rows texts) (IsLoadError most_rows texts) on in
+      (inl (fault, listed, refl), still)
+  given_up (Check folder) on =
+      text_stops (IsListing most_rows texts) (IsLoadError most_rows texts) on
   given_up (Bench folder) on = (
     record {
       answered = stops Bool (IsBench most_rows most_visits texts) (IsLoadError most_rows texts) on;
@@ -75,28 +68,15 @@ module _ {S N : Type 0} (out : Change S) (notes : Change N) (same : IsUntouched 
   given_up (Query folder path) on =
       notes_stop (IsQueryQuote most_rows texts file) (IsQueryRun most_rows most_visits texts file)
       (IsQueryRunError most_rows most_visits texts file) on
-  given_up (Explain path) on =
-      ((Err fault, stops (Unit {0}) (IsExplained file) (IsQueryError file) on, refl), still)
+  given_up (Explain path) on = text_stops (IsExplained file) (IsQueryError file) on
   given_up (Exec folder path) on =
       notes_stop (IsQuoteOf most_rows texts file) (IsRunOf most_rows most_visits texts file)
       (IsRunError most_rows most_visits texts file) on
-  given_up (Quote folder path) on = (
-    (
-      Err fault,
-      stops (Unit {0}) (IsQuoteText most_rows texts file) (IsQuoteError most_rows texts file) on,
-      refl,
-    ),
-    still,
-  )
-  given_up (Trial folder path limits) on = (
-    (
-      Err fault,
-      stops (Unit {0}) (IsTrialReport limits.rows texts file limits.visits)
-          (IsTrialError limits.rows texts file limits.visits) on,
-      refl,
-    ),
-    still,
-  )
+  given_up (Quote folder path) on =
+      text_stops (IsQuoteText most_rows texts file) (IsQuoteError most_rows texts file) on
+  given_up (Trial folder path limits) on =
+      text_stops (IsTrialReport limits.rows texts file limits.visits)
+      (IsTrialError limits.rows texts file limits.visits) on
 
 -- the file is not what the task asks for
 pub not_asked : (task : Task) (texts : TableTexts) (file : List ℕ) (f : EngineFault)
@@ -145,7 +125,7 @@ module _ {S : Type 0} (out : Change S) (texts : TableTexts)
       → IsAnswered out (IsListingOver (database_of texts)) (λ fault. ⊥) answer
       → IsListed out texts answer
   listed answer is =
-      answered_over most_rows texts (database_of texts) loadable refl out IsListingOver
+      answered_over most_rows texts loadable out IsListingOver
       (λ database fault. ⊥) (IsLoadError most_rows texts) answer
       (λ fault loadable never. absurd never) is
 
@@ -154,8 +134,8 @@ module _ {S : Type 0} (out : Change S) (texts : TableTexts)
       → IfOk result (λ fits. IsTrue fits ↔ AllFit most_visits (database_of texts))
       → IsBenched out texts result
   benched result is fits = record {
-    answered = answered_over most_rows texts (database_of texts) loadable refl out
-        (IsBenchOver most_visits) (λ database fault. ⊥) (IsLoadError most_rows texts) result
+    answered = answered_over most_rows texts loadable out (IsBenchOver most_visits)
+        (λ database fault. ⊥) (IsLoadError most_rows texts) result
         (λ fault loadable never. absurd never) is;
     fits = fits;
   }

@@ -47,8 +47,7 @@ is_widest texts (Err fault) is = tt
 -- ---- another lineorder next to the dimensions of a load
 
 pub read_next : (loaded : Loaded) (reader : Reading) → IsWidest loaded
-    → HasReadSome reader Lineorder
-    → (texts : TableTexts) × (text : List (List ℕ))
+    → HasReadSome reader Lineorder → (texts : TableTexts) × (text : List (List ℕ))
     × IsReadNextTo loaded.database reader loaded.rows texts text
 read_next loaded reader widest read = (
   widest.0.0,
@@ -61,8 +60,7 @@ read_next loaded reader widest read = (
 )
 
 pub widest_next : (loaded : Loaded) (texts : TableTexts) → IsWidest loaded
-    → (result : Result Loaded EngineFault)
-    → IfOk result (λ engine. IsLoadable loaded.rows texts)
+    → (result : Result Loaded EngineFault) → IfOk result (λ engine. IsLoadable loaded.rows texts)
     → IfOk result (λ engine. engine ≡ loaded_of loaded.rows loaded.visits texts)
     → IfErr result (OrMemory (IsLoadError loaded.rows texts)) → IfOk result IsWidest
 widest_next loaded texts widest result loadable same refused =

@@ -9,8 +9,8 @@ use Rattle.star_words.specs.{Requests.HasMostRows, declared.request.Reports.Repo
 use Rattle.star_cli.specs.Commands.{AreReportsDone, Input, IsErrandAt, IsFileOf, IsHeld, IsTaskUnread, folder_of, path_of, reports_made, reports_quoted}
 use Rattle.star_cli.specs.{Answers.IsOfTables, FolderLoads.AreTablesUnread, FolderLoads.IsLoadedFrom, Stores.Known, Private.Errands.IsErrandFor, Private.Errands.IsReadFrom, declared.commands.Read.Read, declared.jobs.ReadFile.ReadFile, declared.failure.Failure.Failure}
 use Rattle.star_cli.proofs.Zips.{zip_on}
-use Rattle.star_cli.specs.Failures.{AreReportsEnded}
 use Rattle.star_cli.specs.Private.Steps.{HasBoth, HasTables, IsKept, IsOneUnread, IsReadFor}
+use Rattle.star_cli.specs.{Failures.AreReportsEnded}
 
 -- ---- what is read for a task
 
@@ -80,14 +80,9 @@ pub held : {S E : Type 0} (out : Change S) (err : Change E) (status : ℕ) (load
     → IsSession loaded input.is_terminal old left failed out err status
     → IsHeld loaded input out err status
 held out err status loaded input old left failed same is =
-    inl (
-      left,
-      (
-        failed,
-        subst (λ bytes. IsSession loaded input.is_terminal bytes left failed out err
-            status) same is,
-      ),
-    )
+    let P : Option (List ℕ) → Type 0 =
+    λ bytes. IsSession loaded input.is_terminal bytes left failed out err status in
+    inl (left, (failed, subst P same is))
 
 -- ---- reports
 

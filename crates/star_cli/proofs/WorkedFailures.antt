@@ -37,8 +37,7 @@ module _ (name : Bor (List ℕ)) where
         Some (printed_name name.now ++ codes ": query 24 Unexpected at 20\n"),
       )
       ∷ (Unstored name 10, Some (printed_name name.now ++ codes ": write 10\n"))
-      ∷ (Unwritten 7, Some (codes "write 7\n")) ∷ [])
-      × Gives status_of (
+      ∷ (Unwritten 7, Some (codes "write 7\n")) ∷ []) × Gives status_of (
       (Words words.NotText, 2) ∷ (Words words.OutOfMemory, 7) ∷ (Words words.EmptyFolder, 2) ∷ (Words words.NoCommand, 2)
       ∷ (File name, 6) ∷ (Part 2, 6) ∷ (OutOfMemory, 7) ∷ (Unnamed name, 2) ∷ (NamedTwice name, 2)
       ∷ (OfFile name (Query (Unexpected 20)), 4) ∷ (Unstored name 10, 6) ∷ (Unwritten 7, 6) ∷ [])

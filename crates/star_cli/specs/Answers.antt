@@ -19,8 +19,7 @@ IsNoneRefused IsAnswer result =
     (answer : Result (Unit {0}) EngineFault) × IsAnswer answer × (result ≡ none_refused answer)
 
 -- the tables of five texts are listed
-abbrev pub IsListed : {S : Type 0} → Change S → TableTexts
-    → Result (Unit {0}) EngineFault → Type 0
+abbrev pub IsListed : {S : Type 0} → Change S → TableTexts → Result (Unit {0}) EngineFault → Type 0
 IsListed out texts answer =
     IsAnswered out (IsListing most_rows texts) (IsLoadError most_rows texts) answer
 
@@ -48,8 +47,7 @@ IsQueried out notes texts file answer =
     (IsQueryRunError most_rows most_visits texts file) answer
 
 -- the program of the query of a file is written
-abbrev pub IsExplanation : {S : Type 0} → Change S → List ℕ
-    → Result (Unit {0}) EngineFault → Type 0
+abbrev pub IsExplanation : {S : Type 0} → Change S → List ℕ → Result (Unit {0}) EngineFault → Type 0
 IsExplanation out file answer = IsAnswered out (IsExplained file) (IsQueryError file) answer
 
 -- the program of a file is verified and run over them, with notes
@@ -57,8 +55,7 @@ abbrev pub IsExecuted : {S N : Type 0} → Change S → Change N → TableTexts 
     → Result (Unit {0}) EngineFault → Type 0
 IsExecuted out notes texts file answer =
     IsAnsweredWithNotes out notes (IsQuoteOf most_rows texts file)
-    (IsRunOf most_rows most_visits texts file)
-    (IsRunError most_rows most_visits texts file) answer
+    (IsRunOf most_rows most_visits texts file) (IsRunError most_rows most_visits texts file) answer
 
 -- the quote of the query, or of the program, of a file over them is printed
 abbrev pub IsQuoted : {S : Type 0} → Change S → TableTexts → List ℕ

@@ -121,8 +121,7 @@ pub data AreReportsDone {S E : Type 0} (K : Type 0) (known : Known) (asked : Rep
       → AreReportsEnded (record out { old = printed }) err result status
       → AreReportsDone K known asked out err status
   reports_quoted : (jobs : List ReportJob) (loaded : Loaded) (result : Result Bool Halt)
-      (printed : S)
-      → asked.is_quote ≡ true → AllZip (IsErrandAt known) asked.files.items jobs
+      (printed : S) → asked.is_quote ≡ true → AllZip (IsErrandAt known) asked.files.items jobs
       → IsLoadedFrom known asked.folder.now loaded
       → AreAllJobsForecast loaded jobs (record out { new = printed }) result
       → AreReportsEnded (record out { old = printed }) err result status

@@ -358,8 +358,8 @@ pub fn command_to<R: Store + AllocGlobal, I: io::Read + Drop, P: Watch, W: Write
     command(rt, words, input, progress, &mut answers, &mut notes)
 }
 
-// The words of the command line, without the program's own name.
-fn read_words<R: Env + AllocGlobal>(rt: &R) -> io::Result<Vec<String>> {
+/// Returns the words of the command line, without the program's own name.
+pub fn read_words<R: Env + AllocGlobal>(rt: &R) -> io::Result<Vec<String>> {
     let mut words = Vec::new(rt.alloc());
     for word in env::args(rt)?.skip(1) {
         words.push(word)?;
@@ -387,14 +387,10 @@ pub fn run<R: Env + Store + AllocGlobal, I: io::Read + Drop, P: Watch, W: Write,
     let mut answers = Out::new(&mut *out);
     let mut notes = Out::new(&mut *err);
     match read_words(rt) {
-        Ok(words) => command(
-            rt,
-            words.as_slice(),
-            input,
-            progress,
-            &mut answers,
-            &mut notes,
-        ),
+        Ok(words) => {
+            let words = words.as_slice();
+            command(rt, words, input, progress, &mut answers, &mut notes)
+        }
         Err(error) => failure_of_words(&error).print(rt.alloc(), &mut answers, &mut notes),
     }
 }

@@ -4,7 +4,7 @@ ghost use Rattle.std.specs.Prelude.{◌≡◌, ◌==◌, IfOk, string_bytes};
 ghost use Rattle.star_common.specs.Memory.{TellsMemory};
 ghost use Rattle.star_engine.specs.Answered.{change};
 ghost use Rattle.star_cli.specs.Failures.{AreReportsEnded, IsFailurePrinted, IsPrintedOn, IsTextOf, failure_of_file, failure_of_halt, failure_text, status_of};
-ghost use Rattle.star_cli.specs.declared.failure.Failure.TheVariants.{OutOfMemory, Words};
+ghost use Rattle.star_cli.specs.declared.failure.Failure.TheVariants.{OutOfMemory};
 
 use star_common::Sink;
 use star_engine::{EngineFault, FaultLine};
@@ -42,14 +42,6 @@ impl<'a> From<AllocError> for Failure<'a> {
 
     fn from(_error: AllocError) -> Failure<'a> {
         Failure::OutOfMemory
-    }
-}
-
-impl<'a> From<WordsFault> for Failure<'a> {
-    ghost from_gives = { λ fault failure. failure ≡ Words fault };
-
-    fn from(fault: WordsFault) -> Failure<'a> {
-        Failure::Words(fault)
     }
 }
 

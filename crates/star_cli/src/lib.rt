@@ -16,7 +16,7 @@ mod progress;
 mod store;
 
 pub use crate::answers::{answer, explain};
-pub use crate::commands::{command, command_to, run};
+pub use crate::commands::{command, command_to, read_words, run};
 pub use crate::input::StandardInput;
 pub use crate::loads::load_engine;
 pub use crate::progress::{Progress, TableFile, Watch};

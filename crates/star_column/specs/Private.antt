@@ -1,5 +1,4 @@
 pub mod Bounds
 pub mod Codes
 pub mod Edge
-pub mod Views
 pub mod Words

@@ -5,7 +5,6 @@ ghost use Rattle.std.specs.{Int.RustNames.unsigned_abs};
 ghost use Rattle.star_interval.specs.{Range.Holds, Interval.range_of};
 ghost use Rattle.star_column.specs.{Width.least_width, Private.Words.numbers_above, Private.Words.numbers_in, Private.Words.word_bits};
 
-use crate::view::LentWords;
 use star_flat::{SignedWord, release};
 use star_interval::Interval;
 use std::alloc::{AllocError, Global};
@@ -247,7 +246,12 @@ impl Words {
         requires { place < length (numbers_in self.now) }
         ensures { slice_get (numbers_in self.now) place ≡ Some result }
     {
-        LentWords::of(self).at(place)
+        match self {
+            Words::Bits8(words) => u64::from(words[place]),
+            Words::Bits16(words) => u64::from(words[place]),
+            Words::Bits32(words) => u64::from(words[place]),
+            Words::Bits64(words) => words[place],
+        }
     }
 
     /// Returns each number's difference from the lower bound, in the least width in which the

@@ -23,8 +23,7 @@ pub first_answer_none : {X A : Type 0} (f : X → Option A) (xs : List X) → Al
     → first_answer f xs ≡ None
 unfolding first_answer
 first_answer_none f [] h = refl
-first_answer_none f (x ∷ xs) h =
-    rw (All-head (λ y. f y ≡ None) x xs h)
+first_answer_none f (x ∷ xs) h = rw (All-head (λ y. f y ≡ None) x xs h)
     (first_answer_none f xs (All-tail (λ y. f y ≡ None) x xs h))
 
 pub or_none : {A : Type 0} (a b : Option A) → option_or a b ≡ None → (a ≡ None) × (b ≡ None)

@@ -1,7 +1,6 @@
 -- The elements of a list, one after another.
-use Rattle.std.proofs.Common.{◌≡◌, ◌⊎◌, ℕ, zero, suc, ◌<◌, List, [], ◌∷◌, length, get_or, map, refl, arith, inl, inr, subst, ⊎_elim}
+use Rattle.std.proofs.{Common.◌≡◌, Common.◌⊎◌, Common.suc, Common.◌<◌, Common.List, Common.[], Common.◌∷◌, Common.map, Common.refl, Common.arith, Common.subst, Common.⊎_elim, lemmas.List.Elements.All-contains, lemmas.List.Elements.All-from_recursion, lemmas.List.Elements.All-head, lemmas.List.Elements.All-tail}
 use Rattle.std.specs.List.{AllByRecursion, All, Contains}
-use Rattle.std.proofs.lemmas.List.Elements.{All-contains, All-from_recursion, All-head, All-tail}
 
 module _ {X : Type 0} where
   pub contains_here : (x : X) (xs : List X) → Contains (x ∷ xs) x
@@ -11,11 +10,7 @@ module _ {X : Type 0} where
   contains_later x xs y h = (suc h.0, omega (arith, h.1), h.2)
 
   pub contains_cases : (x : X) (xs : List X) (y : X) → Contains (x ∷ xs) y → (x ≡ y) ⊎ Contains xs y
-  contains_cases x xs y h = go h.0 h.1 h.2
-    where
-      go : (k : ℕ) → k < length (x ∷ xs) → get_or (x ∷ xs) k y ≡ y → (x ≡ y) ⊎ Contains xs y
-      go zero within e = inl e
-      go (suc k) within e = inr (k, omega (arith, within), e)
+  contains_cases x xs y h = grind arith
 
   pub contains_none : (y : X) → Contains {X = X} [] y → ⊥
   contains_none y h = absurd (omega (arith, h.1))
@@ -41,8 +36,7 @@ module _ {X Y : Type 0} where
   pub contains_mapped : (f : X → Y) (xs : List X) (x : X) → Contains xs x
       → Contains (map f xs) (f x)
   contains_mapped f [] x h = absurd (contains_none x h)
-  contains_mapped f (z ∷ xs) x h =
-      ⊎_elim {C = Contains (map f (z ∷ xs)) (f x)}
+  contains_mapped f (z ∷ xs) x h = ⊎_elim {C = Contains (map f (z ∷ xs)) (f x)}
       (λ e. subst (λ y. Contains (map f (z ∷ xs)) (f y)) e (contains_here (f z) (map f xs)))
       (λ later. contains_later (f z) (map f xs) (f x) (contains_mapped f xs x later))
       (contains_cases z xs x h)

@@ -1,7 +1,7 @@
 -- The number that some digits write.
 use Rattle.std.proofs.Common.{◌≡◌, ◌+◌, ◌*◌, ◌^◌, ◌<◌, ◌≤◌, ℕ, Option, Some, None, IfSome, Bool, true, false, ◌&&◌, List, [], ◌∷◌, get_or, length, take, arith, refl, lit<, add-one}
 use Rattle.std.proofs.{Math.Seq.take-suc, lemmas.Bool.and_parts, lemmas.Bool.leb-true, lemmas.Int.Digits.digits_value-lt, lemmas.Int.Digits.digits_value_more, lemmas.List.Folds.list_all-append, lemmas.Str.digit_value_digit, Math.Nat.pow-le-pow_right, Math.Nat.pow-suc}
-use Rattle.std.specs.{Char.digit_value, Char.is_ascii_digit, List.list_all, Prelude.if◌then◌else◌, Prelude.nat_le, Str.Parse.AllDigits, Str.Parse.digits_value}
+use Rattle.std.specs.{Char.is_ascii_digit, List.list_all, Prelude.if◌then◌else◌, Prelude.nat_le, Str.Parse.AllDigits, Str.Parse.digits_value}
 use Rattle.star_common.specs.Numerals.{is_numeral, numeral_of}
 
 -- a digit is a byte from 48 to 57
@@ -13,10 +13,7 @@ pub digits_more : (ds : List ℕ) (i m d : ℕ) → i < length ds → is_ascii_d
     → m ≡ digits_value 10 (take i ds) → d + 48 ≡ get_or ds i 0
     → m * 10 + d ≡ digits_value 10 (take (i + 1) ds)
 digits_more ds i m d within digit was is =
-    let value = digit_value_digit (get_or ds i 0) (digit_bounds (get_or ds i 0) digit) in
-    let more = digits_value_more 10 ds i within in
-    let same : d ≡ digit_value (get_or ds i 0) = omega (arith, value, is) in
-    rw (more, was, same) refl
+    grind (arith, digit_value_digit, digit_bounds, digits_value_more)
 
 pub all_more : (ds : List ℕ) (i : ℕ) → i < length ds → list_all is_ascii_digit (take i ds) ≡ true
     → is_ascii_digit (get_or ds i 0) ≡ true → list_all is_ascii_digit (take (i + 1) ds) ≡ true
@@ -36,9 +33,7 @@ room i m d small digit =
     omega (arith, next)
 
 pub below_power : (i k m : ℕ) → m < 10 ^ i → i ≤ k → m < 10 ^ k
-below_power i k m small within =
-    let h : 10 ^ i ≤ 10 ^ k = pow-le-pow_right (lit< tt) within in
-    omega (arith, h)
+below_power i k m small within = grind (arith, pow-le-pow_right, lit<)
 
 pub some_below_power : (o : Option ℕ) (i k : ℕ) → IfSome o (λ n. n < 10 ^ i) → i ≤ k
     → IfSome o (λ n. n < 10 ^ k)

@@ -1,5 +1,5 @@
 -- One more write of a text.
-use Rattle.std.proofs.Common.{◌≡◌, ◌+◌, ◌<◌, ◌≤◌, Bool, false, ℕ, List, [], ◌∷◌, ◌++◌, zero, suc, zero-add, length, ◌-◌, arith, Option, Some, None, take, drop, ap, ◌∙◌, refl, append_assoc}
+use Rattle.std.proofs.Common.{◌≡◌, ◌+◌, ◌<◌, ◌≤◌, Bool, false, ℕ, List, [], ◌∷◌, ◌++◌, zero, suc, zero-add, length, ◌-◌, arith, Option, Some, None, take, drop, ◌∙◌, refl, append_assoc}
 use Rattle.std.specs.Io.KnownBytes.{Appends}
 use Rattle.std.proofs.lemmas.List.{length-drop, take_all}
 
@@ -18,9 +18,7 @@ pub sends_more : (a b c : Option (List ℕ)) (i n : ℕ) (text : List ℕ) → A
 sends_more None b c i n text h k = tt
 sends_more (Some xs) None c i n text h k = absurd h
 sends_more (Some xs) (Some ys) None i n text h k = k
-sends_more (Some xs) (Some ys) (Some zs) i n text h k =
-    k ∙ rw h (append_assoc xs (take i text) (take n (drop i text))
-    ∙ ap (λ (t : List ℕ). xs ++ t) (take-add i n text))
+sends_more (Some xs) (Some ys) (Some zs) i n text h k = grind (arith, append_assoc, take-add)
 
 -- what `text[sent..]` is
 pub rest_of : {X : Type 0} (text : List X) (sent : ℕ) → take (length text - sent) (drop sent text)

@@ -1,5 +1,5 @@
 -- Tables of worked rows: what a function is given, and what it gives.
-use Rattle.std.proofs.Common.{◌≡◌, List, [], ◌∷◌, ap, subst}
+use Rattle.std.proofs.Common.{◌≡◌, List, [], ◌∷◌, ap, arith}
 use Rattle.std.specs.{Prelude.map, List.AllByRecursion}
 
 -- each row is an input and what comes of it
@@ -27,7 +27,4 @@ pub each_row : {A B : Type 0} (P : A → B → Type 0) (f : A → B) → ((x : A
     → (rows : List (A × B)) → Gives f rows → AllByRecursion (λ row. P row.0 row.1) rows
 unfolding head_or tail
 each_row P f is [] e = tt
-each_row P f is ((x, y) ∷ rows) e = (
-  subst (P x) (ap (head_or y) e) (is x),
-  each_row P f is rows (ap tail e),
-)
+each_row P f is ((x, y) ∷ rows) e = grind (arith, head_or, tail, each_row P f is rows (ap tail e))

@@ -23,10 +23,8 @@ abbrev pub made : Code → ℕ → Completed
 made c n = record { code = c; registers = n }
 
 -- an instruction that numbers as many registers as it writes
-pub act : (old new : Emitter) (o : Op) (k : Code)
-    → new.steps.items ≡ old.steps.items ++ Act o ∷ []
-    → new.next ≡ old.next + writes_one (target_of o)
-    → completed new k ≡ completed old (Then o k)
+pub act : (old new : Emitter) (o : Op) (k : Code) → new.steps.items ≡ old.steps.items ++ Act o ∷ []
+    → new.next ≡ old.next + writes_one (target_of o) → completed new k ≡ completed old (Then o k)
 unfolding completed
 act old new o k pushed next =
     let code : steps_then new.steps.items k ≡ steps_then old.steps.items (Then o k) =
@@ -100,15 +98,13 @@ pub then_if_ok : {A : Type 0} (result : Result A AllocError) {old middle : Emitt
     → Writes old middle first x → IfOk result (Writes middle new (second x))
     → IfOk result (Writes old new (followed_by first second))
 then_if_ok (Err e) new second f g = tt
-then_if_ok (Ok y) new second f g =
-    record { same = λ k. g.same k ∙ f.same (λ e x. second x e k) }
+then_if_ok (Ok y) new second f g = record { same = λ k. g.same k ∙ f.same (λ e x. second x e k) }
 
 -- an operator's right part, behind its left one
 pub room_for_right : {old new : Emitter} {left : Env → Rest ℕ → Code} (right : Env → Rest ℕ → Code)
     (o : Operator) {x : ℕ} → Writes old new left x → HasRegisterRoom old (binary_code left right o)
     → HasRegisterRoom new right
-room_for_right right o {x = x} wrote room =
-    room_for_first (λ y. write (Binary o x y))
+room_for_right right o {x = x} wrote room = room_for_first (λ y. write (Binary o x y))
     (room_for_second (λ x. followed_by right (λ y. write (Binary o x y))) wrote room)
 
 -- ---- a piece that is written in part
@@ -121,8 +117,7 @@ pub record Follows {K : Type 0} (old new : Emitter) (piece left : Env → K → 
 
 -- code that is behind some registers gives them before its own
 abbrev pub Behind : (List ℕ → Env → Rest (List ℕ) → Code) → (Env → Rest (List ℕ) → Code) → Type 0
-Behind after code =
-    (so_far : List ℕ) (env : Env) (k : Rest (List ℕ))
+Behind after code = (so_far : List ℕ) (env : Env) (k : Rest (List ℕ))
     → after so_far env k ≡ code env (λ e xs. k e (so_far ++ xs))
 
 -- one register more, and those after it
@@ -144,14 +139,12 @@ module _ {X : Type 0} (after : List X → List ℕ → Env → Rest (List ℕ) �
     (follows : Follows old new (after xs []) (after left so_far)) where
   room_for_left : {l : List X} → left ≡ l → HasRegisterRoom old (code xs)
       → HasRegisterRoom new (after l so_far)
-  room_for_left same room =
-      subst (λ l. HasRegisterRoom new (after l so_far)) same
+  room_for_left same room = subst (λ l. HasRegisterRoom new (after l so_far)) same
       (room_where room.rest
       (follows.same room.rest ∙ ap (completed old) (behind xs [] (env_of old) room.rest)) room.fits)
 
   pub all_written : ((env : Env) (k : Rest (List ℕ)) → after [] so_far env k ≡ k env so_far)
-      → left ≡ []
-      → Writes old new (code xs) so_far
+      → left ≡ [] → Writes old new (code xs) so_far
   all_written ends none = record {
     same = λ k.
         ap (completed new) (sym (ends (env_of new) k))

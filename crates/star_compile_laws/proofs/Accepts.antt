@@ -108,8 +108,7 @@ module _ (w : World) (p : Plan) (sound : IsSoundPlan p) (met : ℕ) (pending : �
 
   -- ---- instructions
 
-  same_grade : (x : Content) (v : Known) → Is x v → fits v ≡ true → (b : Bool)
-      → made node x b ≡ b
+  same_grade : (x : Content) (v : Known) → Is x v → fits v ≡ true → (b : Bool) → made node x b ≡ b
   same_grade it v is e b = grind (arith, common_steps)
 
   -- only its range can refuse an operation
@@ -153,15 +152,13 @@ module _ (w : World) (p : Plan) (sound : IsSoundPlan p) (met : ℕ) (pending : �
       over : (b : Bool) → fits suit.v ≡ b
           → op_reason w f (open_with pending rest) (context a) (Assign n o)
           ≡ (if b then None else Some (too_wide w.bounds number'))
-      over b e =
-          reason_is n a o x suit (open_with pending rest) (ready.fresh n (omega arith))
+      over b e = reason_is n a o x suit (open_with pending rest) (ready.fresh n (omega arith))
           (omega (arith, room))
           ∙ overflow_is w suit.v number' suit.agree b e
 
       wide_is : (b : Bool) → fits suit.v ≡ b → wide a (Then (Assign n o) rest)
           ≡ (if b then wide after' rest else Some (a.at, too_wide w.bounds number'))
-      wide_is b e =
-          ap (λ c. if c then wide after' rest else Some (a.at, too_wide w.bounds number'))
+      wide_is b e = ap (λ c. if c then wide after' rest else Some (a.at, too_wide w.bounds number'))
           (ap fits_i64 (sym suit.agree.range) ∙ e)
 
       by : (b : Bool) → fits suit.v ≡ b
@@ -179,8 +176,7 @@ module _ (w : World) (p : Plan) (sound : IsSoundPlan p) (met : ℕ) (pending : �
             fresh = λ q h. or_from (a.written q) (nat_eq n q) (ready.fresh q (omega arith))
                 (ne_eqb n q (omega arith));
             agree = λ r. entry_agrees (nat_eq r n) suit.v number' (a.computed r) (a.known r)
-                suit.agree
-                (ready.agree r);
+                suit.agree (ready.agree r);
             room = omega (arith, room);
           }) in
           let goes : answer a (Then (Assign n o) rest) ≡ answer after' rest =
@@ -202,8 +198,7 @@ module _ (w : World) (p : Plan) (sound : IsSoundPlan p) (met : ℕ) (pending : �
           }
 
   keep : (g : Bool) (n : ℕ) (a : Point) (d : RowCondition) (r : ℕ) (rest : Code)
-      → Holds n a r (OfCondition d)
-      → ((b : Point) → Stays law n a n b → law.Fact g n b rest)
+      → Holds n a r (OfCondition d) → ((b : Point) → Stays law n a n b → law.Fact g n b rest)
       → law.Fact g n a (Then (Keep r) rest)
   keep g n a d r rest at next ready =
       let room = ready.room in
@@ -303,16 +298,14 @@ module _ (w : World) (p : Plan) (sound : IsSoundPlan p) (met : ℕ) (pending : �
   measures_are (fold g x ∷ ms) =
       nodes_are x (values_grade law ms true) ∙ ap (λ b. nodes_fit w.bounds x && b) (measures_are ms)
 
-  grade_is : (ds : List RowCondition)
-      → conjuncts_grade law ds (values_grade law p.measures true)
+  grade_is : (ds : List RowCondition) → conjuncts_grade law ds (values_grade law p.measures true)
       ≡ list_all (measure_fits w.bounds) p.measures
   grade_is [] = measures_are p.measures
   grade_is (d ∷ ds) = grade_is ds
 
 -- ---- the whole program
 
-first_agrees : (b : Bool)
-    → AgreeAt (if b then Some (KnownRow Lineorder) else None) (given (pos 0))
+first_agrees : (b : Bool) → AgreeAt (if b then Some (KnownRow Lineorder) else None) (given (pos 0))
 first_agrees true = record { range = refl; columns = refl }
 first_agrees false = record { range = refl; columns = refl }
 

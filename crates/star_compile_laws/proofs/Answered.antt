@@ -54,8 +54,7 @@ keys_decoded w (c ∷ cs) row h =
 
 keys_kept : (w : World) (cs : List ColumnId) (a b : Joined) → ShowsAll w cs a → ShowsAll w cs b
     → Keeps by_code.key_value_cmp value_cmp (decoded_at w cs)
-    (map (λ c. coded w c (joined_value c a)) cs)
-    (map (λ c. coded w c (joined_value c b)) cs)
+    (map (λ c. coded w c (joined_value c a)) cs) (map (λ c. coded w c (joined_value c b)) cs)
 keys_kept w [] a b p q = tt
 keys_kept w (c ∷ cs) a b p q =
     grind (arith, common_steps, decoded_same, key_kept, keys_kept w cs a b p.1 q.1)
@@ -112,8 +111,7 @@ module _ (ts : Tables) (w : World) (seen : Sees ts w) (p : Plan) (sound : IsSoun
   abbrev entries : List (Entry KeyValue)
   entries = map (update_of_row w p) (plan_rows ts p)
 
-  entry_kept : (a b : Entry KeyValue) → Contains entries a
-      → Contains entries b
+  entry_kept : (a b : Entry KeyValue) → Contains entries a → Contains entries b
       → Keeps by_code.key_value_cmp value_cmp (decoded_at w p.keys) a.keys b.keys
   entry_kept a b g h =
       let x = from_contains_map (update_of_row w p) (plan_rows ts p) a g in
@@ -131,13 +129,11 @@ module _ (ts : Tables) (w : World) (seen : Sees ts w) (p : Plan) (sound : IsSoun
       (plan_rows ts p)
       (λ r h. ap (λ ks. record {
         keys = ks;
-        values =
-            map (measured (λ c. joined_value c r)) p.measures;
+        values = map (measured (λ c. joined_value c r)) p.measures;
       })
       (keys_decoded w p.keys r (row_shows r h)))
 
-  entry_length : (e : Entry KeyValue) → Contains entries e
-      → length e.keys ≡ length p.keys
+  entry_length : (e : Entry KeyValue) → Contains entries e → length e.keys ≡ length p.keys
   entry_length e h =
       let x = from_contains_map (update_of_row w p) (plan_rows ts p) e h in
       ap (λ (z : Entry KeyValue). length z.keys) (sym x.2)

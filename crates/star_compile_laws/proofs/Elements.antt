@@ -21,13 +21,11 @@ contains_filtered p (y ∷ xs) x h = by (p y) h (λ q. contains_filtered p xs x 
         → (Contains (filter p xs) x → Contains xs x) → Contains (y ∷ xs) x
     by true q g =
         ⊎_elim {C = Contains (y ∷ xs) x} (λ e. subst (Contains (y ∷ xs)) e (contains_here y xs))
-        (λ later. contains_later y xs x (g later))
-        (contains_cases y (filter p xs) x q)
+        (λ later. contains_later y xs x (g later)) (contains_cases y (filter p xs) x q)
     by false q g = contains_later y xs x (g q)
 
 pub contains_numbers : (k i n : ℕ) → Contains (numbers k i) n → n < i + k
 contains_numbers zero i n h = absurd (contains_none n h)
-contains_numbers (suc k) i n h =
-    ⊎_elim {C = n < i + suc k} (λ e. omega arith)
+contains_numbers (suc k) i n h = ⊎_elim {C = n < i + suc k} (λ e. omega arith)
     (λ later. omega (arith, contains_numbers k (i + 1) n later))
     (contains_cases i (numbers k (i + 1)) n h)

@@ -14,8 +14,7 @@ flat (Then o rest) = flat rest
 flat (Each t r body rest) = false
 
 pub turn_is_flat : (p : Plan) → flat (turn_code p) ≡ true
-turn_is_flat p =
-    of_turn law
+turn_is_flat p = of_turn law
     (record {
       step = λ g n a o x rest makes next. next tt (λ r y h. tt) tt;
       column = λ g n a c r code ok h next. next tt;

@@ -13,8 +13,7 @@ use Rattle.star_compile_laws.proofs.Joins.{foreign_refers, of_text}
 pub record AreForeign (js : List Join) : Type 0 where
   pub fact : (t : TableId) → joins_table js t ≡ true → table_of (foreign_of js t) ≡ Lineorder
   pub number : (t : TableId) → joins_table js t ≡ true → is_text (foreign_of js t) ≡ false
-  pub references : (t : TableId) → joins_table js t ≡ true
-      → references (foreign_of js t) ≡ Some t
+  pub references : (t : TableId) → joins_table js t ≡ true → references (foreign_of js t) ≡ Some t
 
 pub each_passes : {A : Type 0} (test : A → Bool) (P : A → Type 0)
     → ((x : A) → test x ≡ true → P x) → (xs : List A) → list_all test xs ≡ true

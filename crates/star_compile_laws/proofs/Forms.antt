@@ -43,8 +43,7 @@ module _ (w : World) (c : ColumnId) where
     text_within a b = λ j. Flag ((place_le n (w.low c a) ∙ ap not (code.low a)) j
         && (place_lt n (w.high c b) ∙ code.high b) j)
 
-    text_equal : (t : List ℕ)
-        → form_value (Text c n) (equals (held.Text t))
+    text_equal : (t : List ℕ) → form_value (Text c n) (equals (held.Text t))
         ≡ Flag (tests sign.Equal (slice_cmp nat_cmp v t))
     text_equal t = text_within t t ∙ ap Flag (eq_both (slice_cmp nat_cmp v t))
 

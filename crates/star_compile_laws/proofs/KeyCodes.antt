@@ -35,8 +35,7 @@ row_applied f r = record { keys = applied_some f r.keys; totals = r.totals }
 masked_applied : {K L : Type 0} (f : ℕ → K → L) (m : List (Option K)) (ks : List K)
     → IsMasked m ks → IsMasked (applied_some f m) (applied f ks)
 masked_applied f [] [] h = tt
-masked_applied f (Some k ∷ m) (x ∷ ks) h =
-    (ap (f 0) h.0, masked_applied (λ i. f (suc i)) m ks h.1)
+masked_applied f (Some k ∷ m) (x ∷ ks) h = (ap (f 0) h.0, masked_applied (λ i. f (suc i)) m ks h.1)
 masked_applied f (None ∷ m) (x ∷ ks) h = masked_applied (λ i. f (suc i)) m ks h
 masked_applied f _ _ h = absurd h
 

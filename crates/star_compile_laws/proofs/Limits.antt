@@ -78,11 +78,9 @@ module _ (Sound Spelled : Type 0) where
     relation_fits sign.AtLeast v kind said = start_fits v kind said
 
   pub form_is_fit : (js : List Join) (t : Comparison ColumnId Value)
-      → (Sound → comparison_is_sound js t ≡ true)
-      → (Spelled → condition_is_spelled (test t) ≡ true)
+      → (Sound → comparison_is_sound js t ≡ true) → (Spelled → condition_is_spelled (test t) ≡ true)
       → IsForm (column_tested t) (comparison_form t)
-  form_is_fit js (compare c s v) ok said =
-      relation_fits c s v
+  form_is_fit js (compare c s v) ok said = relation_fits c s v
       (λ z. (and_parts (in_scope js (table_of c)) (same_kind (kind_of c) (kind_of_value v))
       (ok z)).1) said
   form_is_fit js (between c from upto) ok said =

@@ -56,8 +56,7 @@ module _ {p : Plan} (law : Law p) where
         → law.Fact g (n + 1) b rest)
         → law.Fact (made law.node x g) n a (Then (Assign n o) rest)
     pub column : (g : law.Grade) (n : ℕ) (a : law.Point) (c : ColumnId) (r : ℕ) (code : Code)
-        → (law.Sound → column_is_sound p.joins kind.Number c ≡ true)
-        → law.Holds n a r (OfColumn c)
+        → (law.Sound → column_is_sound p.joins kind.Number c ≡ true) → law.Holds n a r (OfColumn c)
         → (law.Holds n a r (OfExpression (column c)) → law.Fact g n a code)
         → law.Fact (law.node (column c) g) n a code
     pub compared : (n : ℕ) (a : law.Point) (t : Comparison ColumnId Value) (r : ℕ)
@@ -65,8 +64,7 @@ module _ {p : Plan} (law : Law p) where
         → law.Holds n a r (OfTest (column_tested t) (comparison_form t))
         → law.Holds n a r (OfCondition (test t))
     pub keep : (g : law.Grade) (n : ℕ) (a : law.Point) (d : RowCondition) (r : ℕ) (rest : Code)
-        → law.Holds n a r (OfCondition d)
-        → ((b : law.Point) → Stays n a n b → law.Fact g n b rest)
+        → law.Holds n a r (OfCondition d) → ((b : law.Point) → Stays n a n b → law.Fact g n b rest)
         → law.Fact (law.conjunct d g) n a (Then (Keep r) rest)
     pub put : (n : ℕ) (a : law.Point) (ks vs : List ℕ)
         → AllHold (law.Holds n a) (map OfColumn p.keys) ks
@@ -76,12 +74,9 @@ module _ {p : Plan} (law : Law p) where
   abbrev pub expression_grade : Expression ColumnId → law.Grade → law.Grade
   expression_grade (column c) g = law.node (column c) g
   expression_grade (constant z) g = law.node (constant z) g
-  expression_grade (add a b) g =
-      expression_grade a (expression_grade b (law.node (add a b) g))
-  expression_grade (sub a b) g =
-      expression_grade a (expression_grade b (law.node (sub a b) g))
-  expression_grade (mul a b) g =
-      expression_grade a (expression_grade b (law.node (mul a b) g))
+  expression_grade (add a b) g = expression_grade a (expression_grade b (law.node (add a b) g))
+  expression_grade (sub a b) g = expression_grade a (expression_grade b (law.node (sub a b) g))
+  expression_grade (mul a b) g = expression_grade a (expression_grade b (law.node (mul a b) g))
 
   abbrev pub values_grade : List (Measure ColumnId) → law.Grade → law.Grade
   values_grade [] g = g
@@ -130,8 +125,7 @@ module _ {p : Plan} (law : Law p) where
     -- and so of a piece before it
     abbrev Carries : {A : Type 0} → (law.Grade → law.Grade) → (Place → A → Type 0)
         → (Env → (Env → A → Code) → Code) → Type 0
-    Carries {A} f Says piece =
-        (g : law.Grade) (a : Place) (k : Env → A → Code) → Follows g a Says k
+    Carries {A} f Says piece = (g : law.Grade) (a : Place) (k : Env → A → Code) → Follows g a Says k
         → Fact (f g) a (piece a.env k)
 
     later : {A : Type 0} (g : law.Grade) (a b : Place) (Says : Place → A → Type 0)
@@ -215,8 +209,7 @@ module _ {p : Plan} (law : Law p) where
         → Follows g a (At (OfColumn c)) k → Fact g a (place_code js c a.env k b)
     of_place c g a k true e joined h =
         of_load c Lineorder 0 (λ s. table_same (table_of c) Lineorder e) g a k a.fact h
-    of_place c g a k false e joined h =
-        of_row (table_of c) joined g a (λ e r. load_code c r e k)
+    of_place c g a k false e joined h = of_row (table_of c) joined g a (λ e r. load_code c r e k)
         (register_in is_table a.env.found (table_of c)) refl
         (λ b r on at. of_load c (table_of c) r (λ s. refl) g b k at
         (later g a b (At (OfColumn c)) k on h))
@@ -270,23 +263,20 @@ module _ {p : Plan} (law : Law p) where
 
     of_form : (c : ColumnId) (f : Form) (x : ℕ) → IsForm law.Sound law.Spelled c f
         → (g : law.Grade) (a : Place) (k : Rest ℕ)
-        → At (OfColumn c) a x → Follows g a (At (OfTest c f)) k
-        → Fact g a (form_code c x f a.env k)
+        → At (OfColumn c) a x → Follows g a (At (OfTest c f)) k → Fact g a (form_code c x f a.env k)
     of_form c (before o l) x fits g a k at h =
         of_beside c l (λ n. Binary (operator_of o) x n) (before o l) fits g a k
         (λ b m on at_m. is_before o c l x m fits (on x (OfColumn c) at) at_m) h
     of_form c (after o l) x fits g a k at h =
         of_beside c l (λ n. Binary (operator_of o) n x) (after o l) fits g a k
         (λ b m on at_m. is_after o c l x m fits (on x (OfColumn c) at) at_m) h
-    of_form c (within l u) x fits g a k at h =
-        of_write (limit_of c l) (OfLimit c l) g a
+    of_form c (within l u) x fits g a k at h = of_write (limit_of c l) (OfLimit c l) g a
         (λ e m. beside (limit_of c u) (λ n. Within x m n) e k) (limits c l fits.0)
         (λ b m on at_m. of_beside c u (λ n. Within x m n) (within l u) fits.1 g b k
         (λ d n more at_n. is_within c l u x m n fits.0 fits.1
         (more x (OfColumn c) (on x (OfColumn c) at)) (more m (OfLimit c l) at_m) at_n)
         (later g a b (At (OfTest c (within l u))) k on h))
-    of_form c (negated f) x fits g a k at h =
-        of_form c f x fits g a (λ e y. write (Not y) e k) at
+    of_form c (negated f) x fits g a k at h = of_form c f x fits g a (λ e y. write (Not y) e k) at
         (λ b y on at_y. of_write (Not y) (OfTest c (negated f)) g b k (fails c f y at_y)
         (later g a b (At (OfTest c (negated f))) k on h))
 
@@ -295,14 +285,12 @@ module _ {p : Plan} (law : Law p) where
         → (law.Spelled → condition_is_spelled (test t) ≡ true) → (g : law.Grade) (a : Place)
         (k : Rest ℕ) → At (OfColumn (column_tested t)) a x
         → Follows g a (At (OfCondition (test t))) k → Fact g a (comparison_code x t a.env k)
-    of_comparison t x ok said g a k at h =
-        subst (Fact g a) (has_form x t a.env k)
+    of_comparison t x ok said g a k at h = subst (Fact g a) (has_form x t a.env k)
         (of_form (column_tested t) (comparison_form t) x
         (form_is_fit law.Sound law.Spelled js t ok said) g a k at
         (λ b r on at_r. h b r on (it.compared b.env.next b.point t r ok at_r)))
 
-    halves : {S : Type 0} (x y : Bool) → (S → (x && y) ≡ true)
-        → (S → x ≡ true) × (S → y ≡ true)
+    halves : {S : Type 0} (x y : Bool) → (S → (x && y) ≡ true) → (S → x ≡ true) × (S → y ≡ true)
     halves x y h = (λ s. (and_parts x y (h s)).0, λ s. (and_parts x y (h s)).1)
 
     of_condition : (d : RowCondition) → (law.Sound → condition_is_sound js d ≡ true)

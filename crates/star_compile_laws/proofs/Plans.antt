@@ -42,8 +42,7 @@ descending c = record { column = c; direction = Descending }
 abbrev pub q11 : Plan
 q11 = record {
   joins = by_date ∷ [];
-  conjuncts =
-      compare DYear Equal (number 1993)
+  conjuncts = compare DYear Equal (number 1993)
       ∷ between LoDiscount (number 1) (number 3)
       ∷ compare LoQuantity Less (number 25) ∷ [];
   shape = Plain;
@@ -59,8 +58,7 @@ q11 = record {
 --   between 26 and 35
 abbrev pub q12 : Plan
 q12 = record q11 {
-  conjuncts =
-      compare DYearmonthnum Equal (number 199401)
+  conjuncts = compare DYearmonthnum Equal (number 199401)
       ∷ between LoDiscount (number 4) (number 6)
       ∷ between LoQuantity (number 26) (number 35) ∷ [];
 }
@@ -70,8 +68,7 @@ q12 = record q11 {
 --   lo_quantity between 26 and 35
 abbrev pub q13 : Plan
 q13 = record q11 {
-  conjuncts =
-      compare DWeeknuminyear Equal (number 6)
+  conjuncts = compare DWeeknuminyear Equal (number 6)
       ∷ compare DYear Equal (number 1994)
       ∷ between LoDiscount (number 5) (number 7)
       ∷ between LoQuantity (number 26) (number 35) ∷ [];
@@ -99,8 +96,7 @@ q21 = record {
 --   by d_year, p_brand1
 abbrev pub q22 : Plan
 q22 = record q21 {
-  conjuncts =
-      between PBrand1 (Text (codes "MFGR#2221")) (Text (codes "MFGR#2228"))
+  conjuncts = between PBrand1 (Text (codes "MFGR#2221")) (Text (codes "MFGR#2228"))
       ∷ equals SRegion (codes "ASIA") ∷ [];
 }
 
@@ -119,8 +115,7 @@ q23 = record q21 {
 abbrev pub q31 : Plan
 q31 = record {
   joins = by_customer ∷ by_supplier ∷ by_date ∷ [];
-  conjuncts =
-      equals CRegion (codes "ASIA")
+  conjuncts = equals CRegion (codes "ASIA")
       ∷ equals SRegion (codes "ASIA")
       ∷ compare DYear AtLeast (number 1992)
       ∷ compare DYear AtMost (number 1997) ∷ [];
@@ -138,8 +133,7 @@ q31 = record {
 --   <= 1997 group by c_city, s_city, d_year order by d_year asc, revenue desc
 abbrev pub q32 : Plan
 q32 = record q31 {
-  conjuncts =
-      equals CNation (codes "UNITED STATES")
+  conjuncts = equals CNation (codes "UNITED STATES")
       ∷ equals SNation (codes "UNITED STATES")
       ∷ compare DYear AtLeast (number 1992)
       ∷ compare DYear AtMost (number 1997) ∷ [];
@@ -153,8 +147,7 @@ q32 = record q31 {
 --   by d_year asc, revenue desc
 abbrev pub q33 : Plan
 q33 = record q32 {
-  conjuncts =
-      or (equals CCity (codes "UNITED KI1")) (equals CCity (codes "UNITED KI5"))
+  conjuncts = or (equals CCity (codes "UNITED KI1")) (equals CCity (codes "UNITED KI5"))
       ∷ or (equals SCity (codes "UNITED KI1")) (equals SCity (codes "UNITED KI5"))
       ∷ compare DYear AtLeast (number 1992)
       ∷ compare DYear AtMost (number 1997) ∷ [];
@@ -167,8 +160,7 @@ q33 = record q32 {
 --   asc, revenue desc
 abbrev pub q34 : Plan
 q34 = record q32 {
-  conjuncts =
-      or (equals CCity (codes "UNITED KI1")) (equals CCity (codes "UNITED KI5"))
+  conjuncts = or (equals CCity (codes "UNITED KI1")) (equals CCity (codes "UNITED KI5"))
       ∷ or (equals SCity (codes "UNITED KI1")) (equals SCity (codes "UNITED KI5"))
       ∷ equals DYearmonth (codes "Dec1997") ∷ [];
 }
@@ -181,8 +173,7 @@ q34 = record q32 {
 abbrev pub q41 : Plan
 q41 = record {
   joins = by_customer ∷ by_supplier ∷ by_part ∷ by_date ∷ [];
-  conjuncts =
-      equals CRegion (codes "AMERICA")
+  conjuncts = equals CRegion (codes "AMERICA")
       ∷ equals SRegion (codes "AMERICA")
       ∷ or (equals PMfgr (codes "MFGR#1")) (equals PMfgr (codes "MFGR#2")) ∷ [];
   shape = Plain;
@@ -200,8 +191,7 @@ q41 = record {
 --   = 'MFGR#2') group by d_year, s_nation, p_category order by d_year, s_nation, p_category
 abbrev pub q42 : Plan
 q42 = record q41 {
-  conjuncts =
-      equals CRegion (codes "AMERICA")
+  conjuncts = equals CRegion (codes "AMERICA")
       ∷ equals SRegion (codes "AMERICA")
       ∷ or (compare DYear Equal (number 1997)) (compare DYear Equal (number 1998))
       ∷ or (equals PMfgr (codes "MFGR#1")) (equals PMfgr (codes "MFGR#2")) ∷ [];
@@ -217,8 +207,7 @@ q42 = record q41 {
 --   group by d_year, s_city, p_brand1 order by d_year, s_city, p_brand1
 abbrev pub q43 : Plan
 q43 = record q42 {
-  conjuncts =
-      equals CRegion (codes "AMERICA")
+  conjuncts = equals CRegion (codes "AMERICA")
       ∷ equals SNation (codes "UNITED STATES")
       ∷ or (compare DYear Equal (number 1997)) (compare DYear Equal (number 1998))
       ∷ equals PCategory (codes "MFGR#14") ∷ [];
@@ -232,8 +221,7 @@ q43 = record q42 {
 abbrev pub profits : Plan
 profits = record {
   joins = by_customer ∷ by_date ∷ by_part ∷ [];
-  conjuncts =
-      or (equals CRegion (codes "ASIA"))
+  conjuncts = or (equals CRegion (codes "ASIA"))
       (not (compare PMfgr AtMost (Text (codes "MFGR#2"))))
       ∷ between DYear (number 1992) (number 1997) ∷ [];
   shape = Cube;
@@ -253,8 +241,7 @@ profits = record {
 abbrev pub others : Plan
 others = record {
   joins = by_commit ∷ by_customer ∷ by_supplier ∷ [];
-  conjuncts =
-      compare LoCommitdate Unequal (number 19940105)
+  conjuncts = compare LoCommitdate Unequal (number 19940105)
       ∷ or
       (and (compare LoShipmode Unequal (Text (codes "AIR"))) (compare LoTax Greater (number 1)))
       (and (compare DYear Less (number 1995)) (compare DMonth AtLeast (Text (codes "M"))))
@@ -264,8 +251,7 @@ others = record {
       ∷ between DMonth (Text (codes "A")) (Text (codes "M")) ∷ [];
   shape = Plain;
   keys = LoShipmode ∷ [];
-  measures =
-      least (add (column LoTax) (mul (constant (negsuc 1)) (column LoDiscount)))
+  measures = least (add (column LoTax) (mul (constant (negsuc 1)) (column LoDiscount)))
       ∷ greatest (column LoRevenue)
       ∷ count ∷ [];
   names = codes "lowest" ∷ codes "max2" ∷ codes "count3" ∷ [];

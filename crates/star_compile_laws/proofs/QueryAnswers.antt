@@ -33,8 +33,7 @@ counts_the_rows_of_the_query database w query p rows world named resolved may s 
     record {
       visits = counted.0;
       lookups = counted.1;
-      updates =
-          counted.2
+      updates = counted.2
           ∙ length_permutation (selected ts query) (plan_rows ts p)
           (selected_reordered ts query p named resolved);
     }

@@ -36,8 +36,7 @@ is_join ts w seen j e =
 filter_none : (p : Row → Bool) (xs : List Row)
     → ((m : ℕ) → m < length xs → p (row_at xs m) ≡ true → ⊥) → filter p xs ≡ []
 filter_none p [] h = refl
-filter_none p (x ∷ xs) h =
-    cond-false (p x) (x ∷ filter p xs) (filter p xs)
+filter_none p (x ∷ xs) h = cond-false (p x) (x ∷ filter p xs) (filter p xs)
     (false_from_ne_true (p x) (h 0 (omega arith)))
     ∙ filter_none p xs (λ m b e. h (suc m) (omega arith) e)
 
@@ -45,12 +44,10 @@ filter_none p (x ∷ xs) h =
 pub filter_one : (p : Row → Bool) (xs : List Row) (n : ℕ) → n < length xs → p (row_at xs n) ≡ true
     → ((m : ℕ) → m < length xs → p (row_at xs m) ≡ true → m ≡ n) → filter p xs ≡ row_at xs n ∷ []
 filter_one p [] n b e h = absurd (omega arith)
-filter_one p (x ∷ xs) zero b e h =
-    cond-true (p x) (x ∷ filter p xs) (filter p xs) e
+filter_one p (x ∷ xs) zero b e h = cond-true (p x) (x ∷ filter p xs) (filter p xs) e
     ∙ ap (λ l. x ∷ l) (filter_none p xs
     (λ m c q. let r : suc m ≡ 0 = h (suc m) (omega arith) q in absurd (omega arith)))
-filter_one p (x ∷ xs) (suc n) b e h =
-    cond-false (p x) (x ∷ filter p xs) (filter p xs)
+filter_one p (x ∷ xs) (suc n) b e h = cond-false (p x) (x ∷ filter p xs) (filter p xs)
     (false_from_ne_true (p x)
     (λ q. let r : 0 ≡ suc n = h 0 (omega arith) q in absurd (omega arith)))
     ∙ filter_one p xs n (omega arith) e
@@ -156,8 +153,7 @@ Joins ts w c t =
 
 module _ (ts : Tables) (w : World) (seen : Sees ts w) (p : Plan) (sound : IsSoundPlan p) where
   joined_by : (t : TableId) → joins_table p.joins t ≡ true → Joins ts w (foreign_of p.joins t) t
-  joined_by =
-      join_of (Joins ts w) p.joins
+  joined_by = join_of (Joins ts w) p.joins
       (each_passes (λ j. is_foreign j.foreign j.key)
       (λ j. Joins ts w j.foreign (table_of j.key)) (λ j e. (j.key, refl, is_join ts w seen j e))
       p.joins sound.joins)
@@ -193,8 +189,7 @@ module _ (ts : Tables) (w : World) (seen : Sees ts w) (p : Plan) (sound : IsSoun
   pub rows_are : map (update_of_row w p) (plan_rows ts p) ≡ map
       (λ i. update_of_row w p (row_of_fact i))
       (filter (λ i. all_hold p.conjuncts (row_of_fact i)) (numbers (length (ts Lineorder)) 0))
-  rows_are =
-      ap (λ rows. map (update_of_row w p) (filter (all_hold p.conjuncts) rows)) joined_are
+  rows_are = ap (λ rows. map (update_of_row w p) (filter (all_hold p.conjuncts) rows)) joined_are
       ∙ ap (map (update_of_row w p))
       (filter-map (all_hold p.conjuncts) row_of_fact (numbers (length (ts Lineorder)) 0))
       ∙ map-map (update_of_row w p) row_of_fact
@@ -211,8 +206,7 @@ module _ (ts : Tables) (w : World) (seen : Sees ts w) (p : Plan) (sound : IsSoun
       → Scanned (updates_of_rows w may p sound row_of_fact is_turn (numbers (w.size Lineorder) 0))
       (w.size Lineorder)
       (sum_by (λ i. turn_lookups p (row_of_fact i)) (numbers (w.size Lineorder) 0)) empty_state e
-  scanned may e h =
-      scan_runs w may p sound row_of_fact is_turn 1 false no_registers empty_state e
+  scanned may e h = scan_runs w may p sound row_of_fact is_turn 1 false no_registers empty_state e
       (shown_runs (shown_fault (compiled p)) (λ _. meaning_of w may (compiled p))
       (shows_what_is_there p sound) e h)
 
@@ -220,8 +214,7 @@ module _ (ts : Tables) (w : World) (seen : Sees ts w) (p : Plan) (sound : IsSoun
   pub puts_the_rows : PutsTheRows ts w p
   puts_the_rows may e h = grind (arith, common_steps, scanned, numbers, rows_are)
 
-  looked_up_in : (is : List ℕ)
-      → sum_by (turn_lookups p) (map row_of_fact is)
+  looked_up_in : (is : List ℕ) → sum_by (turn_lookups p) (map row_of_fact is)
       ≡ sum_by (λ i. turn_lookups p (row_of_fact i)) is
   looked_up_in [] = refl
   looked_up_in (i ∷ is) = grind (arith, common_steps, sum_by-cons, looked_up_in is)

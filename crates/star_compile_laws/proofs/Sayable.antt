@@ -66,8 +66,7 @@ module _ (p : Plan) where
     column = λ g n a c r code ok at next. next at;
     compared = λ n a t r ok at. at;
     keep = λ g n a d r rest at next room. (at, next tt (λ q y h. h) (omega arith));
-    put = λ n a ks vs at_k at_v room.
-        ((omega arith, all_short _ ks at_k, all_short _ vs at_v), tt);
+    put = λ n a ks vs at_k at_v room. ((omega arith, all_short _ ks at_k, all_short _ vs at_v), tt);
   }
 
   pub turn_spelled : IsSpelledPlan p → 1 + register_count (turn_code p) ≤ 9999

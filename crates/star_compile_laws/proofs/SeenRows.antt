@@ -73,8 +73,7 @@ module _ (database : Database) (w : World) (rows : (t : TableId) → All (IsRowO
   number_of : (k : ColumnId) (n : ℕ) (z : ℤ) (v : Value) → kind_of k ≡ kind.Number
       → n < length (rows_in database (table_of k))
       → slice_get (row_at (rows_in database (table_of k)) n) (place_of k) ≡ Some v
-      → kind_of_value v ≡ kind_of k
-      → (y : ℤ) × (v ≡ Number y) × HasNumber database k n y
+      → kind_of_value v ≡ kind_of k → (y : ℤ) × (v ≡ Number y) × HasNumber database k n y
   number_of k n z (Number y) q below e h = (y, refl, number_there k n y below e)
   number_of k n z (Text t) q below e h = let a : true ≡ false = ap of_text (h ∙ q) in absurd (cc)
 
@@ -90,8 +89,7 @@ module _ (database : Database) (w : World) (rows : (t : TableId) → All (IsRowO
       (q.0, value_is k (row_at (rows_in database (table_of k)) n) h ∙ q.1, q.2)
 
   finds : (k : ColumnId) (z : ℤ) (n : ℕ) → is_lone_key k (key_of (table_of k)) ≡ true
-      → w.find (table_of k) z ≡ Some n
-      → (n < length (rows_in database (table_of k)))
+      → w.find (table_of k) z ≡ Some n → (n < length (rows_in database (table_of k)))
       × (value_in k (row_at (rows_in database (table_of k)) n) ≡ Number z)
   finds k z n e f =
       let one = lone k (key_of (table_of k)) e in

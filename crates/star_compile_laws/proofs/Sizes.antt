@@ -54,14 +54,12 @@ Short {A} m k = (e : Env) (x : A) → code_size (k e x) ≤ m + 2 * unfound e.fo
 
 -- a piece adds at most `n`
 abbrev Adds : {A : Type 0} → ℕ → (Env → (Env → A → Code) → Code) → Type 0
-Adds {A} n piece =
-    (env : Env) (k : Env → A → Code) (m : ℕ) → Short m k
+Adds {A} n piece = (env : Env) (k : Env → A → Code) (m : ℕ) → Short m k
     → code_size (piece env k) ≤ n + m + 2 * unfound env.found
 
 -- or one less: there is always one more to come, an operator or a keep or what loads a column
 abbrev AddsLess : ℕ → (Env → Rest ℕ → Code) → Type 0
-AddsLess n piece =
-    (env : Env) (k : Rest ℕ) (m : ℕ) → Short m k
+AddsLess n piece = (env : Env) (k : Rest ℕ) (m : ℕ) → Short m k
     → 1 + code_size (piece env k) ≤ n + m + 2 * unfound env.found
 
 of_binary : (left right : Env → Rest ℕ → Code) (o : Operator) (p q r : ℕ) → p + q ≡ r
@@ -140,8 +138,7 @@ module _ (js : List Join) where
   of_place : (c : ColumnId) (env : Env) (k : Rest ℕ) (m : ℕ) (b : Bool) → Short m k
       → code_size (place_code js c env k b) ≤ 1 + m + 2 * unfound env.found
   of_place c env k m true h = omega (arith, h (with_loaded env c) env.next)
-  of_place c env k m false h =
-      of_row (table_of c) env (λ e r. load_code c r e k) (1 + m)
+  of_place c env k m false h = of_row (table_of c) env (λ e r. load_code c r e k) (1 + m)
       (register_in is_table env.found (table_of c)) refl (λ e r. omega (arith, h (with_loaded e c) e.next))
 
   of_column_from : (c : ColumnId) (env : Env) (k : Rest ℕ) (m : ℕ) (o : Option ℕ) → Short m k
@@ -158,13 +155,11 @@ module _ (js : List Join) where
   of_condition (or a b) env k m h =
       of_binary (condition_code js a) (condition_code js b) operator.Or (6 * comparisons_of a)
       (6 * comparisons_of b) (6 * (comparisons_of a + comparisons_of b)) (omega arith)
-      (of_condition a)
-      (of_condition b) env k m h
+      (of_condition a) (of_condition b) env k m h
   of_condition (and a b) env k m h =
       of_binary (condition_code js a) (condition_code js b) operator.And (6 * comparisons_of a)
       (6 * comparisons_of b) (6 * (comparisons_of a + comparisons_of b)) (omega arith)
-      (of_condition a)
-      (of_condition b) env k m h
+      (of_condition a) (of_condition b) env k m h
   of_condition (not a) env k m h =
       omega (
         arith,
@@ -248,8 +243,7 @@ module _ (js : List Join) where
 
 -- at most six instructions for each comparison, two for each operand and one for each key; ten for
 -- rows, one for the put and one for the scan
-pub body_size : (p : Plan)
-    → code_size (body_code p)
+pub body_size : (p : Plan) → code_size (body_code p)
     ≤ 6 * sum_by comparisons_of p.conjuncts + length p.keys
     + 2 * sum_by measure_operands p.measures + 12
 body_size p =

@@ -107,8 +107,7 @@ module _ (w : World) (p : Plan) (met : ℕ) where
   Is (OfLimit c l) v = v ≡ limit_known c l
   Is (OfTest c x) v = v ≡ KnownFlag
   Is (OfCondition d) v = v ≡ KnownFlag
-  Is (OfExpression a) v =
-      (reach : Reach) × (o : Option ColumnId)
+  Is (OfExpression a) v = (reach : Reach) × (o : Option ColumnId)
       × (v ≡ KnownNumber (expression_range w.bounds a) reach o)
 
   abbrev pub Holds : ℕ → Point → ℕ → Content → Type 0
@@ -186,8 +185,7 @@ module _ (w : World) (p : Plan) (met : ℕ) where
 
   compares_suit : (n : ℕ) (a : Point) (o : Comparing) (x : Content) (l r : ℕ) (u v : Known)
       → n ≤ f.registers → Is x KnownFlag → Has n a l u → Has n a r v
-      → is_ordered (known_kind u) ≡ true
-      → compares_with (Some (known_kind u)) (known_kind v) ≡ true
+      → is_ordered (known_kind u) ≡ true → compares_with (Some (known_kind u)) (known_kind v) ≡ true
       → Suits n a (Binary (operator_of o) l r) x
   compares_suit n a o x l r u v room is at_l at_r ordered ok =
       flag_suits n a (Binary (operator_of o) l r) x is refl
@@ -213,8 +211,7 @@ module _ (w : World) (p : Plan) (met : ℕ) where
 
   -- arithmetic on two numbers
   computes_suit : (n : ℕ) (a : Point) (o : Operator) (z : ℤ → ℤ → ℤ) (x y t : Expression ColumnId)
-      (l r : ℕ) → n ≤ f.registers → Agree a.known a.computed
-      → expression_range w.bounds t
+      (l r : ℕ) → n ≤ f.registers → Agree a.known a.computed → expression_range w.bounds t
       ≡ corner_range z (expression_range w.bounds x) (expression_range w.bounds y)
       → operation_fault f.registers (kinds_known a.known) (Binary o l r)
       ≡ both_fault f.registers (kinds_known a.known) is_number_kind l r
@@ -249,8 +246,7 @@ module _ (w : World) (p : Plan) (met : ℕ) where
       }
 
   -- a column's bounds, where they are asked for
-  column_sure : Asked → (c : ColumnId) (b : Bool) → is_text c ≡ b
-      → fits (loaded_known w c b) ≡ true
+  column_sure : Asked → (c : ColumnId) (b : Bool) → is_text c ≡ b → fits (loaded_known w c b) ≡ true
   column_sure s c true e = fits_zero
   column_sure s c false e = (fits_i64_fits (w.bounds c)).1 (s.0 c (number_kind c e))
 

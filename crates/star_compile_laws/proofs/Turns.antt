@@ -167,8 +167,7 @@ module _ (w : World) (may : ℕ → Bool) (at : TableId → ℕ) (p : Plan) (row
   kept_by it flags a r rest next h = grind (arith, common_steps, add-zero)
 
   keep : (flags : List Bool) (n : ℕ) (a : Point) (d : RowCondition) (r : ℕ) (rest : Code)
-      → Holds n a r (OfCondition d)
-      → ((b : Point) → Stays law n a n b → law.Fact flags n b rest)
+      → Holds n a r (OfCondition d) → ((b : Point) → Stays law n a n b → law.Fact flags n b rest)
       → law.Fact (holds d row ∷ flags) n a (Then (Keep r) rest)
   keep flags n a d r rest at next h =
       let go = meaning w f may rest (a.number + 1) true in
@@ -218,8 +217,7 @@ module _ (w : World) (may : ℕ → Bool) (at : TableId → ℕ) (p : Plan) (row
   values_stand n a (fold g x ∷ ms) [] q = absurd q
 
   put : (n : ℕ) (a : Point) (ks vs : List ℕ) → AllHold (Holds n a) (map OfColumn p.keys) ks
-      → AllHold (Holds n a) (numbers_put p.measures) vs
-      → law.Fact [] n a (Then (Put 0 ks vs) Stop)
+      → AllHold (Holds n a) (numbers_put p.measures) vs → law.Fact [] n a (Then (Put 0 ks vs) Stop)
   put n a ks vs at_k at_v h =
       grind (arith, common_steps, untrapped, keys_stand, values_stand, add-zero)
 
@@ -336,16 +334,14 @@ module _ (w : World) (may : ℕ → Bool) (p : Plan) (sound : IsSoundPlan p) (ro
       let selected = all_hold p.conjuncts (row i) in
       let later = filter (λ i. all_hold p.conjuncts (row i)) (numbers k (i + 1)) in
       record {
-        put =
-            r.put
+        put = r.put
             ∙ ap (λ z. reverse_aux (updates_of_rows (numbers k (i + 1))) (z.updates_of 0)) t
             ∙ sym (one_put selected i s.updates_of later);
         visits = (let x = r.visits in let y = ap (λ z. z.visits) t in omega arith);
         lookups =
             (let x = r.lookups in let y = ap (λ z. z.lookups) t in
             omega (arith, x, y, sum_by-cons looked_up i (numbers k (i + 1))));
-        updates =
-            r.updates
+        updates = r.updates
             ∙ ap (λ z. z.updates + length (updates_of_rows (numbers k (i + 1)))) t
             ∙ one_length selected i later (λ i. update_of_row w p (row i)) s.updates;
       }

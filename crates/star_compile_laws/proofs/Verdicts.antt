@@ -58,8 +58,7 @@ module _ (w : World) (most : ℕ) (p : Plan) where
     -- by the number of rows and the instructions alone
     told : first_refusal w most (compiled p)
         ≡ option_or (cost_refusal rows (nat_le rows most)) (option_map Refused reason)
-    told =
-        by_rows
+    told = by_rows
         ∙ ap (λ o. option_or (cost_refusal rows (nat_le rows most))
         (option_or (option_map Refused reason) (option_map BadShow o)))
         (shows_what_is_there p sound)
@@ -73,8 +72,7 @@ module _ (w : World) (most : ℕ) (p : Plan) where
     nodes = list_all (measure_fits w.bounds) p.measures
 
     judged : Judged (AreColumnsI64 w p) nodes reason (turn_wide w.bounds p)
-    judged =
-        subst (λ o. Judged (AreColumnsI64 w p) nodes o (turn_wide w.bounds p))
+    judged = subst (λ o. Judged (AreColumnsI64 w p) nodes o (turn_wide w.bounds p))
         (first_standing w (compiled p)) (program_judged w p sound)
 
     -- ---- what is accepted fits

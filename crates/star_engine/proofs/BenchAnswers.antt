@@ -1,6 +1,6 @@
 -- What is printed of the programs of the thirteen queries is what is printed of the queries.
 use Rattle.std.proofs.Common.{◌≡◌, ◌≤◌, ◌<◌, ◌+◌, ◌++◌, ◌∙◌, ℕ, Bool, true, false, List, [], ◌∷◌, Some, ap, append_assoc, arith, drop, inl, inr, length, refl, subst, sym}
-use Rattle.std.proofs.{lemmas.List.append-nil, lemmas.List.drop_all, lemmas.List.length-append}
+use Rattle.std.proofs.{Math.Bool.and-true, Math.Bool.and_assoc, lemmas.List.append-nil, lemmas.List.drop_all, lemmas.List.length-append}
 use Rattle.std.specs.Prelude.{◌&&◌, ◌↔◌, IsTrue, codes, Result, Err}
 use Rattle.std.specs.{List.AllByRecursion, List.slice_get}
 use Rattle.star_common.proofs.Lists.{drop_at_place}
@@ -69,14 +69,6 @@ both_verdicts : {A B : Type 0} (one others : Bool) → (IsTrue one ↔ A) → (I
 both_verdicts true others a b = ((λ is. (a.0 refl, b.0 is)), (λ both. b.1 both.1))
 both_verdicts false others a b = ((λ is. absurd (cc)), (λ both. a.1 both.0))
 
-and_assoc : (a b c : Bool) → a && (b && c) ≡ (a && b) && c
-and_assoc true b c = refl
-and_assoc false b c = refl
-
-and_true : (a : Bool) → a && true ≡ a
-and_true true = refl
-and_true false = refl
-
 module _ (most : ℕ) (database : Database) where
   -- with the sections of the queries that remain the text is that of all
   abbrev pub GoesOn : (all left : List BenchmarkQuery) → (fits : Bool) → (text : List ℕ) → Type 0
@@ -98,7 +90,7 @@ module _ (most : ℕ) (database : Database) where
       (both_verdicts one fit verdict verdicts))
       in (
         subst (AreSections most database all) (sym (append_assoc text section rest)) whole.0,
-        subst (IsVerdictOn most database all) (and_assoc fits one fit) whole.1,
+        subst (IsVerdictOn most database all) (sym (and_assoc fits one fit)) whole.1,
       )
 
   pub all_sections : (all : List BenchmarkQuery) (i : ℕ) (fits : Bool) (text : List ℕ)
@@ -110,7 +102,7 @@ module _ (most : ℕ) (database : Database) where
       goes true [] (subst (λ qs. AreSections most database qs []) (sym none) refl)
       (subst (λ qs. IsVerdictOn most database qs true) (sym none) ((λ is. tt), (λ fit. refl))) in (
         subst (AreSections most database all) (append-nil text) whole.0,
-        subst (IsVerdictOn most database all) (and_true fits) whole.1,
+        subst (IsVerdictOn most database all) (and-true fits) whole.1,
       )
 
 -- ---- the thirteen

@@ -1,37 +1,46 @@
--- What a call answers, in one and clause by clause.
+-- What a call answers, by its last step, and clause by clause.
 use Rattle.std.proofs.Common.{◌≡◌, ℕ, List, refl}
 use Rattle.std.specs.Prelude.{Result, Ok, Err, IfErr, OnOk}
-use Rattle.star_engine.specs.Answered.{Change, HasWritten, IsAnswered, IsBrokenOff, IsRefused, IsUntouched}
+use Rattle.star_engine.specs.Answered.{Change, HasWritten, IsAnswered, IsBrokenOff, IsRefused, IsUntouched, IsWritten, OrMemory}
+use Rattle.star_engine.specs.declared.fault.EngineFault.TheVariants.{OutOfMemory, Refused, Write}
 use Rattle.star_engine.specs.WithNotes.{HasWrittenRun, IsAnsweredWithNotes, IsRunBrokenOff, IsRunRefused, IsRunUnwritten, RunText}
-use Rattle.star_engine.specs.{declared.fault.EngineFault.EngineFault, declared.fault.EngineFault.TheVariants.OutOfMemory, declared.fault.EngineFault.TheVariants.Refused, declared.fault.EngineFault.TheVariants.Write}
+use Rattle.star_engine.specs.{declared.fault.EngineFault.EngineFault}
+
+-- a fault of a step before anything is written
+pub stopped : {S : Type 0} (A : Type 0) (sink : Change S) (IsText : List ℕ → Type 0)
+    (IsDue : EngineFault → Type 0) (fault : EngineFault) → IsUntouched sink
+    → OrMemory IsDue fault → IsAnswered {A = A} sink IsText IsDue (Err fault)
+stopped A sink IsText IsDue OutOfMemory same due = same
+stopped A sink IsText IsDue (Write sent) same due = absurd due
+stopped A sink IsText IsDue fault same due = (due, same)
+
+-- the text that was written is due
+pub written : {S : Type 0} (sink : Change S) (text : List ℕ) (IsText : List ℕ → Type 0)
+    (IsDue : EngineFault → Type 0) (result : Result (Unit {0}) EngineFault) → IsText text
+    → IsWritten sink text result → IsAnswered sink IsText IsDue result
+written sink text IsText IsDue (Ok answer) due gained = (text, due, gained)
+written sink text IsText IsDue (Err (Write sent)) due part = (text, due, part)
+written sink text IsText IsDue (Err _) due never = absurd never
 
 -- ---- a text
 
 module _ {S A : Type 0} (sink : Change S) (IsText : List ℕ → Type 0)
     (IsDue : EngineFault → Type 0) where
-  pub has_written : (result : Result A EngineFault) → IsAnswered sink IsText IsDue result
-      → OnOk result (HasWritten sink IsText)
-  has_written (Ok answer) answered = answered
-  has_written (Err fault) answered = tt
+  pub by_clauses : (result : Result A EngineFault) → IsAnswered sink IsText IsDue result
+      → OnOk result (HasWritten sink IsText) × IfErr result (IsBrokenOff sink IsText)
+      × IfErr result (IsRefused sink IsDue) × (result ≡ Err OutOfMemory → IsUntouched sink)
+  by_clauses (Ok answer) is = (is, tt, tt, λ same. cc)
+  by_clauses (Err OutOfMemory) is = (tt, tt, tt, λ same. is)
+  by_clauses (Err (Write sent)) is = (tt, is, tt, λ same. cc)
+  by_clauses (Err fault) is = (tt, tt, is, λ same. cc)
 
-  pub is_broken_off : (result : Result A EngineFault) → IsAnswered sink IsText IsDue result
-      → IfErr result (IsBrokenOff sink IsText)
-  is_broken_off (Ok answer) answered = tt
-  is_broken_off (Err (Write sent)) answered = answered
-  is_broken_off (Err fault) answered = tt
-
-  pub is_refused : (result : Result A EngineFault) → IsAnswered sink IsText IsDue result
-      → IfErr result (IsRefused sink IsDue)
-  is_refused (Ok answer) answered = tt
-  is_refused (Err OutOfMemory) answered = tt
-  is_refused (Err (Write sent)) answered = tt
-  is_refused (Err fault) answered = answered
-
-  pub is_untouched : (result : Result A EngineFault) → IsAnswered sink IsText IsDue result
-      → result ≡ Err OutOfMemory → IsUntouched sink
-  is_untouched (Ok answer) answered same = cc
-  is_untouched (Err OutOfMemory) answered same = answered
-  is_untouched (Err fault) answered same = cc
+  -- of a fault before anything is written
+  pub stopped_by_clauses : (fault : EngineFault) (result : Result A EngineFault)
+      → result ≡ Err fault → IsUntouched sink → OrMemory IsDue fault
+      → OnOk result (HasWritten sink IsText) × IfErr result (IsBrokenOff sink IsText)
+      × IfErr result (IsRefused sink IsDue) × (result ≡ Err OutOfMemory → IsUntouched sink)
+  stopped_by_clauses fault result is same due =
+      by_clauses result (rw is (stopped A sink IsText IsDue fault same due))
 
   pub is_answered : (result : Result A EngineFault) → OnOk result (HasWritten sink IsText)
       → IfErr result (IsBrokenOff sink IsText) → IfErr result (IsRefused sink IsDue)
@@ -41,56 +50,23 @@ module _ {S A : Type 0} (sink : Change S) (IsText : List ℕ → Type 0)
   is_answered (Err (Write sent)) written broken refused memory = broken
   is_answered (Err fault) written broken refused memory = refused
 
--- ---- a report with its notes
+-- ---- a report with its notes, and the report alone
 
-module _ {S N : Type 0} (out : Change S) (notes : Change N) (IsQuote : List ℕ → Type 0)
-    (IsRun : RunText → Type 0) (IsDue : EngineFault → Type 0) where
-  pub has_written_run : (result : Result (Unit {0}) EngineFault)
-      → IsAnsweredWithNotes out notes IsQuote IsRun IsDue result
-      → OnOk result (HasWrittenRun out notes IsRun)
-  has_written_run (Ok answer) noted = noted
-  has_written_run (Err fault) noted = tt
-
-  -- of the report alone
-  pub has_reported : (result : Result (Unit {0}) EngineFault) (IsReport : List ℕ → Type 0)
-      → ((run : RunText) → IsRun run → IsReport run.report)
-      → IsAnsweredWithNotes out notes IsQuote IsRun IsDue result
-      → OnOk result (HasWritten out IsReport)
-  has_reported (Ok answer) IsReport reported noted =
-      (noted.0.report, reported noted.0 noted.1, noted.2)
-  has_reported (Err fault) IsReport reported noted = tt
-
-  pub is_run_broken_off : (result : Result (Unit {0}) EngineFault)
-      → IsAnsweredWithNotes out notes IsQuote IsRun IsDue result
-      → IfErr result (IsRunBrokenOff out notes IsQuote IsRun)
-  is_run_broken_off (Ok answer) noted = tt
-  is_run_broken_off (Err (Write sent)) noted = noted
-  is_run_broken_off (Err fault) noted = tt
-
-  pub is_run_refused : (result : Result (Unit {0}) EngineFault)
-      → IsAnsweredWithNotes out notes IsQuote IsRun IsDue result
-      → IfErr result (IsRunRefused out notes IsQuote IsDue)
-  is_run_refused (Ok answer) noted = tt
-  is_run_refused (Err OutOfMemory) noted = tt
-  is_run_refused (Err (Write sent)) noted = tt
-  is_run_refused (Err (Refused refusal)) noted = noted
-  is_run_refused (Err fault) noted = noted
-
-  pub is_run_unwritten : (result : Result (Unit {0}) EngineFault)
-      → IsAnsweredWithNotes out notes IsQuote IsRun IsDue result
-      → result ≡ Err OutOfMemory → IsRunUnwritten out notes IsQuote
-  is_run_unwritten (Ok answer) noted same = cc
-  is_run_unwritten (Err OutOfMemory) noted same = noted
-  is_run_unwritten (Err fault) noted same = cc
-
-  pub is_noted : (result : Result (Unit {0}) EngineFault)
-      → OnOk result (HasWrittenRun out notes IsRun)
-      → IfErr result (IsRunBrokenOff out notes IsQuote IsRun)
-      → IfErr result (IsRunRefused out notes IsQuote IsDue)
-      → (result ≡ Err OutOfMemory → IsRunUnwritten out notes IsQuote)
-      → IsAnsweredWithNotes out notes IsQuote IsRun IsDue result
-  is_noted (Ok answer) told broken refused memory = told
-  is_noted (Err OutOfMemory) told broken refused memory = memory refl
-  is_noted (Err (Write sent)) told broken refused memory = broken
-  is_noted (Err (Refused refusal)) told broken refused memory = refused
-  is_noted (Err fault) told broken refused memory = refused
+pub run_by_clauses : {S N : Type 0} (out : Change S) (notes : Change N) (IsQuote : List ℕ → Type 0)
+    (IsRun : RunText → Type 0) (IsDue : EngineFault → Type 0) (IsReport : List ℕ → Type 0)
+    → ((run : RunText) → IsRun run → IsReport run.report) → (result : Result (Unit {0}) EngineFault)
+    → IsAnsweredWithNotes out notes IsQuote IsRun IsDue result
+    → OnOk result (HasWritten out IsReport) × OnOk result (HasWrittenRun out notes IsRun)
+    × IfErr result (IsRunBrokenOff out notes IsQuote IsRun)
+    × IfErr result (IsRunRefused out notes IsQuote IsDue)
+    × (result ≡ Err OutOfMemory → IsRunUnwritten out notes IsQuote)
+run_by_clauses out notes IsQuote IsRun IsDue IsReport reported (Ok answer) is =
+    ((is.0.report, reported is.0 is.1, is.2), is, tt, tt, λ same. cc)
+run_by_clauses out notes IsQuote IsRun IsDue IsReport reported (Err OutOfMemory) is =
+    (tt, tt, tt, tt, λ same. is)
+run_by_clauses out notes IsQuote IsRun IsDue IsReport reported (Err (Write sent)) is =
+    (tt, tt, is, tt, λ same. cc)
+run_by_clauses out notes IsQuote IsRun IsDue IsReport reported (Err (Refused refusal)) is =
+    (tt, tt, tt, is, λ same. cc)
+run_by_clauses out notes IsQuote IsRun IsDue IsReport reported (Err fault) is =
+    (tt, tt, tt, is, λ same. cc)

@@ -2,18 +2,28 @@
 use Rattle.std.proofs.Common.{◌≡◌, ◌≤◌, ◌<◌, ℕ, List, Some, None, arith, inl, inr, length, refl, ◌∙◌}
 use Rattle.std.specs.Prelude.{◌↔◌}
 use Rattle.star_common.specs.Memory.{UnlessMemory}
-use Rattle.star_schema.specs.Database.{Database}
-use Rattle.star_program.specs.declared.program.Parts.{Parts}
+use Rattle.star_schema.specs.{declared.table.TableId.TableId, Database.Database, Tables.Value}
+use Rattle.star_program.specs.{declared.program.Parts.Parts, Text.Written.written_line, Text.Written.program_text}
+use Rattle.star_partial.specs.Listing.{listing_text, table_line, table_text}
 use Rattle.star_safety.specs.Admissible.{first_refusal, IsAdmissible}
 use Rattle.star_verify.specs.{declared.refusal.Refusal.Refusal, Views.refusal_view}
 use Rattle.star_world.specs.WorldOf.{world_of}
-use Rattle.star_engine.specs.{declared.fault.EngineFault.EngineFault, declared.fault.EngineFault.TheVariants.Refused, Answered.OrMemory, Executions.IsProgramRun, Executions.IsRefusal, Executions.IsRunErrorOver, Executions.quote_over, Faults.fault_of_refusal, Loads.HoldsOfFile}
+use Rattle.star_engine.specs.Executions.{IsProgramRun, IsRefusal, IsRunErrorOver, quote_over}
+use Rattle.star_engine.specs.{declared.fault.EngineFault.EngineFault, declared.fault.EngineFault.TheVariants.Refused, Answered.OrMemory, Faults.fault_of_refusal, Listing.listing_of}
 use Rattle.star_engine.specs.{Loads.IsProgramOf, Notes.counts_line, Notes.quote_line, Private.Steps.IsNotVerified, WithNotes.RunText}
 use Rattle.star_engine.proofs.Trials.{report_some}
 use Rattle.star_safety.specs.Admissible as admissible
 use Rattle.star_verify.specs.declared.refusal.Refusal.TheVariants as why
 
--- ---- notes have bytes
+-- ---- texts have bytes
+
+pub listing_some : (rows : TableId → List (List Value)) → 0 < length (listing_of rows)
+unfolding listing_of listing_text table_text table_line
+listing_some rows = omega arith
+
+pub program_text_some : (p : Parts) → 0 < length (program_text p)
+unfolding program_text written_line
+program_text_some p = omega arith
 
 pub quote_some : (visits : ℕ) → 0 < length (quote_line visits)
 unfolding quote_line
@@ -77,10 +87,8 @@ refused database most program (why.BadShow place) none is =
 
 module _ (visits : ℕ) (database : Database) (file : List ℕ) (program : Parts)
     (spelled : IsProgramOf file program) where
-  of_program : (Holds : Parts → Type 0) → Holds program → HoldsOfFile file Holds
-  of_program Holds holds = record { program = program; of_file = spelled; holds = holds }
-
   pub fault_of_program : (fault : EngineFault) → IsNotVerified database visits program fault
       → IsRunErrorOver visits database file fault
-  fault_of_program (Refused refusal) refused = of_program _ refused
+  fault_of_program (Refused refusal) refused =
+      record { program = program; of_file = spelled; holds = refused }
   fault_of_program _ refused = absurd refused

@@ -10,8 +10,7 @@ pub text_fits : (most : ℕ) (database : Database) (query : List ℕ) (p : Plan)
     → FitsTables most (rows_in database) is.tree ↔ PlanFitsTables most (rows_in database) p
     → FitsRows most database query ↔ PlanFitsTables most (rows_in database) p
 text_fits most database query p is of_tree = (
-  λ fits. of_tree.0
-      (subst (FitsTables most (rows_in database))
+  λ fits. of_tree.0 (subst (FitsTables most (rows_in database))
       (one_meaning query fits.tree is.tree fits.means is.means) fits.fits),
   λ fits. record { tree = is.tree; means = is.means; named = is.named; fits = of_tree.1 fits },
 )

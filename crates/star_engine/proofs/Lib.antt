@@ -1,7 +1,4 @@
-pub mod Answering
 pub mod ByClauses
-mod Reported
-pub mod ListingLemmas
 pub mod FactLemmas
 pub mod SpanLemmas
 pub mod PlainQueries
@@ -14,10 +11,8 @@ pub mod NotedAs
 pub mod Loaded
 pub mod PlansOfQueries
 pub mod FittingTexts
-pub mod QueryRuns
 pub mod QueryFaults
 pub mod QueryAnswers
-pub mod ProgramTexts
 pub mod RunTextLemmas
 pub mod Meanings
 pub mod ThirteenMeant

@@ -1,19 +1,14 @@
 -- Where a report of a query is due, no fault is.
 use Rattle.std.proofs.Common.{◌≡◌, ℕ, List, Some, None, subst}
 use Rattle.star_schema.specs.{Database.Database, Database.TableTexts, Loadable.database_of}
-use Rattle.star_query.specs.{declared.fault.QueryFault.QueryFault, Derives.Means, Tree.Tree}
+use Rattle.star_query.specs.{Derives.Means, Tree.Tree}
 use Rattle.star_query.proofs.Verdicts.{one_meaning}
 use Rattle.star_plan.specs.{declared.fault.PlanFault.PlanFault, Faults.plan_fault, WellNamed.IsWellNamed}
-use Rattle.star_engine.specs.Queries.{IsPlanFault, IsQueryFault, IsQueryRun, IsQueryRunError, IsQueryRunErrorOver, IsQueryRunOver}
+use Rattle.star_engine.specs.Queries.{IsPlanFault, IsQueryRun, IsQueryRunError, IsQueryRunErrorOver, IsQueryRunOver}
 use Rattle.star_engine.specs.{declared.fault.EngineFault.EngineFault, WithNotes.RunText}
 use Rattle.star_query.proofs.FirstFaults as texts
 use Rattle.star_plan.proofs.Conditions as names
 use Rattle.star_engine.specs.declared.fault.EngineFault.TheVariants as engine
-
-no_text_fault : (query : List ℕ) (tree : Tree) (fault : QueryFault) → Means query tree
-    → IsQueryFault query fault → ⊥
-no_text_fault query tree fault means is =
-    texts.no_fault query tree fault is.not_memory means is.first
 
 no_name_fault : (query : List ℕ) (tree : Tree) (fault : PlanFault) → Means query tree
     → IsWellNamed tree → IsPlanFault query fault → ⊥
@@ -29,7 +24,7 @@ pub run_is_answered : (visits : ℕ) (database : Database) (query : List ℕ) (r
 run_is_answered visits database query run (engine.Refused refused) told due =
     due.unfit told.fitting
 run_is_answered visits database query run (engine.Query fault) told due =
-    no_text_fault query told.fitting.tree fault told.fitting.means due
+    texts.no_fault query told.fitting.tree fault due.not_memory told.fitting.means due.first
 run_is_answered visits database query run (engine.Plan fault) told due =
     no_name_fault query told.fitting.tree fault told.fitting.means told.fitting.named due
 run_is_answered visits database query run _ told due = due

@@ -7,8 +7,7 @@ use Rattle.star_engine.specs.WithNotes.{AfterTheReport, BeforeTheReport, InTheRe
 use Rattle.star_engine.specs.{declared.fault.EngineFault.EngineFault, declared.fault.EngineFault.TheVariants.OutOfMemory, declared.fault.EngineFault.TheVariants.Refused, declared.fault.EngineFault.TheVariants.Write, Answered.Change}
 
 broken_as : {S N : Type 0} (out : Change S) (notes : Change N) (Quote OtherQuote : List ℕ → Type 0)
-    (Run OtherRun : RunText → Type 0) (sent : ℕ)
-    → ((note : List ℕ) → Quote note → OtherQuote note)
+    (Run OtherRun : RunText → Type 0) (sent : ℕ) → ((note : List ℕ) → Quote note → OtherQuote note)
     → ((run : RunText) → Run run → OtherRun run)
     → IsBroken out notes Quote Run sent → IsBroken out notes OtherQuote OtherRun sent
 broken_as out notes Quote OtherQuote Run OtherRun sent quote tell broken =
@@ -23,26 +22,19 @@ broken_as out notes Quote OtherQuote Run OtherRun sent quote tell broken =
 pub noted_as : {S N : Type 0} (out : Change S) (notes : Change N)
     (Quote OtherQuote : List ℕ → Type 0) (Run OtherRun : RunText → Type 0)
     (Due OtherDue : EngineFault → Type 0) (result : Result (Unit {0}) EngineFault)
-    → ((note : List ℕ) → Quote note → OtherQuote note)
-    → ((run : RunText) → Run run → OtherRun run)
+    → ((note : List ℕ) → Quote note → OtherQuote note) → ((run : RunText) → Run run → OtherRun run)
     → ((fault : EngineFault) → Due fault → OtherDue fault)
     → IsAnsweredWithNotes out notes Quote Run Due result
     → IsAnsweredWithNotes out notes OtherQuote OtherRun OtherDue result
 noted_as out notes Quote OtherQuote Run OtherRun Due OtherDue (Ok answer) quote tell due noted =
     (noted.0, tell noted.0 noted.1, noted.2, noted.3)
 noted_as out notes Quote OtherQuote Run OtherRun Due OtherDue (Err OutOfMemory) quote tell due
-    noted = (
-      noted.0,
-      elim noted.1 [ inl same ↦ inl same | inr q ↦ inr (q.0, quote q.0 q.1, q.2) ],
-    )
+    noted = (noted.0, elim noted.1 [ inl same ↦ inl same | inr q ↦ inr (q.0, quote q.0 q.1, q.2) ])
 noted_as out notes Quote OtherQuote Run OtherRun Due OtherDue (Err (Write sent)) quote tell due
     noted =
     broken_as out notes Quote OtherQuote Run OtherRun sent quote tell noted
 noted_as out notes Quote OtherQuote Run OtherRun Due OtherDue (Err (Refused refusal)) quote tell
-    due noted = (
-      due (Refused refusal) noted.0,
-      noted.1,
-      (noted.2.0, quote noted.2.0 noted.2.1, noted.2.2),
-    )
+    due noted =
+    (due (Refused refusal) noted.0, noted.1, (noted.2.0, quote noted.2.0 noted.2.1, noted.2.2))
 noted_as out notes Quote OtherQuote Run OtherRun Due OtherDue (Err fault) quote tell due noted =
     (due _ noted.0, noted.1, noted.2)

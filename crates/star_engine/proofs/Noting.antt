@@ -66,8 +66,7 @@ gained_part contents is_failed old mid new first second noted h k = record {
 pub delivered : {S N : Type 0} (out : Change S) (contents : N → Option (List ℕ))
     (is_failed : N → Bool) (old mid new : N) (IsQuote : List ℕ → Type 0) (IsRun : RunText → Type 0)
     (IsDue : EngineFault → Type 0) (run : RunText) (result : Result (Unit {0}) EngineFault)
-    → IsQuote run.quoted → IsRun run
-    → HasGained (change contents is_failed old mid) run.quoted
+    → IsQuote run.quoted → IsRun run → HasGained (change contents is_failed old mid) run.quoted
     → AreBothWritten out (change contents is_failed mid new) run.report run.done result
     → IsAnsweredWithNotes out (change contents is_failed old new) IsQuote IsRun IsDue result
 delivered out contents is_failed old mid new IsQuote IsRun IsDue run (Ok answer) quote told

@@ -1,15 +1,15 @@
 -- A file's report over some tables is one, and where it is due, no fault is.
 use Rattle.std.proofs.Common.{◌≡◌, ◌∙◌, ℕ, List, subst, sym}
 use Rattle.star_schema.specs.{Loadable.database_of, Database.Database, Database.TableTexts}
-use Rattle.star_program.specs.{declared.outcome.Outcome.Outcome, declared.program.Parts.Parts, Outcome.IsOutcome, Run.End, Run.bounded_run_of, World.World, Text.FirstFaults.FirstTextFault, declared.spelling.fault.TextFault.TextFault}
+use Rattle.star_program.specs.{declared.outcome.Outcome.Outcome, declared.program.Parts.Parts, Outcome.IsOutcome, Run.End, Run.bounded_run_of, World.World}
 use Rattle.star_program.proofs.{Text.OneProgram.one_program, Text.Faultless.never_both}
 use Rattle.star_report.specs.Report.{report_text}
 use Rattle.star_report.proofs.OneOrder.{one_outcome}
 use Rattle.star_outcome.specs.Yields.{Yields}
 use Rattle.star_world.specs.WorldOf.{world_of}
-use Rattle.star_verify.specs.declared.refusal.Refusal.{Refusal}
-use Rattle.star_engine.specs.Executions.{IsAcceptedWithin, IsRefusal, IsRunError, IsRunErrorOver, IsRunOf, IsRunOver}
-use Rattle.star_engine.specs.{declared.fault.EngineFault.EngineFault, declared.fault.EngineFault.TheVariants.Load, declared.fault.EngineFault.TheVariants.Program, declared.fault.EngineFault.TheVariants.Refused, Loads.IsProgramOf, WithNotes.RunText, Trials.IsBoundedReport}
+use Rattle.star_engine.specs.Executions.{IsAcceptedWithin, IsFileReport, IsRunError, IsRunErrorOver, IsRunOf, IsRunOver}
+use Rattle.star_engine.specs.declared.fault.EngineFault.TheVariants.{Load, Program, Refused}
+use Rattle.star_engine.specs.{declared.fault.EngineFault.EngineFault, WithNotes.RunText, Trials.IsBoundedReport}
 
 -- a run that comes to its end has one outcome
 yields_one : (w : World) (parts : Parts) (end : End) (a b : Outcome) → Yields w parts end a
@@ -29,30 +29,33 @@ report_is_one database file visits report other h k =
     yields k.yields in
     h.printed ∙ (λ i. report_text (outcome i).names (outcome i).rows) ∙ sym k.printed
 
+-- the report alone of what is printed
+pub file_report : (rows visits : ℕ) (texts : TableTexts) (file : List ℕ) (run : RunText)
+    → IsRunOf rows visits texts file run → IsFileReport rows texts file run.report
+file_report rows visits texts file run of_texts = let told = of_texts.holds in record {
+  loadable = of_texts.loadable;
+  holds = record {
+    program = told.program;
+    of_file = told.of_file;
+    holds = record {
+      outcome = told.holds.outcome;
+      yields = told.holds.yields;
+      printed = told.holds.reported;
+    };
+  };
+}
+
 -- ---- what is printed is not refused
-
--- a text that spells a program has no fault
-no_fault : (file : List ℕ) (program : Parts) (fault : TextFault) → IsProgramOf file program
-    → FirstTextFault file fault → ⊥
-no_fault file program fault of_file first =
-    never_both file fault program first of_file.spelled of_file.limits
-
-accepted_is_not_refused : (database : Database) (most : ℕ) (file : List ℕ) (told refused : Parts)
-    (refusal : Refusal) → IsProgramOf file told → IsProgramOf file refused
-    → IsAcceptedWithin database most told → IsRefusal database most refused refusal → ⊥
-accepted_is_not_refused database most file told refused refusal h k accepted is =
-    is.not_accepted
-    (subst (IsAcceptedWithin database most) (one_program file told refused h.spelled k.spelled)
-    accepted)
 
 pub run_is_no_error : (visits : ℕ) (database : Database) (file : List ℕ)
     (run : RunText) (fault : EngineFault) → IsRunOver visits database file run
     → IsRunErrorOver visits database file fault → ⊥
 run_is_no_error visits database file run (Program fault) told due =
-    no_fault file told.program fault told.of_file due
+    never_both file fault told.program due told.of_file.spelled told.of_file.limits
 run_is_no_error visits database file run (Refused refusal) told due =
-    accepted_is_not_refused database visits file told.program due.program refusal told.of_file
-    due.of_file told.holds.accepted due.holds
+    due.holds.not_accepted (subst (IsAcceptedWithin database visits)
+    (one_program file told.program due.program told.of_file.spelled due.of_file.spelled)
+    told.holds.accepted)
 run_is_no_error visits database file run _ told due = due
 
 -- over texts

@@ -1,6 +1,6 @@
 -- One more piece of a file of a table.
-use Rattle.std.proofs.Common.{◌≡◌, ◌+◌, ◌<◌, ◌≤◌, ◌∙◌, ℕ, List, [], ◌++◌, Option, Some, None, length, refl, sym, ap, arith, append_assoc}
-use Rattle.std.proofs.{lemmas.List.append-nil, lemmas.List.length-append}
+use Rattle.std.proofs.Common.{◌≡◌, ◌+◌, ◌<◌, ◌≤◌, ◌∙◌, ℕ, List, [], ◌++◌, Option, length, refl, arith, append_assoc}
+use Rattle.std.proofs.{lemmas.Grind.common_steps, lemmas.List.append-nil, lemmas.List.length-append}
 use Rattle.std.specs.{Prelude.◌-◌, Prelude.◌^◌, Prelude.min, Io.KnownBytes.Consumes}
 use Rattle.star_reader.specs.Partway.{Reading}
 use Rattle.star_engine.specs.Reading.{ReadingGoesOn, came_of, has_failed, reader_of, reads_of}
@@ -9,15 +9,10 @@ use Rattle.star_engine.specs.{declared.input.Input.Input, Private.PieceSteps.Has
 -- known bytes that are consumed one after another
 consumed_on : (a b c : Option (List ℕ)) (x y : List ℕ) → Consumes a b x → Consumes b c y
     → Consumes a c (x ++ y)
-consumed_on None b c x y first next = tt
-consumed_on (Some a) None c x y first next = absurd first
-consumed_on (Some a) (Some b) None x y first next = absurd next
-consumed_on (Some a) (Some b) (Some c) x y first next =
-    first ∙ ap (λ (bytes : List ℕ). x ++ bytes) next ∙ sym (append_assoc x y c)
+consumed_on it b c x y first next = grind (arith, common_steps)
 
 none_consumed : (a : Option (List ℕ)) → Consumes a a []
-none_consumed None = tt
-none_consumed (Some a) = refl
+none_consumed it = grind arith
 
 -- nothing comes after a text
 gone_none : (reader : Reading) → ReadingGoesOn reader reader []
@@ -69,8 +64,7 @@ pub whole : {R : Type 0} (remaining : R → Option (List ℕ)) (first old new : 
     (before mid after : Reading) (reads taken limit : ℕ) (piece : List ℕ)
     → HasFed remaining first old before mid reads taken → length piece ≡ 0
     → Consumes (remaining (reader_of old)) (remaining (reader_of new)) piece
-    → ReadingGoesOn mid after piece → taken ≤ limit
-    → (came : List ℕ) × (length came ≤ limit)
+    → ReadingGoesOn mid after piece → taken ≤ limit → (came : List ℕ) × (length came ≤ limit)
     × Consumes (remaining (reader_of first)) (remaining (reader_of new)) came
     × ReadingGoesOn before after came
 whole remaining first old new before mid after reads taken limit piece h size gone on within = (

@@ -12,14 +12,10 @@ or_memory IsDue IsAlso (engine.Write sent) each due = absurd due
 or_memory IsDue IsAlso fault each due = each fault due
 
 -- and where none is, memory was refused
-only_memory : (IsDue : EngineFault → Type 0) (fault : EngineFault)
-    → ((fault : EngineFault) → ¬ IsDue fault) → OrMemory IsDue fault → IsMemory fault
-only_memory IsDue engine.OutOfMemory never due = tt
-only_memory IsDue (engine.Write sent) never due = absurd due
-only_memory IsDue fault never due = absurd (never fault due)
-
 pub matched_or_memory : {A : Type 0} (Is : A → Type 0) (IsDue : EngineFault → Type 0)
     (result : Result A EngineFault) → ((fault : EngineFault) → ¬ IsDue fault)
     → MatchResult result Is (OrMemory IsDue) → MatchResult result Is IsMemory
 matched_or_memory Is IsDue (Ok value) never is = is
-matched_or_memory Is IsDue (Err fault) never is = only_memory IsDue fault never is
+matched_or_memory Is IsDue (Err engine.OutOfMemory) never is = tt
+matched_or_memory Is IsDue (Err (engine.Write sent)) never is = absurd is
+matched_or_memory Is IsDue (Err fault) never is = absurd (never fault is)

@@ -1,5 +1,5 @@
 -- What is printed of a file, by what is printed of its program.
-use Rattle.std.proofs.Common.{◌∙◌, ℕ, Bool, true, false, List, ap, refl, subst}
+use Rattle.std.proofs.Common.{◌∙◌, ℕ, Bool, true, false, List, ap, subst}
 use Rattle.std.specs.Prelude.{MatchResult, Result, Ok, Err}
 use Rattle.star_schema.specs.{Database.Database, Database.TableTexts, Loadable.IsLoadable, Loadable.database_of}
 use Rattle.star_verify.specs.declared.refusal.Refusal.{Refusal}
@@ -7,9 +7,9 @@ use Rattle.star_plan.specs.Meaning.{Plan}
 use Rattle.star_compile_laws.specs.Compiled.{compiled}
 use Rattle.star_program.specs.declared.program.Parts.{Parts}
 use Rattle.star_engine.specs.RunTexts.{IsForecastErrorOfKind, IsForecastOfKind, IsProgramForecast, IsRunOfKind, most_rows_over}
+use Rattle.star_engine.specs.{Private.TextSteps.IsQuoteOfTexts, Private.TextSteps.IsRunErrorOfTexts, Private.TextSteps.IsRunOfTexts}
 use Rattle.star_engine.specs.{declared.fault.EngineFault.EngineFault, declared.fault.EngineFault.TheVariants.Load, declared.fault.EngineFault.TheVariants.Refused, Answered.Change, Answered.OrMemory, Executions.IsProgramRun, Executions.IsQuote, Executions.quote_over, Loads.IsLoadError}
 use Rattle.star_engine.specs.{WithNotes.IsAnsweredWithNotes, WithNotes.RunText, Notes.forecast_line, Notes.quote_line, Queries.IsPlanOf, Questions.IsProgramOfKind, QuoteTexts.IsErrorOfKind, QuoteTexts.IsQuoteOfKindOver, QuoteTexts.IsQuoteErrorOfKind, Private.QuerySteps.HasProgramLaws, Private.Steps.IsNotVerified}
-use Rattle.star_engine.specs.{Private.TextSteps.IsQuoteOfTexts, Private.TextSteps.IsRunErrorOfTexts, Private.TextSteps.IsRunOfTexts}
 use Rattle.star_engine.proofs.{Executing.fault_of_program, Loaded.noted_over, NotedAs.noted_as, QueryAnswers.fault_told, QueryAnswers.report_written, QueryFaults.or_memory}
 use Rattle.star_engine.specs.declared.fault.EngineFault.TheVariants as engine
 
@@ -37,11 +37,7 @@ module _ (most : ℕ) (database : Database) (file : List ℕ) (program : Parts)
     (laws : (p : Plan) → IsPlanOf file p → HasProgramLaws most database file p) where
   pub quoted : (is_program : Bool) → IsProgramOfKind is_program file program → (text : List ℕ)
       → IsQuote database program text → IsQuoteOfKindOver is_program database file text
-  quoted true of_kind text is = record {
-    program = program;
-    of_file = of_kind;
-    holds = is;
-  }
+  quoted true of_kind text is = record { program = program; of_file = of_kind; holds = is }
   quoted false of_kind text is = record {
     is_query = (of_kind.p, of_kind.meant);
     quoted = is ∙ ap quote_line
@@ -51,11 +47,7 @@ module _ (most : ℕ) (database : Database) (file : List ℕ) (program : Parts)
   pub judged : (is_program : Bool) → IsProgramOfKind is_program file program → (text : List ℕ)
       → IsProgramForecast database most program text
       → IsForecastOfKind is_program most database file text
-  judged true of_kind text is = record {
-    program = program;
-    of_file = of_kind;
-    holds = is;
-  }
+  judged true of_kind text is = record { program = program; of_file = of_kind; holds = is }
   judged false of_kind text is =
       let law = laws of_kind.p of_kind.meant in
       let made = subst (λ m. IsProgramForecast database most m text) of_kind.made is in record {
@@ -68,13 +60,8 @@ module _ (most : ℕ) (database : Database) (file : List ℕ) (program : Parts)
       }
 
   pub ran : (is_program : Bool) → IsProgramOfKind is_program file program → (run : RunText)
-      → IsProgramRun database most program run
-      → IsRunOfKind is_program most database file run
-  ran true of_kind run is = record {
-    program = program;
-    of_file = of_kind;
-    holds = is;
-  }
+      → IsProgramRun database most program run → IsRunOfKind is_program most database file run
+  ran true of_kind run is = record { program = program; of_file = of_kind; holds = is }
   ran false of_kind run is =
       report_written most database file of_kind.p of_kind.meant (laws of_kind.p of_kind.meant) run
       (subst (λ made. IsProgramRun database most made run) of_kind.made is)
@@ -92,8 +79,7 @@ module _ (most : ℕ) (database : Database) (file : List ℕ) (program : Parts)
       (result : Result (Unit {0}) EngineFault) (is_program : Bool)
       → IsProgramOfKind is_program file program
       → IsAnsweredWithNotes out notes (IsQuote database program)
-      (IsProgramRun database most program)
-      (IsNotVerified database most program) result
+      (IsProgramRun database most program) (IsNotVerified database most program) result
       → IsAnsweredWithNotes out notes (IsQuoteOfKindOver is_program database file)
       (IsRunOfKind is_program most database file)
       (IsForecastErrorOfKind is_program most database file)
@@ -141,7 +127,7 @@ pub noted_of_texts : (is_program : Bool) (rows visits : ℕ) (texts : TableTexts
     (IsRunOfTexts is_program rows visits texts file)
     (IsRunErrorOfTexts is_program rows visits texts file) result
 noted_of_texts is_program rows visits texts file out notes result loadable is =
-    noted_over rows texts (database_of texts) loadable refl out notes
+    noted_over rows texts loadable out notes
     (λ database. IsQuoteOfKindOver is_program database file)
     (λ database. IsRunOfKind is_program visits database file)
     (λ database. IsForecastErrorOfKind is_program visits database file)

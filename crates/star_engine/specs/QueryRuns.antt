@@ -16,7 +16,6 @@ PrintsTheReport database query p s =
     → IsReport database query (report_text outcome.names outcome.rows)
 
 -- and at most as many rows were visited as lineorder has
-pub record HasReported (database : Database) (query : List ℕ) (p : Plan)
-    (s : State) : Type 0 where
+pub record HasReported (database : Database) (query : List ℕ) (p : Plan) (s : State) : Type 0 where
   pub visits : s.visits ≤ fact_rows database
   pub printed : PrintsTheReport database query p s

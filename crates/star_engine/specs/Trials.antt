@@ -29,8 +29,7 @@ IsStop end fault = IsFaultOfEnd end fault
 -- why there is no report: the file is read first
 abbrev pub IsTrialErrorOver : Database → (file : List ℕ) → (visits : ℕ) → EngineFault → Type 0
 IsTrialErrorOver database file visits (Trial fault) =
-    HoldsOfFile file
-    (λ program. IsStop (bounded_run_of (world_of database) visits program) fault)
+    HoldsOfFile file (λ program. IsStop (bounded_run_of (world_of database) visits program) fault)
 IsTrialErrorOver database file visits fault = IsProgramError file fault
 
 -- ---- over five texts

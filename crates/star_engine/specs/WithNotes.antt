@@ -24,8 +24,7 @@ pub data IsBroken {S N : Type 0} (out : Change S) (notes : Change N) (IsQuote : 
   InTheReport : (run : RunText) → IsRun run → HasGained notes run.quoted
       → HasGainedPart out run.report sent → IsBroken out notes IsQuote IsRun sent
   -- the write of the last note
-  AfterTheReport : (run : RunText) → IsRun run → (noted : ℕ)
-      → length run.quoted ≤ noted
+  AfterTheReport : (run : RunText) → IsRun run → (noted : ℕ) → length run.quoted ≤ noted
       → HasGainedPart notes (run.quoted ++ run.done) noted → HasGained out run.report
       → sent ≡ length run.report → IsBroken out notes IsQuote IsRun sent
 

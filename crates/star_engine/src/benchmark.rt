@@ -87,10 +87,8 @@ fn section_of(
     let mut text = named_quote(alloc, catalogue, query, &question)?;
     let found = find(alloc, catalogue, question, limits)?;
     text.extend_from_slice(found.text.as_slice())?;
-    Ok(Finding {
-        text,
-        fits: found.fits,
-    })
+    let fits = found.fits;
+    Ok(Finding { text, fits })
 }
 
 // Returns the text of the thirteen queries over loaded tables, and whether all of them fit.

@@ -92,14 +92,8 @@ pub fn answer_query<S: Sink, N: Sink>(
         (change N.contents N.is_failed notes.old notes.new)
         (IsQueryQuote limits.rows (texts_view texts.now) query.now) }
 {
-    answer(
-        alloc,
-        texts,
-        Question::query(alloc, query),
-        limits,
-        out,
-        notes,
-    )
+    let question = Question::query(alloc, query);
+    answer(alloc, texts, question, limits, out, notes)
 }
 
 /// Verifies and runs the program in a file over the tables, and writes its report to `out`.
@@ -134,14 +128,8 @@ pub fn answer_program<S: Sink, N: Sink>(
         (change N.contents N.is_failed notes.old notes.new)
         (IsQuoteOf limits.rows (texts_view texts.now) file.now) }
 {
-    answer(
-        alloc,
-        texts,
-        Question::program(alloc, file),
-        limits,
-        out,
-        notes,
-    )
+    let question = Question::program(alloc, file);
+    answer(alloc, texts, question, limits, out, notes)
 }
 
 /// Writes the quote of a file over the tables to `out`. A file that begins with `star program ` is

@@ -12,17 +12,16 @@ use crate::executions::{
     RunOutput, checked, execute, forecast, report_of, run_checked, write_text,
 };
 use crate::fault::EngineFault;
-use crate::listing::list_tables;
 use crate::notes::program_note;
 use crate::partials::partial_of;
 use crate::query_laws::each_query_has_laws;
 use crate::question::Question;
 use star_catalogue::{Catalogue, ReadTables, Texts};
 use star_common::Sink;
-use star_partial::Partial;
+use star_partial::{Partial, list_tables};
 use star_reader::TableReader;
 use star_schema::Limits;
-use star_verify::Verified;
+use star_verify::{Facts, Verified};
 use std::alloc::Global;
 use std::marker::Model;
 
@@ -100,11 +99,8 @@ impl Engine {
         ensures refused { (texts : TableTexts) → AreRead read limits.rows texts
             → IfErr result (OrMemory (IsLoadError limits.rows texts)) }
     {
-        let loaded = load_read(alloc, read)?;
-        Ok(Engine {
-            catalogue: loaded,
-            limits,
-        })
+        let catalogue = load_read(alloc, read)?;
+        Ok(Engine { catalogue, limits })
     }
 
     /// Returns an engine over the same dimensions and the lineorder that a reader was given in
@@ -149,7 +145,8 @@ impl Engine {
         ensures { IsAnswered (change S.contents S.is_failed out.old out.new)
             (IsListingOver self.now.database) (λ fault. ⊥) result }
     {
-        let text = list_tables(alloc, &self.catalogue)?;
+        let facts = Facts::of(&self.catalogue);
+        let text = list_tables(alloc, facts.sizes, &facts.bounds)?;
         write_text(out, text.as_bytes())
     }
 
@@ -174,14 +171,8 @@ impl Engine {
             (IsForecastErrorOfKind is_program self.now.visits self.now.database file) result }
     {
         each_query_has_laws(&self.catalogue);
-        execute(
-            alloc,
-            &self.catalogue,
-            question.program,
-            self.limits,
-            out,
-            notes,
-        )
+        let program = question.program;
+        execute(alloc, &self.catalogue, program, self.limits, out, notes)
     }
 
     /// Returns the report and the notes that `answer` writes.

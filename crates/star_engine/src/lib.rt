@@ -9,7 +9,6 @@ mod executions;
 mod fault;
 mod input;
 pub mod law;
-mod listing;
 mod notes;
 mod partials;
 mod parts;

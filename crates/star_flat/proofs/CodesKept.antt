@@ -1,10 +1,8 @@
 -- The codes of texts that were put in order.
 use Rattle.std.proofs.Common.{◌≡◌, ℕ, ◌+◌, ◌-◌, ◌<◌, ◌≤◌, false, List, [], ◌∷◌, ◌++◌, Some, length, get_or, set, take, refl, sym, ap, ◌∙◌, inl, inr, ⊎_elim, arith, subst, true≢false}
-use Rattle.std.proofs.lemmas.List.{ext_get_or, get_or-map, get_or_default, get_or-set_same, get_or-set_other, get_or-take, length-map, length-take}
-use Rattle.std.proofs.{lemmas.Bool.cases_Bool, lemmas.Bool.cases_eq, lemmas.Bool.cases_lt, lemmas.Cmp.nat_list_cmp_total, lemmas.Cmp.tied_itself, lemmas.List.Elements.All-get_or, lemmas.List.Elements.All-more, lemmas.List.Elements.Contains-get_or, lemmas.List.Kept.Contains-from_dedup}
-use Rattle.std.proofs.{lemmas.List.Kept.IsStrictlySortedBy-dedup, lemmas.Map.Keys.Less-from_sorted, lemmas.Map.Lookups.exact_bytes, lemmas.Option.get_or_from_slice_get, lemmas.Option.slice_get-get_or, lemmas.Option.slice_get-map, lemmas.Option.slice_get_within}
-use Rattle.std.specs.{Cmp.Lexicographic.bytes_decides, List.Contains, List.slice_get, List.Sorted.IsStrictlySortedBy, Option.option_map, Ordering.eq_by_cmp, Ordering.is_eq, declared.cmp.Ordering.Ordering, declared.cmp.Ordering.TheVariants.Less}
-use Rattle.std.specs.{declared.cmp.Ordering.TheVariants.Equal, declared.cmp.Ordering.TheVariants.Greater}
+use Rattle.std.proofs.{lemmas.List.ext_get_or, lemmas.List.get_or-map, lemmas.List.get_or_default, lemmas.List.get_or-set_same, lemmas.List.get_or-set_other, lemmas.List.get_or-take, lemmas.List.length-map, lemmas.List.length-take, lemmas.Bool.cases_Bool, lemmas.Bool.cases_eq, lemmas.Bool.cases_lt, lemmas.Cmp.nat_list_cmp_total, lemmas.Cmp.tied_itself, lemmas.List.Elements.All-get_or, lemmas.List.Elements.All-more, lemmas.List.Elements.Contains-get_or, lemmas.List.Kept.Contains-from_dedup, lemmas.List.Kept.IsStrictlySortedBy-dedup, lemmas.Map.Keys.Less-from_sorted}
+use Rattle.std.proofs.{lemmas.Map.Lookups.exact_bytes, lemmas.Option.get_or_from_slice_get, lemmas.Option.slice_get-get_or, lemmas.Option.slice_get-map, lemmas.Option.slice_get_within}
+use Rattle.std.specs.{Cmp.Lexicographic.bytes_decides, List.Contains, List.slice_get, List.Sorted.IsStrictlySortedBy, Option.option_map, Ordering.eq_by_cmp, Ordering.is_eq, declared.cmp.Ordering.Ordering, declared.cmp.Ordering.TheVariants.Less, declared.cmp.Ordering.TheVariants.Equal, declared.cmp.Ordering.TheVariants.Greater}
 use Rattle.star_flat.specs.{Repeated.AreRepeated, Repeated.texts_at_places, declared.ordered.Numbered.Numbered, Private.Codes.LeadTo, Private.Codes.different, Private.Codes.same_text, Private.Order.AreInTextOrder, Private.Order.numbered_texts, Private.Order.text_at, Private.Order.text_cmp}
 use Rattle.star_flat.proofs.{Different.different_again, Different.different_new, Different.stands_last, Enumerated.nothing, InOrder.number_of}
 
@@ -44,8 +42,7 @@ not_before ts sorted m n t at_m at_n before =
 
 one_place : (ts : List (List ℕ)) → IsStrictlySortedBy text_cmp ts → (m n : ℕ) (t : List ℕ)
     → slice_get ts m ≡ Some t → slice_get ts n ≡ Some t → m ≡ n
-one_place ts sorted m n t at_m at_n =
-    ⊎_elim {C = m ≡ n}
+one_place ts sorted m n t at_m at_n = ⊎_elim {C = m ≡ n}
     (λ before. absurd (not_before ts sorted m n t at_m at_n before))
     (λ from. ⊎_elim {C = m ≡ n}
     (λ after. absurd (not_before ts sorted n m t at_n at_m after))
@@ -140,8 +137,7 @@ module _ (texts : List (List ℕ)) (ordered : List Numbered)
     text_known = slice_get-get_or texts here.number [] number_within
 
     pub put_again : (put : List (List ℕ))
-        → put ≡ different (take place (numbered_texts texts ordered))
-        → 0 < place
+        → put ≡ different (take place (numbered_texts texts ordered)) → 0 < place
         → slice_get (numbered_texts texts ordered) (place - 1)
         ≡ slice_get (numbered_texts texts ordered) place
         → put ≡ different (take (place + 1) (numbered_texts texts ordered))
@@ -158,8 +154,7 @@ module _ (texts : List (List ℕ)) (ordered : List Numbered)
         → ⊥)
         → new ≡ old ++ text_at texts here ∷ []
         → new ≡ different (take (place + 1) (numbered_texts texts ordered))
-    put_new old new is other pushed =
-        pushed ∙ (λ i. is i ++ text_at texts here ∷ [])
+    put_new old new is other pushed = pushed ∙ (λ i. is i ++ text_at texts here ∷ [])
         ∙ sym (different_new (numbered_texts texts ordered) place (text_at texts here) text_here
         other)
 
@@ -170,8 +165,7 @@ module _ (texts : List (List ℕ)) (ordered : List Numbered)
         stands_last (numbered_texts texts ordered) place (text_at texts here) text_here put is
 
     pub some_put : (put : List (List ℕ))
-        → put ≡ different (take (place + 1) (numbered_texts texts ordered))
-        → 0 < length put
+        → put ≡ different (take (place + 1) (numbered_texts texts ordered)) → 0 < length put
     some_put put is =
         let last = slice_get_within put (length put - 1) (text_at texts here)
         (code_here put is ∙ text_here) in
@@ -187,14 +181,12 @@ module _ (texts : List (List ℕ)) (ordered : List Numbered)
 
       pub lead_more : LeadTo old codes texts (take place ordered)
           → LeadTo new (set codes here.number code) texts (take (place + 1) ordered)
-      lead_more lead =
-          All-more
+      lead_more lead = All-more
           (λ (e : Numbered). slice_get new (get_or (set codes here.number code) e.number 0)
           ≡ slice_get texts e.number) ordered place nothing within earlier
           (ap (slice_get new) (get_or-set_same codes here.number code 0 room) ∙ stands)
         where
-          earlier : (k : ℕ) (d : Numbered) → k < length (take place ordered)
-              → slice_get new
+          earlier : (k : ℕ) (d : Numbered) → k < length (take place ordered) → slice_get new
               (get_or (set codes here.number code) (get_or (take place ordered) k d).number 0)
               ≡ slice_get texts (get_or (take place ordered) k d).number
           earlier k d h =

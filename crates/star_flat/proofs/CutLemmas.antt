@@ -52,9 +52,7 @@ upto_all es all end c more k d h =
 -- one more text
 same_range : (b t : List ℕ) (i j : ℕ) → i ≤ j → j ≤ length b
     → slice_range (b ++ t) i j ≡ slice_range b i j
-same_range b t i j l h =
-    let few : j - i ≤ length (drop i b) = simp length-drop (omega arith) in
-    ap (take (j - i)) (drop-append-le i b t (omega arith)) ∙ take-append-le (j - i) (drop i b) t few
+same_range b t i j l h = grind (arith, length-drop, drop-append-le, take-append-le)
 
 last_range : (b t : List ℕ) (s : ℕ) → s ≡ length b
     → slice_range (b ++ t) s (length b + length t) ≡ t

@@ -20,10 +20,7 @@ itself : (t u : List ℕ) → t ≡ u → same_text t u ≡ true
 itself t u h = (bytes_decides t u).1 h
 
 apart : (t u : List ℕ) → (t ≢ u) → same_text t u ≡ false
-apart t u differ = elim (cases_Bool (same_text t u)) [
-  | inl equal ↦ absurd (differ (same t u equal))
-  | inr other ↦ other
-]
+apart t u differ = grind (arith, cases_Bool, same)
 
 -- ---- one more text, behind some others
 again_behind : (t : List ℕ) (ts : List (List ℕ)) (u : List ℕ) → u ≡ last t ts
@@ -88,12 +85,10 @@ put_again (t ∷ ts) u n len is =
     let place : length ts ≡ n = omega (arith, len) in
     again_behind t ts u (sym is ∙ ap (λ k. get_or (t ∷ ts) k []) (sym place) ∙ get_last t ts [])
 
-put_new : (xs : List (List ℕ)) (u : List ℕ)
-    → ((n : ℕ) → length xs ≡ n + 1 → get_or xs n [] ≢ u)
+put_new : (xs : List (List ℕ)) (u : List ℕ) → ((n : ℕ) → length xs ≡ n + 1 → get_or xs n [] ≢ u)
     → different (xs ++ u ∷ []) ≡ different xs ++ u ∷ []
 put_new [] u differ = refl
-put_new (t ∷ ts) u differ =
-    new_behind t ts u
+put_new (t ∷ ts) u differ = new_behind t ts u
     (λ is. differ (length ts) (omega arith) (get_last t ts [] ∙ sym is))
 
 -- ---- the text at a place of a list, behind those before it
@@ -112,13 +107,7 @@ module _ (texts : List (List ℕ)) (place : ℕ) (text : List ℕ)
   -- the text at the place before
   before : (n : ℕ) → length (take place texts) ≡ n + 1
       → (n < length texts) × (place - 1 ≡ n) × (get_or (take place texts) n [] ≡ get_or texts n [])
-  before n len =
-      let all = within in
-      let is = count in (
-        omega (arith, len, is, all),
-        omega (arith, len, is),
-        get_or-take place texts n [] (omega (arith, len, is)),
-      )
+  before n len = grind (arith, within, count, get_or-take)
 
   -- a text that the one before equals is not put
   pub different_again : 0 < place → slice_get texts (place - 1) ≡ slice_get texts place
@@ -134,8 +123,7 @@ module _ (texts : List (List ℕ)) (place : ℕ) (text : List ℕ)
   -- and another is put
   pub different_new : ((0 < place) × (slice_get texts (place - 1) ≡ slice_get texts place) → ⊥)
       → different (take (place + 1) texts) ≡ different (take place texts) ++ text ∷ []
-  different_new new =
-      ap different one_more
+  different_new new = ap different one_more
       ∙ put_new (take place texts) text (λ n len is.
       let earlier = before n len in
       let counted = count in

@@ -1,16 +1,13 @@
 -- Ends of texts by the starts of their blocks.
 use Rattle.std.proofs.Common.{◌≡◌, ℕ, ◌+◌, ◌/◌, ◌-◌, ◌^◌, ◌<◌, ◌≤◌, ◌⊎◌, List, [], ◌∷◌, ◌++◌, Some, length, get_or, sym, ap, ◌∙◌, refl, ⊎_elim, arith, zero-add}
-use Rattle.std.proofs.lemmas.List.{ext_get_or, get_or-map, get_or_append_left, length-map, length_push}
-use Rattle.std.proofs.{lemmas.Bool.cases_lt, lemmas.List.FromFn.get_or-range_with_len, lemmas.List.FromFn.length-range_with_len, lemmas.Option.get_or_from_slice_get, lemmas.Option.slice_get-get_or, lemmas.Option.slice_get_within}
+use Rattle.std.proofs.{lemmas.List.ext_get_or, lemmas.List.get_or-map, lemmas.List.get_or_append_left, lemmas.List.length-map, lemmas.List.length_push, lemmas.Bool.cases_lt, lemmas.List.FromFn.get_or-range_with_len, lemmas.List.FromFn.length-range_with_len, lemmas.Option.get_or_from_slice_get, lemmas.Option.slice_get-get_or, lemmas.Option.slice_get_within}
 use Rattle.std.specs.List.{All, range_with_len, slice_get}
 use Rattle.star_flat.specs.Private.Ends.{end_of, ends_of}
 use Rattle.star_flat.proofs.Pushed.{pushed_here}
 
 pub length-ends_of : (starts offsets : List ℕ) → length (ends_of starts offsets) ≡ length offsets
 unfolding ends_of
-length-ends_of starts offsets =
-    length-map (range_with_len 0 (length offsets)) (end_of starts offsets)
-    ∙ length-range_with_len 0 (length offsets)
+length-ends_of starts offsets = grind (arith, length-map, length-range_with_len)
 
 pub end_there : (starts offsets : List ℕ) (place d : ℕ) → place < length offsets
     → get_or (ends_of starts offsets) place d ≡ end_of starts offsets place
@@ -23,8 +20,7 @@ end_there starts offsets place d h =
 
 pub end_got : (starts offsets : List ℕ) (place : ℕ) → place < length offsets
     → slice_get (ends_of starts offsets) place ≡ Some (end_of starts offsets place)
-end_got starts offsets place h =
-    slice_get-get_or (ends_of starts offsets) place 0
+end_got starts offsets place h = slice_get-get_or (ends_of starts offsets) place 0
     (omega (arith, h, length-ends_of starts offsets))
     ∙ ap Some (end_there starts offsets place 0 h)
 
@@ -56,8 +52,7 @@ module _ (starts offsets : List ℕ) (offset : ℕ) where
   pushed = ends_of starts offsets ++ last ∷ []
 
   earlier : (k : ℕ) → k < length offsets → get_or (ends_of starts more) k 0 ≡ get_or pushed k 0
-  earlier k before =
-      end_there starts more k 0 (omega (arith, before, length_push offsets offset))
+  earlier k before = end_there starts more k 0 (omega (arith, before, length_push offsets offset))
       ∙ ap (λ o. get_or starts (k / 16) 0 + o) (get_or_append_left offsets (offset ∷ []) 0 k before)
       ∙ sym (end_there starts offsets k 0 before)
       ∙ sym (get_or_append_left (ends_of starts offsets) (last ∷ []) 0 k
@@ -99,8 +94,7 @@ module _ (starts offsets : List ℕ) (bounded : All (λ e. e < 2 ^ 64) (ends_of 
 
   pub end_read : (place offset : ℕ) → slice_get offsets place ≡ Some offset
       → slice_get (ends_of starts offsets) place ≡ Some (get_or starts (place / 16) 0 + offset)
-  end_read place offset at =
-      end_got starts offsets place (slice_get_within offsets place offset at)
+  end_read place offset at = end_got starts offsets place (slice_get_within offsets place offset at)
       ∙ ap (λ o. Some (get_or starts (place / 16) 0 + o))
       (get_or_from_slice_get offsets place offset 0 at)
 

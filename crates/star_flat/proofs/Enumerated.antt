@@ -13,14 +13,10 @@ no_whole = record { first = 0; second = 0; text = record { ref_ptr = (0, 0); now
 
 range_with_len-suc : (a n : ℕ) → range_with_len a (suc n) ≡ range_with_len a n ++ (a + n) ∷ []
 range_with_len-suc a zero = let same : a ≡ a + 0 = omega arith in ap (λ m. m ∷ []) same
-range_with_len-suc a (suc n) = let same : a + 1 + n ≡ a + suc n =
-    omega arith in
-    ap (λ ms. a ∷ ms)
-    (range_with_len-suc (a + 1) n ∙ ap (λ m. range_with_len (a + 1) n ++ m ∷ []) same)
+range_with_len-suc a (suc n) = grind (arith, range_with_len-suc (a + 1) n)
 
 pub range_with_len-more : (n : ℕ) → range_with_len 0 (n + 1) ≡ range_with_len 0 n ++ n ∷ []
-range_with_len-more n = let same : 0 + n ≡ n =
-    omega arith in
+range_with_len-more n = let same : 0 + n ≡ n = omega arith in
     ap (range_with_len 0) (add-one n) ∙ range_with_len-suc 0 n
     ∙ ap (λ m. range_with_len 0 n ++ m ∷ []) same
 
@@ -31,5 +27,4 @@ module _ {X : Type 0} (f : X → ℕ) (old new : List X) (e : X) (pushed : new �
   -- one more text with its place
   pub more_numbers : (n : ℕ) → f e ≡ n → map f old ≡ range_with_len 0 n
       → map f new ≡ range_with_len 0 (n + 1)
-  more_numbers n is so_far =
-      map_pushed ∙ (λ i. so_far i ++ is i ∷ []) ∙ sym (range_with_len-more n)
+  more_numbers n is so_far = map_pushed ∙ (λ i. so_far i ++ is i ∷ []) ∙ sym (range_with_len-more n)

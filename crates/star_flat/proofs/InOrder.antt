@@ -1,10 +1,8 @@
 -- Texts by their keys, sorted.
 use Rattle.std.proofs.Common.{◌≡◌, ℕ, ◌+◌, ◌<◌, List, length, get_or, map, sym, ap, ◌∙◌, arith, subst, zero-add}
-use Rattle.std.proofs.{lemmas.List.get_or-map, lemmas.List.length-map, lemmas.List.Elements.All-get_or, lemmas.List.Elements.All-map, lemmas.List.FromFn.get_or-range_with_len, lemmas.List.FromFn.length-range_with_len, lemmas.List.Sorted.All-permutation}
-use Rattle.std.proofs.{lemmas.List.Sorted.Contains-permutation, lemmas.List.Sorted.IsPermutation-map, lemmas.List.Sorted.length_permutation, lemmas.Simd.map-map}
+use Rattle.std.proofs.{lemmas.List.get_or-map, lemmas.List.length-map, lemmas.List.Elements.All-get_or, lemmas.List.Elements.All-map, lemmas.List.FromFn.get_or-range_with_len, lemmas.List.FromFn.length-range_with_len, lemmas.List.Sorted.All-permutation, lemmas.List.Sorted.Contains-permutation, lemmas.List.Sorted.IsPermutation-map, lemmas.List.Sorted.length_permutation, lemmas.Simd.map-map}
 use Rattle.std.specs.{List.All, List.Contains, List.range_with_len, List.Sorted.IsSorted, List.Sorted.IsPermutation, Ordering.is_lt}
-use Rattle.star_flat.specs.Private.Order.{AreInTextOrder, IsKeyed, IsWhole, by_key, key_of, numbered_texts, text_at, text_cmp}
-use Rattle.star_flat.specs.{declared.ordered.Numbered.Numbered, declared.ordered.Whole.Whole}
+use Rattle.star_flat.specs.{Private.Order.AreInTextOrder, Private.Order.IsKeyed, Private.Order.IsWhole, Private.Order.by_key, Private.Order.key_of, Private.Order.numbered_texts, Private.Order.text_at, Private.Order.text_cmp, declared.ordered.Numbered.Numbered, declared.ordered.Whole.Whole}
 use Rattle.star_flat.proofs.{Enumerated.no_whole, Enumerated.nothing, Keys.as_texts, Keys.by_whole, Keys.up_by_text}
 
 abbrev pub number_of : Numbered → ℕ
@@ -16,10 +14,7 @@ whole_number e = e.number
 place_within : (texts : List (List ℕ))
     → All (λ n. n < length texts) (range_with_len 0 (length texts))
 place_within texts k d within =
-    let few : k < length texts = omega (arith, within, length-range_with_len 0 (length texts)) in
-    let is : get_or (range_with_len 0 (length texts)) k d ≡ k =
-    get_or-range_with_len 0 (length texts) k d few ∙ zero-add k in
-    omega (arith, is, few)
+    grind (arith, length-range_with_len, get_or-range_with_len, zero-add)
 
 -- keys in the order of their texts, with each place as one's number
 module _ (texts : List (List ℕ)) (ordered : List Numbered)
@@ -30,13 +25,10 @@ module _ (texts : List (List ℕ)) (ordered : List Numbered)
   places = range_with_len 0 (length texts)
 
   count : length ordered ≡ length texts
-  count = sym (length-map ordered number_of)
-      ∙ length_permutation places (map number_of ordered) each
-      ∙ length-range_with_len 0 (length texts)
+  count = grind (arith, length-map, length_permutation, length-range_with_len)
 
   each_within : All (λ e. e.number < length texts) ordered
-  each_within k d within =
-      subst (λ n. n < length texts) (get_or-map number_of ordered k d 0 within)
+  each_within k d within = subst (λ n. n < length texts) (get_or-map number_of ordered k d 0 within)
       (All-permutation (λ n. n < length texts) places (map number_of ordered) each
       (place_within texts) k 0
       (omega (arith, within, length-map ordered number_of)))
@@ -78,8 +70,7 @@ module _ (texts : List (List ℕ)) (numbered ordered : List Numbered)
       ∙ sorted k nothing from few
 
   pub AreInOrder-sorted : AreInTextOrder texts ordered
-  AreInOrder-sorted =
-      AreInOrder-each texts ordered
+  AreInOrder-sorted = AreInOrder-each texts ordered
       (subst (λ ns. IsPermutation ns (map number_of ordered)) numbers
       (IsPermutation-map number_of numbered ordered moved))
       all_keyed in_order
@@ -114,7 +105,6 @@ module _ (texts : List (List ℕ)) (wholes ordered : List Whole)
       (sorted k no_whole from few)
 
   pub AreInOrder-wholes : AreInTextOrder texts (map key_of ordered)
-  AreInOrder-wholes =
-      AreInOrder-each texts (map key_of ordered) each_whole
+  AreInOrder-wholes = AreInOrder-each texts (map key_of ordered) each_whole
       (All-map (IsKeyed texts) key_of ordered (λ k d within. (all_whole k d within).keyed))
       (subst (IsSorted text_cmp) (sym (map-map (text_at texts) key_of ordered)) wholes_in_order)

@@ -1,11 +1,8 @@
 -- The order of texts by their keys.
 use Rattle.std.proofs.Common.{◌≡◌, ℕ, zero, suc, ◌+◌, ◌*◌, ◌%◌, ◌<◌, ◌≤◌, ◌++◌, if◌then◌else◌, false, List, [], ◌∷◌, length, take, get_or, nat_cmp, refl, sym, ap, ◌∙◌, ⊎_elim, add-one, zero-add, arith}
-use Rattle.std.proofs.{lemmas.Bool.cases_lt, lemmas.Bool.le-ltb, lemmas.Bool.lt-ltb, lemmas.Cmp.nat_cmp_total, lemmas.Cmp.nat_list_cmp_total, lemmas.Cmp.on_total, lemmas.Cmp.then_total, lemmas.Grind.same_number_lists, lemmas.Nat.be_bytes_4, lemmas.Nat.be_bytes_8, lemmas.List.get_or-take}
-use Rattle.std.proofs.{lemmas.List.get_or_past, lemmas.List.length-take-le, lemmas.List.Elements.All-get_or}
-use Rattle.std.specs.{Cmp.nat_cmp_is, Cmp.IsTotalOrder, List.All, Ordering.is_lt, Ordering.ordering_then, Ordering.ordering_reverse, declared.cmp.Ordering.Ordering, declared.cmp.Ordering.TheVariants.Less, declared.cmp.Ordering.TheVariants.Equal, declared.cmp.Ordering.TheVariants.Greater}
-use Rattle.std.specs.{Int.to_be_bytes, Int.w32, Int.w64}
-use Rattle.star_flat.specs.Private.Order.{IsKeyed, IsWhole, by_key, digits, ending, key_of, text_at, text_cmp}
-use Rattle.star_flat.specs.{declared.ordered.Numbered.Numbered, declared.ordered.Whole.Whole}
+use Rattle.std.proofs.{lemmas.Bool.cases_lt, lemmas.Bool.le-ltb, lemmas.Bool.lt-ltb, lemmas.Cmp.nat_cmp_total, lemmas.Cmp.nat_list_cmp_total, lemmas.Cmp.on_total, lemmas.Cmp.then_total, lemmas.Grind.same_number_lists, lemmas.Nat.be_bytes_4, lemmas.Nat.be_bytes_8, lemmas.List.get_or-take, lemmas.List.get_or_past, lemmas.List.length-take-le}
+use Rattle.std.specs.{Cmp.nat_cmp_is, Cmp.IsTotalOrder, List.All, Ordering.is_lt, Ordering.ordering_then, Ordering.ordering_reverse, declared.cmp.Ordering.Ordering, declared.cmp.Ordering.TheVariants.Less, declared.cmp.Ordering.TheVariants.Equal, declared.cmp.Ordering.TheVariants.Greater, Int.to_be_bytes, Int.w32, Int.w64}
+use Rattle.star_flat.specs.{Private.Order.IsKeyed, Private.Order.IsWhole, Private.Order.by_key, Private.Order.digits, Private.Order.ending, Private.Order.key_of, Private.Order.text_at, Private.Order.text_cmp, declared.ordered.Numbered.Numbered, declared.ordered.Whole.Whole}
 
 -- ---- numbers that compare
 less : (m n : ℕ) → m < n → nat_cmp m n ≡ Less
@@ -19,10 +16,7 @@ greater m n h = sym (nat_cmp_is m n Greater h)
 
 -- ---- bytes as digits
 byte_below : (text : List ℕ) (n : ℕ) → All (λ byte. byte < 256) text → get_or text n 0 < 256
-byte_below text n bytes = ⊎_elim {C = get_or text n 0 < 256}
-    (λ within. All-get_or (λ byte. byte < 256) text n 0 within bytes)
-    (λ past. let is = get_or_past text n 0 past in omega (arith, is))
-    (cases_lt n (length text))
+byte_below text n bytes = grind (arith, get_or_past, cases_lt)
 
 -- texts whose first bytes agree are in the order of the next one
 agree_then_less : (n : ℕ) (a b : List ℕ) → ((i : ℕ) → i < n → get_or a i 0 ≡ get_or b i 0)
@@ -91,8 +85,7 @@ prefix_less (x ∷ xs) (y ∷ ys) longer agree =
 -- a text compares as equal with itself
 same_equal : (text : List ℕ) → text_cmp text text ≡ Equal
 same_equal [] = refl
-same_equal (x ∷ xs) =
-    ap (λ o. ordering_then o (text_cmp xs xs)) (equal x x refl) ∙ same_equal xs
+same_equal (x ∷ xs) = grind (arith, equal, same_equal xs)
 
 -- ---- bytes of a text from a place on, with zeros after its end
 padded : ℕ → ℕ → List ℕ → List ℕ
@@ -131,17 +124,11 @@ module _ (texts : List (List ℕ)) where
 
   -- how many bytes a key tells, and which texts it tells whole
   counted : (e : Numbered) → IsKeyed texts e → e.second % 256 < 13
-  counted e keyed = ⊎_elim {C = e.second % 256 < 13}
-      (λ few. omega (arith, few, keyed.short few))
-      (λ many. omega (arith, keyed.long many))
-      (cases_lt (length (text_at texts e)) 12)
+  counted e keyed = grind (arith, cases_lt)
 
   pub whole_length : (e : Numbered) → IsKeyed texts e → e.second % 256 < 12
       → length (text_at texts e) ≡ e.second % 256
-  whole_length e keyed whole = ⊎_elim {C = length (text_at texts e) ≡ e.second % 256}
-      (λ few. sym (keyed.short few))
-      (λ many. absurd (omega (arith, whole, keyed.long many)))
-      (cases_lt (length (text_at texts e)) 12)
+  whole_length e keyed whole = grind (arith, cases_lt)
 
   -- of texts with the same first bytes the one whose key is less is less
   second_less : (a b : Numbered) → IsKeyed texts a → IsKeyed texts b → a.first ≡ b.first
@@ -233,8 +220,7 @@ module _ (texts : List (List ℕ)) where
   second_bytes e keyed =
       let x = text_at texts e in
       let bytes = padded 3 8 x ++ e.second % 256 ∷ [] in
-      be_bytes_4 bytes e.second refl
-      (byte_then x keyed.bytes 3 8 (e.second % 256) (omega arith))
+      be_bytes_4 bytes e.second refl (byte_then x keyed.bytes 3 8 (e.second % 256) (omega arith))
       (omega (arith, keyed.second_is, digits_more 8 x, digits_more 9 x, digits_more 10 x))
 
   pub front_is : (e : Numbered) → IsKeyed texts e → e.second % 256 < 12
@@ -262,12 +248,10 @@ module _ (texts : List (List ℕ)) where
       ∙ ap (λ m. get_or x m 0) (zero-add k))
 
   ending_none : (e : Numbered) → e.second % 256 < 12 → ending texts e ≡ []
-  ending_none e whole =
-      ap (λ c. if c then [] else text_at texts e) (lt-ltb (e.second % 256) 12 whole)
+  ending_none e whole = grind (arith, lt-ltb)
 
   ending_all : (e : Numbered) → 12 ≤ e.second % 256 → ending texts e ≡ text_at texts e
-  ending_all e more =
-      ap (λ c. if c then [] else text_at texts e) (le-ltb (e.second % 256) 12 more)
+  ending_all e more = grind (arith, le-ltb)
 
   module _ (a b : Numbered) (keyed_a : IsKeyed texts a) (keyed_b : IsKeyed texts b) where
     abbrev by_text : Ordering
@@ -283,8 +267,7 @@ module _ (texts : List (List ℕ)) where
       by_second = ordering_then (nat_cmp a.second b.second) last
 
       seconds : a.first ≡ b.first → by_second ≡ by_text
-      seconds same =
-          ⊎_elim {C = by_second ≡ by_text}
+      seconds same = ⊎_elim {C = by_second ≡ by_text}
           (λ below. ap (λ o. ordering_then o last) (less a.second b.second below)
           ∙ sym (second_less a b keyed_a keyed_b same below))
           (λ from. ⊎_elim {C = by_second ≡ by_text}
@@ -335,18 +318,7 @@ module _ (texts : List (List ℕ)) where
 
     -- keys of one text have one front
     pub same_front : text_at texts a ≡ text_at texts b → (a.first ≡ b.first) × (a.second ≡ b.second)
-    same_front e =
-        let eight = ap (digits 8) e in
-        let eleven = ap (digits 11) e in
-        let lengths : length (text_at texts a) ≡ length (text_at texts b) = ap length e in
-        let counts : a.second % 256 ≡ b.second % 256 =
-        ⊎_elim {C = a.second % 256 ≡ b.second % 256}
-        (λ few. keyed_a.short few ∙ lengths ∙ sym (keyed_b.short (omega (arith, few, lengths))))
-        (λ many. keyed_a.long many ∙ sym (keyed_b.long (omega (arith, many, lengths))))
-        (cases_lt (length (text_at texts a)) 12) in (
-          keyed_a.first_is ∙ eight ∙ sym keyed_b.first_is,
-          omega (arith, eight, eleven, counts, keyed_a.second_is, keyed_b.second_is),
-        )
+    same_front e = grind (arith, cases_lt)
 
 -- ---- texts by their keys, then by themselves, and then by number
 abbrev pub by_whole : Whole → Whole → Ordering

@@ -8,8 +8,7 @@ module _ {X : Type 0} (xs : List X) (y : X) where
   pushed_length = length-append xs (y ∷ [])
 
   pub pushed_here : slice_get (xs ++ y ∷ []) (length xs) ≡ Some y
-  pushed_here =
-      slice_get-get_or (xs ++ y ∷ []) (length xs) y (omega (arith, pushed_length))
+  pushed_here = slice_get-get_or (xs ++ y ∷ []) (length xs) y (omega (arith, pushed_length))
       ∙ ap Some (go xs)
     where
       go : (zs : List X) → get_or (zs ++ y ∷ []) (length zs) y ≡ y

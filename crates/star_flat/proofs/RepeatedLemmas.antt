@@ -1,10 +1,7 @@
 -- Texts that are told by their places among other texts.
 use Rattle.std.proofs.Common.{◌≡◌, ℕ, zero, suc, ◌+◌, ◌<◌, List, [], ◌∷◌, ◌++◌, Some, length, get_or, map, take, refl, sym, ap, ◌∙◌, arith, length-append, subst, ⊎_elim}
-use Rattle.std.proofs.lemmas.List.{get_or_append_left, get_or_default, get_or_push, get_or-map, length-map, map-append, take_more}
-use Rattle.std.proofs.lemmas.List.Elements.{All-get_or, All-head, All-map, All-push, All-tail, All-weaker, Contains-append_left, Contains-push}
-use Rattle.std.proofs.{lemmas.Bool.cases_eq, lemmas.Option.get_or_from_slice_get, lemmas.Option.slice_get_within, lemmas.Simd.map-map}
-use Rattle.std.specs.Prelude.{Result, Ok, Err, IfOk, OnErr, OnOk}
-use Rattle.std.specs.{List.All, List.Contains, List.slice_get}
+use Rattle.std.proofs.{lemmas.List.get_or_append_left, lemmas.List.get_or_default, lemmas.List.get_or_push, lemmas.List.get_or-map, lemmas.List.length-map, lemmas.List.map-append, lemmas.List.take_more, lemmas.List.Elements.All-get_or, lemmas.List.Elements.All-head, lemmas.List.Elements.All-map, lemmas.List.Elements.All-push, lemmas.List.Elements.All-tail, lemmas.List.Elements.All-weaker, lemmas.List.Elements.Contains-append_left, lemmas.List.Elements.Contains-push, lemmas.Bool.cases_eq, lemmas.Option.get_or_from_slice_get, lemmas.Option.slice_get_within, lemmas.Simd.map-map}
+use Rattle.std.specs.{Prelude.Result, Prelude.Ok, Prelude.Err, Prelude.IfOk, Prelude.OnErr, Prelude.OnOk, List.All, List.Contains, List.slice_get}
 use Rattle.star_flat.specs.{Repeated.AreRepeated, Repeated.texts_at_places, declared.met.Met.Met, Private.Met.IsMet}
 
 -- what follows from what holds of each kind of answer
@@ -41,9 +38,7 @@ module _ (ts : List (List ℕ)) (ps : List ℕ) (repeated : AreRepeated ts ps) w
 
   pub text_again : (p : ℕ) (t : List ℕ) → slice_get ts p ≡ Some t
       → texts_at_places ts (ps ++ p ∷ []) ≡ texts_at_places ts ps ++ t ∷ []
-  text_again p t there =
-      map-append (λ q. get_or ts q []) ps (p ∷ [])
-      ∙ (λ i. texts_at_places ts ps ++ get_or_from_slice_get ts p t [] there i ∷ [])
+  text_again p t there = grind (arith, map-append, get_or_from_slice_get)
 
 -- texts that are kept later change none
 same_texts : (ts us : List (List ℕ)) (ps : List ℕ) → All (λ p. p < length ts) ps
@@ -62,8 +57,7 @@ module _ (ts : List (List ℕ)) (ps : List ℕ) (repeated : AreRepeated ts ps) (
   anew = record {
     within = All-push (λ p. p < length (ts ++ t ∷ [])) ps (length ts)
         (All-weaker (λ p. p < length ts) (λ p. p < length (ts ++ t ∷ []))
-        (λ p h. omega (arith, h, more)) ps repeated.within)
-        (omega (arith, more));
+        (λ p h. omega (arith, h, more)) ps repeated.within) (omega (arith, more));
     met = λ p h. ⊎_elim {C = Contains (ps ++ length ts ∷ []) p}
         (λ last. subst (λ q. Contains (ps ++ length ts ∷ []) q) (sym last)
         (Contains-push ps (length ts)))
@@ -75,17 +69,13 @@ module _ (ts : List (List ℕ)) (ps : List ℕ) (repeated : AreRepeated ts ps) (
 
   pub text_anew : texts_at_places (ts ++ t ∷ []) (ps ++ length ts ∷ [])
       ≡ texts_at_places ts ps ++ t ∷ []
-  text_anew =
-      map-append (λ q. get_or (ts ++ t ∷ []) q []) ps (length ts ∷ [])
-      ∙ (λ i. same_texts ts (t ∷ []) ps repeated.within i
-      ++ get_or_push ts t [] (length ts) refl i ∷ [])
+  text_anew = grind (arith, map-append, same_texts, get_or_push)
 
 -- the place of one more row
 pub places_more : (f : ℕ → ℕ) (ps : List ℕ) (row p : ℕ) (old new : List ℕ)
     → slice_get ps row ≡ Some p → old ≡ map f (take row ps) → new ≡ old ++ f p ∷ []
     → new ≡ map f (take (row + 1) ps)
-places_more f ps row p old new at so_far pushed =
-    pushed ∙ ap (λ xs. xs ++ f p ∷ []) so_far
+places_more f ps row p old new at so_far pushed = pushed ∙ ap (λ xs. xs ++ f p ∷ []) so_far
     ∙ sym (ap (map f) (take_more ps row p (slice_get_within ps row p at))
     ∙ map-append f (take row ps) (get_or ps row p ∷ [])
     ∙ ap (λ q. map f (take row ps) ++ f q ∷ []) (get_or_from_slice_get ps row p p at))
@@ -97,9 +87,7 @@ module _ (ts ds : List (List ℕ)) (ps ns : List ℕ) (repeated : AreRepeated ts
   count = sym (length-map ns (λ n. get_or ds n [])) ∙ ap length same
 
   same_text : (p : ℕ) → p < length ts → get_or ds (get_or ns p 0) [] ≡ get_or ts p []
-  same_text p h =
-      sym (get_or-map (λ n. get_or ds n []) ns p 0 [] (omega (arith, h, count)))
-      ∙ ap (λ xs. get_or xs p []) same
+  same_text p h = grind (arith, get_or-map, count)
 
   met : (d : ℕ) → d < length ds → Contains (map (λ p. get_or ns p 0) ps) d
   met d h =
@@ -138,14 +126,12 @@ module _ (ts ds : List (List ℕ)) (ps ns : List ℕ) (repeated : AreRepeated ts
           ∷ agree qs (All-tail (λ p. p < length ts) q qs within) i
 
   pub places_read : All (λ p. p < length ns) ps
-  places_read = All-weaker (λ p. p < length ts) (λ p. p < length ns)
-      (λ p h. omega (arith, h, count)) ps repeated.within
+  places_read = grind (arith, count)
 
 -- a short text that is remembered is still kept where one more text is
 pub met_more : (ts : List (List ℕ)) (t : List ℕ) (met : List Met) → All (IsMet ts) met
     → All (IsMet (ts ++ t ∷ [])) met
-met_more ts t met h =
-    All-weaker (IsMet ts) (IsMet (ts ++ t ∷ []))
+met_more ts t met h = All-weaker (IsMet ts) (IsMet (ts ++ t ∷ []))
     (λ m is few. still ts m.place (take m.len m.bytes) (is few)) met h
   where
     still : (us : List (List ℕ)) (p : ℕ) (x : List ℕ) → slice_get us p ≡ Some x

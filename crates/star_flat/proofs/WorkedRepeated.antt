@@ -1,7 +1,6 @@
 -- Texts that are told by their places, and places that don't tell them.
-use Rattle.std.proofs.Common.{◌≡◌, ◌<◌, ◌≤◌, [], ◌∷◌, pos, refl, arith}
+use Rattle.std.proofs.{Common.◌≡◌, Common.◌<◌, Common.◌≤◌, Common.[], Common.◌∷◌, Common.pos, Common.refl, Common.arith, lemmas.List.Elements.All-cons, lemmas.List.Elements.All-head, lemmas.List.Elements.All-nil, lemmas.List.Elements.All-tail}
 use Rattle.std.specs.Prelude.{codes}
-use Rattle.std.proofs.lemmas.List.Elements.{All-cons, All-head, All-nil, All-tail}
 use Rattle.star_flat.specs.Repeated.{AreRepeated, places_in, texts_at_places}
 
 two_of_three : texts_at_places (codes "a" ∷ codes "b" ∷ codes "c" ∷ [])

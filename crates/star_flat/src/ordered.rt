@@ -180,7 +180,11 @@ fn compare_endings(texts: &FlatTexts, one: Numbered, other: Numbered) -> Orderin
 fn compare(texts: &FlatTexts, one: Numbered, other: Numbered) -> Ordering
     ensures { result ≡ by_key texts.now one other }
 {
-    match (one.first, one.second).cmp(&(other.first, other.second)) {
+    // Mostly the first bytes differ, and the others need no look.
+    if one.first != other.first {
+        return one.first.cmp(&other.first);
+    }
+    match one.second.cmp(&other.second) {
         Ordering::Equal => compare_endings(texts, one, other),
         unequal => unequal,
     }

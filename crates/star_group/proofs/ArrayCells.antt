@@ -35,11 +35,9 @@ module _ {A : Type 0} (none : A) (value : List Update → A) (change : ℕ → A
   -- one row more
   pub at_more : (row : ℕ) (items : List A) (us : List Update)
       → ((ws : List Update) → change row (value ws) ≡ value (u row ∷ ws))
-      → cell_place spans (u row).keys ≡ Some (get_or at row 0)
-      → AreAt none value spans items us
+      → cell_place spans (u row).keys ≡ Some (get_or at row 0) → AreAt none value spans items us
       → AreAt none value spans
-      (set items (get_or at row 0) (change row (get_or items (get_or at row 0) none)))
-      (u row ∷ us)
+      (set items (get_or at row 0) (change row (get_or items (get_or at row 0) none))) (u row ∷ us)
   at_more row items us changes is are p h =
       grind (arith, common_steps, length-set, eqb-true, get_or-set_same, there_more, at_here)
 

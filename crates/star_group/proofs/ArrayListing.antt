@@ -45,8 +45,7 @@ module _ (d : Group) (spans : List Span) (n : ℕ) where
       by w fits true e =
           let at = own_place spans n there.0.keys there.2 in
           let same : w.keys ≡ there.0.keys =
-          padded_once w.keys there.0.keys d.count fits
-          (at_each _ us there.0 fit there.1) few
+          padded_once w.keys there.0.keys d.count fits (at_each _ us there.0 fit there.1) few
           (sym ((key_decides (key_view key) (padded 6 w.keys)).0 e) ∙ own there.0.keys at) in
           ap (below_place n) (ap (cell_place spans) same ∙ at) ∙ not_below n
 

@@ -184,8 +184,7 @@ pub content_none : (rest : DeferredStore) (spans : List Span) (n : ℕ) {gs : Li
     {seen : List Bool} {cells : List ℤ} → gs ≡ rest.aggregates.items → seen ≡ replicate n false
     → ((a : ℕ) → a < length gs
     → get_or (cut n (length gs) cells) a [] ≡ replicate n (neutral (get_or gs a Count)))
-    → deferred.Has rest []
-    → IsArrayContent (deferred.group_view rest) spans seen cells
+    → deferred.Has rest [] → IsArrayContent (deferred.group_view rest) spans seen cells
     (entries_of rest.rows) rest.total []
 unfolding held
 content_none rest spans n same blank columns base =

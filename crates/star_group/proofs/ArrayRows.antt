@@ -58,8 +58,7 @@ some_cell g a (w ∷ ws) h = refl
 
 -- what a row has of the cells at a place
 abbrev pub IsRowAt : Group → List Bool → List ℤ → ℕ → Row → Type 0
-IsRowAt d seen cells n row =
-    (a : ℕ) → a < length d.aggregates
+IsRowAt d seen cells n row = (a : ℕ) → a < length d.aggregates
     → get_or row a None ≡ Some (get_or (aggregate_cells d seen cells a) n (pos 0))
 
 module _ (d : Group) (spans : List Span) (seen : List Bool) (cells : List ℤ)

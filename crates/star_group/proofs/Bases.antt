@@ -28,8 +28,7 @@ module _ (d : Group) (us : List Update) (u : Update) (row : Row)
   pub more_over : (found new : Option Row) → IsRowOver d us found
       → IsMergedInto d.aggregates row found new → IsRowOver d (u ∷ us) new
   more_over None new was m = grind (arith, no_puts, row_of_one)
-  more_over (Some held_row) new was m =
-      subst (IsRowOver d (u ∷ us)) (sym m.1)
+  more_over (Some held_row) new was m = subst (IsRowOver d (u ∷ us)) (sym m.1)
       (refl, merged_more d u us held_row row m.0 one was.1 m.2)
 
   -- no SUM and no COUNT leaves its bits
@@ -96,8 +95,7 @@ module _ (d : Group) (us : List Update) (u : Update) (key : List KeyPart) (row :
 
 -- no puts
 pub no_rows : (d : Group) (es : List Entry) → es ≡ [] → AreGrouped d es []
-no_rows d es e =
-    subst (λ xs. AreGrouped d xs []) (sym e) (record { fit = tt; rows = λ q. refl })
+no_rows d es e = subst (λ xs. AreGrouped d xs []) (sym e) (record { fit = tt; rows = λ q. refl })
 
 pub no_base : (d : Group) (es : List Entry) (blank : Row)
     → es ≡ [] → ((place : ℕ) → get_or blank place None ≡ None) → IsBase d es blank []

@@ -14,8 +14,8 @@ pub use Rattle.star_group.specs.Private.Taken.{AreCellsTaken, AreWithin, CanTake
 pub use Rattle.star_group.specs.Private.Tries.{IsHeld, IsKeyFound, IsMissing, IsTrie, Leads, child, digit_at, key_at, part_digit, turn_at, word_from, word_with}
 pub use Rattle.star_group.specs.Stores.{AddUp, AreOfContent, Group, HasRoom, IsContent, combined, group_declared, key_lists, put_number, puts_of}
 pub use Rattle.star_group.specs.{ArrayStores.Has, ArrayStores.group_view, BaseKeys.RowKey, BaseKeys.is_of_put, BaseKeys.key_eq, BaseKeys.padded, BaseKeys.vary, Cells.held, Cells.step, Entries.entries_of, Entries.listed_entries, Held.has_puts, Keyed.Entry, Keyed.Row, Keyed.all_rolled_up, Keyed.filled, Keyed.keyed, OneMore.IsWithPut}
-pub use Rattle.star_group.specs.{Private.ArrayPut.AreAtPlaces, Private.ArrayPut.IsListed, Private.Given.nothing_given, Private.Given.row_shown, Private.Given.shown, StoreRows.AreRows, StoreRows.row_at, StoreRows.row_view, contracts.keyed.key.KeyPartPartialEq.TheImpl.eq-value}
-pub use Rattle.star_group.specs.{declared.batch.PutBatch.PutBatch, declared.eager.EagerStore.EagerStore, declared.group_row.GroupRow.GroupRow, declared.keyed.KeyedRows.KeyedRows, declared.keyed.ListedRows.ListedRows, declared.keyed.key.KeyPart.KeyPart}
+pub use Rattle.star_group.specs.{Private.ArrayPut.AreAtPlaces, Private.ArrayPut.IsListed, Private.Given.nothing_given, Private.Given.row_shown, Private.Given.shown, StoreRows.AreRows, StoreRows.row_at, contracts.keyed.key.KeyPartPartialEq.TheImpl.eq-value}
+pub use Rattle.star_group.specs.{declared.batch.PutBatch.PutBatch, declared.eager.EagerStore.EagerStore, declared.keyed.KeyedRows.KeyedRows, declared.keyed.ListedRows.ListedRows, declared.keyed.key.KeyPart.KeyPart}
 pub use Rattle.star_group.specs.{declared.array_store.ArrayStore.ArrayStore, declared.array_store.span.Span.Span, declared.keyed.key.KeyPart.TheVariants.All, declared.rows.PutFault.TheVariants.OutOfMemory}
 pub use Rattle.star_interval.specs.Range.{is_i128, is_i64}
 pub use Rattle.star_program.proofs.{OwnGroups.overflow_somewhere, OwnGroups.somewhere_overflows, Rows.cut_at, Rows.cut_past, Rows.length-cut}
@@ -23,7 +23,7 @@ pub use Rattle.star_program.specs.Puts.{Update, aggregate_at, aligned, leaves, o
 pub use Rattle.star_program.specs.{Faults.value_count, Keys.key_value_cmp, Keys.same_keys, Keys.value_eq, Limits.IsSmall, Overflow.IsOwn, Rows.cut, contracts.key.KeyValueEq.TheImpl.Laws.laws-law, declared.group.GroupDecl.GroupDecl, declared.group.GroupKey.GroupKey}
 pub use Rattle.star_program.specs.{declared.key.KeyValue.KeyValue, declared.key.KeyValue.TheVariants.Code, declared.key.KeyValue.TheVariants.Number}
 pub use Rattle.star_schema.proofs.Groupings.{all_keys, finer, shown_masked}
-pub use Rattle.star_schema.specs.Groups.{IsGroup, IsMasked, aggregate, belongs, is_grouping, joined, members, numbers_for, totals_from, totals_of}
+pub use Rattle.star_schema.specs.Groups.{GroupRow, IsGroup, IsMasked, aggregate, belongs, is_grouping, joined, members, numbers_for, totals_from, totals_of}
 pub use Rattle.star_schema.specs.{declared.column.ColumnId.TheVariants.PBrand1, declared.group.Aggregate.Aggregate, declared.group.Aggregate.TheVariants.Count, declared.group.Aggregate.TheVariants.Max, declared.group.Aggregate.TheVariants.Min, declared.group.Aggregate.TheVariants.Sum}
 pub use Rattle.star_schema.specs.{declared.group.Shape.Shape, declared.group.Shape.TheVariants.Cube, declared.group.Shape.TheVariants.Plain, declared.group.Shape.TheVariants.Rollup}
 pub use Rattle.std.proofs.Common.{Bool, Err, FitsSigned, IfErr, IfOk, IfSome, IsOk, MatchBool, MatchOption, Ok, OnErr, OnOk, Result, [], add-one, ap, arith, below_more, cond, drop, false, get_or, inl, inr, map, nat_eq, nat_lt, negsuc, refl, replicate, rules, set, slice_get, slice_set}

@@ -101,8 +101,7 @@ module _ (d : Group) (us es : List Update) (is : IsContent d us es) (place : ℕ
     where
       by : (b : Bool) → list_any (same_keys keys) (key_lists es) ≡ b → group_aggregate keys place es
           ≡ held (aggregate_at d.aggregates place) (numbers_for place (puts_of keys us))
-      by false e =
-          absent keys place es e
+      by false e = absent keys place es e
           ∙ ap (λ ps. held (aggregate_at d.aggregates place) (numbers_for place ps))
           (sym (no_puts keys us (sym (is.keys keys) ∙ e)))
       by true e =
@@ -138,13 +137,11 @@ content_more d us es after u is more = record {
             ≡ held (aggregate_at d.aggregates place)
             (numbers_for place (cond (same_keys keys u.keys) (u ∷ puts_of keys us)
             (puts_of keys us)))
-        by false p =
-            more.others keys p place declared
+        by false p = more.others keys p place declared
             ∙ number_is d us es is place declared keys
             ∙ ap (λ b. held (aggregate_at d.aggregates place)
             (numbers_for place (cond b (u ∷ puts_of keys us) (puts_of keys us)))) (sym p)
-        by true p =
-            ap (λ ks. group_aggregate ks place after) ((keys_decide keys u.keys).0 p)
+        by true p = ap (λ ks. group_aggregate ks place after) ((keys_decide keys u.keys).0 p)
             ∙ more.own place declared
             ∙ ap (λ o. Some (step (aggregate_at d.aggregates place) (put_number place u) o))
             (ap (λ ks. group_aggregate ks place es) (sym ((keys_decide keys u.keys).0 p))

@@ -18,8 +18,7 @@ if_ok P Q (Err e) f h = tt
 
 -- what is found has the aggregates of its puts
 found_held : (d : Group) (ws : List Update) (found : Option Row) (place : ℕ)
-    → place < length d.aggregates → IsRowOver d ws found
-    → get_or (unwrap_or found []) place None
+    → place < length d.aggregates → IsRowOver d ws found → get_or (unwrap_or found []) place None
     ≡ held (aggregate_at d.aggregates place) (numbers_for place ws)
 found_held d ws it place h was = grind (arith, held, no_puts, held_none)
 
@@ -78,8 +77,7 @@ module _ (d : Group) (us : List Update) (u : Update) (row : Row)
 
     total_now : (m : RowKey) → m ≡ replicate (length u.keys) None → (place : ℕ)
         → place < length d.aggregates → merged_at d.aggregates all row place ≡ now m place
-    total_now m e place h =
-        cell_more us (get_or all place None) place h (total place h)
+    total_now m e place h = cell_more us (get_or all place None) place h (total place h)
         ∙ ap (λ ps. aggregate (aggregate_at d.aggregates place) (numbers_for place ps))
         (sym (ap (λ k. members key_value_cmp k (u ∷ us)) (e ∙ ap (λ n. replicate n None) fits)
         ∙ all_members d.count (u ∷ us) (fits, was.fit)))
@@ -92,8 +90,7 @@ module _ (d : Group) (us : List Update) (u : Update) (row : Row)
       where
         there : (m : RowKey) (place : ℕ) → IsOwn d.shape u.keys m → place < length d.aggregates
             → leaves (aggregate_at d.aggregates place) (now m place) ≡ false
-        there m place (inl in_row) h =
-            ap (leaves (aggregate_at d.aggregates place))
+        there m place (inl in_row) h = ap (leaves (aggregate_at d.aggregates place))
             (sym (row_now m in_row.0 in_row.1 place h))
             ∙ all_stay.stay (in_places 6 m)
             (put_belongs d.shape m u.keys in_row.0 (masked_length m u.keys in_row.1)

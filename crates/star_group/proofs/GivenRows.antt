@@ -18,13 +18,13 @@ module _ (nothing : Option Row) (count : ℕ) where
   no_key (e ∷ es) (suc number) place h = no_key es number place h
 
 pub aggregates_shown : (count : ℕ) (es : List Entry) (number : ℕ)
-    → (get_or es number ([], [])).1 ≡ (row_at (map (row_shown None count) es) number).aggregates
+    → (get_or es number ([], [])).1 ≡ (row_at (map (row_shown None count) es) number).totals
 aggregates_shown count [] number = refl
 aggregates_shown count (e ∷ es) zero = refl
 aggregates_shown count (e ∷ es) (suc number) = aggregates_shown count es number
 
 pub nothing_shown : (row : Row) (count : ℕ) (es : List Entry) (number : ℕ) → number < length es
-    → row ≡ (row_at (map (row_shown (Some row) count) es) number).aggregates
+    → row ≡ (row_at (map (row_shown (Some row) count) es) number).totals
 nothing_shown row count [] number h = absurd (omega (arith, h))
 nothing_shown row count (e ∷ es) zero h = refl
 nothing_shown row count (e ∷ es) (suc number) h = nothing_shown row count es number (omega (arith, h))

@@ -127,6 +127,5 @@ module _ (f : ℤ → ℤ → ℤ) (comm : (x y : ℤ) → f x y ≡ f y x)
         → AllByRecursion (λ u. list_any (same_keys u.keys) (key_lists es) ≡ true) us
         → AllByRecursion (λ e. over f number (λ u. same_keys e.keys u.keys) us ≡ Some (num e)) es
         → over f num (λ e. p e.keys) es ≡ over f number (λ u. p u.keys) us
-    joined_by_parts num es once all each =
-        of_entries num es each ∙ by_key_lists (key_lists es) once
+    joined_by_parts num es once all each = of_entries num es each ∙ by_key_lists (key_lists es) once
         ∙ covered f number (λ u. list_any (same_keys u.keys) (key_lists es)) (λ u. p u.keys) us all

@@ -103,8 +103,7 @@ none_among fs q e = sym (is_some-lookup (key_eq q) (shown_entries fs))
 
 pub once_more : (fs : List Entry) (k : List KeyPart) (r : Row)
     → row_found fs (key_view k) ≡ None → AreOnce fs → AreOnce (fs ++ (k, r) ∷ [])
-once_more fs k r none once =
-    subst (IsDistinct key_eq) (sym (keys_more fs k r))
+once_more fs k r none once = subst (IsDistinct key_eq) (sym (keys_more fs k r))
     (IsDistinct-push key_equiv (keys_of (shown_entries fs)) (key_view k) once
     (none_among fs (key_view k) none))
 
@@ -121,8 +120,7 @@ pub once_joined : (es fs : List Entry) → AreOnce es → AreOnce fs
     → AllByRecursion (λ f. row_found es (key_view f.0) ≡ None) fs → AreOnce (es ++ fs)
 unfolding IsDistinct
 once_joined es [] once others none = subst AreOnce (sym (append-nil es)) once
-once_joined es (f ∷ fs) once others none =
-    subst AreOnce (append_assoc es (f ∷ []) fs)
+once_joined es (f ∷ fs) once others none = subst AreOnce (append_assoc es (f ∷ []) fs)
     (once_joined (es ++ f ∷ []) fs (once_more es f.0 f.1 none.0 once) others.1
     (all_after es fs f.0 f.1 none.1 others.0))
 
@@ -178,8 +176,7 @@ module _ (w : ℕ) (ks : List (List KeyPart)) (cs : List Row)
       false_from_ne_true _ (λ h.
       let parts = key_once (filled (get_or ks i [])) (filled (get_or ks j []))
       (sym (view_at i d i_in) ∙ (key_decides _ _).0 h ∙ view_at j d j_in) in
-      let is = once i j i_in j_in
-      (sym (own_parts i i_in) ∙ ap (take w) parts ∙ own_parts j j_in) in
+      let is = once i j i_in j_in (sym (own_parts i i_in) ∙ ap (take w) parts ∙ own_parts j j_in) in
       omega (arith, less, is)))
 
   pub held_row : (n : ℕ) → n < length ks
@@ -210,8 +207,7 @@ module _ (w : ℕ) (ks : List (List KeyPart)) (cs : List Row)
     → i ≡ j) where
   set_found : (n : ℕ) (row : Row) → n < length ks
       → row_found (keyed ks (set cs n row)) (key_view (filled (get_or ks n []))) ≡ Some row
-  set_found n row h =
-      held_row w ks (set cs n row) (same ∙ sym (length-set cs n row)) wide once n h
+  set_found n row h = held_row w ks (set cs n row) (same ∙ sym (length-set cs n row)) wide once n h
       ∙ ap Some (get_or-set_same cs n row [] (omega (arith, h, same)))
 
   -- the row of a number in place of the one that is there
@@ -255,8 +251,7 @@ module _ (rows : KeyedRows) where
 
       pub set_held : (row : Row) (ns : Row)
           → cut rows.listed.aggregate_count rows.listed.len ns ≡ set cs number row
-          → length ns ≡ rows.listed.cells.len
-          → IsWithRow (key_view key) row (entries_of rows)
+          → length ns ≡ rows.listed.cells.len → IsWithRow (key_view key) row (entries_of rows)
           (keyed ks (cut rows.listed.aggregate_count rows.listed.len
           (with_items rows.listed.cells ns).items))
       set_held row ns e many =
@@ -323,8 +318,7 @@ unfolding all_of
 row_keys_narrow s ks own w wide few is = of_each (IsNarrow w) own (λ key c.
     let q : RowKey = key_view key in
     let there : list_any (key_eq q) (map key_view own) ≡ true =
-    list_any-from_Contains key_equiv q (map key_view own)
-    (contains_mapped key_view own key c) in
+    list_any-from_Contains key_equiv q (map key_view own) (contains_mapped key_view own key c) in
     let both = and_parts (is_row_key s (length ks) q) _
     (sym (ap (list_any (key_eq q)) is
     ∙ any_kept (is_row_key s (length ks)) q (vary (length ks) (padded 6 ks))) ∙ there) in

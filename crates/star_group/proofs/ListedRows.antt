@@ -129,14 +129,12 @@ module _ (rows : ListedRows) where
 
   -- more rows
   pub keys_more : (count : ℕ) (qs js : List KeyPart) → js ≡ rows.keys.items ++ qs
-      → (n : ℕ) → n ≡ rows.len + count
-      → cut rows.width n js ≡ ks ++ cut rows.width count qs
+      → (n : ℕ) → n ≡ rows.len + count → cut rows.width n js ≡ ks ++ cut rows.width count qs
   keys_more count qs js keys n more = ap (cut rows.width n) keys
       ∙ cut_append rows.width count rows.len n rows.keys.items qs more rows.long_keys
 
   pub entries_more : (count : ℕ) (qs js : List KeyPart) (row ds : Row)
-      → js ≡ rows.keys.items ++ qs → ds ≡ rows.cells.items ++ row
-      → (n : ℕ) → n ≡ rows.len + count
+      → js ≡ rows.keys.items ++ qs → ds ≡ rows.cells.items ++ row → (n : ℕ) → n ≡ rows.len + count
       → keyed (cut rows.width n js) (cut rows.aggregate_count n ds)
       ≡ listed_entries rows ++ keyed (cut rows.width count qs) (cut rows.aggregate_count count row)
   entries_more count qs js row ds keys cells n more =

@@ -12,6 +12,5 @@ pub record MergedBelow (gs : List Aggregate) (held more row : Row) (i : ℕ) : T
 -- the places below i are those of one put
 pub record RowOfBelow (gs : List Aggregate) (vs : List ℤ) (row : Row) (i : ℕ) : Type 0 where
   pub wide : length row ≡ 8
-  pub cells : (place : ℕ) → place < i
-      → slice_index_or row place None
+  pub cells : (place : ℕ) → place < i → slice_index_or row place None
       ≡ Some (cell_of_one_put (slice_index_or gs place Count) (slice_index_or vs place (pos 0)))

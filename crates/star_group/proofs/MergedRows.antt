@@ -111,6 +111,5 @@ narrow_at width keys i d h are =
     at_each (IsNarrow width) keys (get_or keys i d) are (i, h, get_or_default keys i _ d h)
 
 -- room for some rows is room for one
-pub fewer_space : (rows : KeyedRows) (count : ℕ) → 1 ≤ count → HasSpace rows count
-    → HasSpace rows 1
+pub fewer_space : (rows : KeyedRows) (count : ℕ) → 1 ≤ count → HasSpace rows count → HasSpace rows 1
 fewer_space rows count some space = grind (arith, mul-le-mul_right)

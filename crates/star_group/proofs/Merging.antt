@@ -69,8 +69,7 @@ abbrev pub AreSplit : (Update → Bool) → (Update → Bool) → (Update → Bo
 AreSplit ta tb tc us = AllByRecursion (λ u. (tc u ≡ (ta u || tb u)) × ((ta u && tb u) ≡ false)) us
 
 pub held_parts : (g : Aggregate) (place : ℕ) (ta tb tc : Update → Bool) (us : List Update)
-    → AreSplit ta tb tc us
-    → held g (numbers_for place (filter tc us))
+    → AreSplit ta tb tc us → held g (numbers_for place (filter tc us))
     ≡ merged g (held g (numbers_for place (filter ta us)))
     (held g (numbers_for place (filter tb us)))
 held_parts g place ta tb tc [] parts =

@@ -38,8 +38,7 @@ module _ (place count : ℕ) (ks : List KeyValue) (within : place < count) (few 
       (vary (count - (place + 1)) (drop (place + 1) (padded 6 ks))) some.0 some.1 some.2 in
       record {
         rest = at.0;
-        is =
-            (key_decides k some.1).0 some.3 ∙ sym at.2
+        is = (key_decides k some.1).0 some.3 ∙ sym at.2
             ∙ ap (λ n. take n (padded 6 ks) ++ at.0) next;
       }
 
@@ -70,8 +69,7 @@ apart_at (suc n) (suc count) (suc place) (k ∷ ks) rest h few within =
       shown = k ∷ a.shown;
       key = a.key;
       rest = a.rest;
-      hidden_key =
-          ap (λ q. Some k ∷ q) a.hidden_key;
+      hidden_key = ap (λ q. Some k ∷ q) a.hidden_key;
       shown_key = ap (λ q. Some k ∷ q) a.shown_key;
     }
 
@@ -251,8 +249,7 @@ module _ (d : Group) (us : List Update) (place : ℕ) (within : place < d.count)
           let mine = some_at (λ k. key_eq q (hide place k)) own
           (sym (any_mapped (hide place) (key_eq q) own) ∙ parts.1) in
           let among : list_any (key_eq mine.1) own ≡ true =
-          any_passes_from_place (key_eq mine.1) own mine.0 mine.1 mine.2
-          (key_equiv.refl mine.1) in
+          any_passes_from_place (key_eq mine.1) own mine.0 mine.1 mine.2 (key_equiv.refl mine.1) in
           let is : q ≡ hide place mine.1 = (key_decides q (hide place mine.1)).0 mine.3 in
           let made : Made (hide place mine.1) ≡ true = ap Made (sym is) ∙ parts.0 in
           let in_row : In mine.1 u.keys ≡ true =
@@ -302,11 +299,9 @@ module _ (d : Group) (us : List Update) (place : ℕ) (within : place < d.count)
     pub all_merged : IsRolledUp d place (es ++ fs) us
     all_merged = record {
       fit = rolled.fit;
-      rows = λ q. subst (λ ps. IsRowOver d ps (row_found (es ++ fs) q))
-          (filter_each us (now_in q))
+      rows = λ q. subst (λ ps. IsRowOver d ps (row_found (es ++ fs) q)) (filter_each us (now_in q))
           (joined us In Made (hide place) es apart (length es) d fs rolled.rows over q);
-      once = once_joined es fs rolled.once once
-          (of_each _ fs new_key);
+      once = once_joined es fs rolled.once once (of_each _ fs new_key);
     }
 
   -- in a rollup no row has a coarser key with ALL one place before: the key at this place is shown
@@ -366,8 +361,7 @@ module _ (shape : Shape) (count : ℕ) (gs : List Aggregate) (place : ℕ) (es :
       subst (λ n. IsMergedSoFar shape count gs place es n []) next (λ puts below few rolled.
       left_out puts (is_among shape (place + 1) count) (IsMade shape count) (hide place) es
       (keys_apart shape puts place count (omega (arith, below)) few rolled.fit)
-      (once_at es rolled.once) j
-      (get_or es j ([], [])) (slice_get-get_or es j ([], []) here) d
+      (once_at es rolled.once) j (get_or es j ([], [])) (slice_get-get_or es j ([], []) here) d
       (none j (omega arith)) [] (before puts below few rolled))
 
   pub rolls_up : (fs : List Entry) → AreOnce fs
@@ -392,8 +386,7 @@ module _ (shape : Shape) (count : ℕ) (gs : List Aggregate) (place : ℕ) (es :
             let within : place < count = omega (arith, r.below) in
             stays_one r.puts (is_among shape (place + 1) count) (IsMade shape count) (hide place) es
             (keys_apart shape r.puts place count within r.few r.rows.fit)
-            (once_at es r.rows.once) j e at d
-            (ap (IsMade shape count) (sym is_key) ∙ grouping)
+            (once_at es r.rows.once) j e at d (ap (IsMade shape count) (sym is_key) ∙ grouping)
             (row_over d r.puts place within r.few es r.rows j e at) before key is_key r.room
             (over r.puts r.below r.few r.rows)
 

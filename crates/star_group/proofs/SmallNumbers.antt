@@ -153,7 +153,6 @@ few_sides place (u ∷ us) all =
 
 pub few_room : (d : Group) (us : List Update) → All (λ u. All (λ z. is_i64 z ≡ true) u.values) us
     → length us < 2 ^ 63 → HasRoom d us
-few_room d us all few =
-    small_room d us
+few_room d us all few = small_room d us
     (λ place h same. let sides = few_sides place us all in
     record { above = omega (arith, sides.0, few); below = omega (arith, sides.1, few) }) few

@@ -54,8 +54,7 @@ small ss ks i j most h = grind (arith, fewer, within)
 -- ---- one key more in front
 
 pub more : (ss : List Span) (ks : List KeyValue) (i : ℕ) (s : Span) (k : KeyValue) → i < length ss
-    → i < length ks
-    → cell_place (drop i ss) (drop i ks)
+    → i < length ks → cell_place (drop i ss) (drop i ks)
     ≡ above (offset_of (get_or ss i s) (get_or ks i k)) ((get_or ss i s).last + 1)
     (cell_place (drop (suc i) ss) (drop (suc i) ks))
 more [] ks i s k h l = absurd (omega (arith, h))
@@ -96,8 +95,7 @@ first_of s ss (k ∷ ks) p e =
       keys = ks;
       are = refl;
       offset = parts.1 ∙ ap Some (sym left);
-      behind =
-          parts.2.is_rest ∙ ap Some (sym over);
+      behind = parts.2.is_rest ∙ ap Some (sym over);
     }
 
 pub next_place : (ss : List Span) (i : ℕ) (s : Span) (ks : List KeyValue) (p : ℕ) → i < length ss
@@ -126,8 +124,7 @@ all_kept (s ∷ ss) (k ∷ ks) p e = ap (λ x. k ∷ x) (all_kept ss ks p e)
 
 pub places_more : (ss : List Span) (s : Span) → places (ss ++ s ∷ []) ≡ places ss * (s.last + 1)
 places_more [] s = omega arith
-places_more (t ∷ ss) s =
-    ap (λ n. (t.last + 1) * n) (places_more ss s)
+places_more (t ∷ ss) s = ap (λ n. (t.last + 1) * n) (places_more ss s)
     ∙ sym (mul_assoc (t.last + 1) (places ss) (s.last + 1))
 
 pub room_left : (count size left most : ℕ) → count * left ≤ most

@@ -107,14 +107,12 @@ module _ (width : ℕ) (ks : List (List KeyPart)) (links : List (List ℕ)) (key
         at n e same leads (inl deeper) = let more = leads.steps depth deeper in
             omega (arith, more, next_is, empty)
         at n zero same leads (inr h) = first n leads
-        at n (suc e) same leads (inr h) =
-            down.others e (omega (arith, h))
+        at n (suc e) same leads (inr h) = down.others e (omega (arith, h))
             (ap (λ m. key_at ks (m - 1)) leads.end
             ∙ ap (key_at ks) (let b : n + 1 - 1 ≡ n = omega arith in b) ∙ same)
 
         none : (n : ℕ) → n < length ks → key_at ks n ≡ key → ⊥
-        none n h same =
-            ∥∥₁_elim (trie.reached n h) no_prop
+        none n h same = ∥∥₁_elim (trie.reached n h) no_prop
             (λ r. at n r.0 same (subst (λ k. Leads width links k r.0 (n + 1)) same r.1)
             (cases_lt depth r.0))
 
@@ -193,8 +191,7 @@ module _ (width : ℕ) (ks : List (List KeyPart)) (links : List (List ℕ)) (key
       → node_at width (linked links node digit) k depth ≡ node_at width links k depth
   unfolding node_at
   path_stays k zero steps = refl
-  path_stays k (suc d) steps =
-      ap (λ m. child (linked links node digit) m (digit_at width k d))
+  path_stays k (suc d) steps = ap (λ m. child (linked links node digit) m (digit_at width k d))
       (path_stays k d (λ i h. steps i (omega (arith, h))))
       ∙ stays (node_at width links k d) (digit_at width k d) (steps d (omega arith))
 
@@ -249,8 +246,7 @@ module _ (width : ℕ) (ks : List (List KeyPart)) (links : List (List ℕ)) (key
         where
           by : (m ≡ node) ⊎ (m ≡ node → ⊥) → (m < length links) ⊎ (length links ≤ m)
               → length (get_or (linked links node digit) m []) ≡ 4
-          by (inl e) c =
-              ap (λ k. length (get_or (linked links node digit) k [])) e
+          by (inl e) c = ap (λ k. length (get_or (linked links node digit) k [])) e
               ∙ ap length (get_or-set_same (links ++ fresh ∷ []) node _ []
               (omega (arith, slot.within, more_links)))
               ∙ length-set (get_or (links ++ fresh ∷ []) node []) digit (length links)
@@ -321,8 +317,7 @@ module _ (width : ℕ) (ks : List (List KeyPart)) (links : List (List ℕ)) (key
   -- as the code writes it
   pub is_trie_after : (fs : List (List KeyPart)) (ls : List (List ℕ)) (inner default : List ℕ)
       (number : ℕ) → fs ≡ ks ++ key ∷ [] → ls ≡ links ++ fresh ∷ [] → inner ≡ get_or ls node default
-      → number ≡ length links
-      → IsTrie width fs (set ls node (set inner digit number))
+      → number ≡ length links → IsTrie width fs (set ls node (set inner digit number))
   is_trie_after fs ls inner default number rows more at is =
       let there : node < length ls = omega (arith, slot.within, ap length more, more_links) in
       let first : inner ≡ get_or ls node [] = at ∙ get_or_default ls node default [] there in

@@ -6,10 +6,10 @@ ghost use Rattle.star_program.specs.Puts.{Update};
 ghost use Rattle.star_schema.specs.Groups as groups;
 ghost use Rattle.star_group.specs.Private.Given as spec;
 
+use crate::KeyValue;
 use crate::cell::{Held, shown};
 use crate::keyed::ListedRows;
 use crate::keyed::key::{ALL_HIDDEN, is_grouping};
-use crate::{KeyValue, RowAggregates};
 use star_schema::{Aggregate, Shape};
 use std::alloc::AllocError;
 use std::marker::Model;
@@ -20,21 +20,26 @@ use std::marker::Model;
 pub struct GroupRows {
     key_count: usize,
     rows: ListedRows,
-    // The aggregates over no puts, if the rows are made of none.
-    nothing: Option<RowAggregates>,
+    // The aggregates over no puts, if the rows are made of none: as many as a row has.
+    nothing: Option<[Option<i128>; 8]>,
 }
 
 impl Model for GroupRows {
-    ghost use Rattle.std.specs.Prelude.{◌≤◌, List, map};
+    ghost use Rattle.std.specs.Prelude.{◌≤◌, List, map, take};
+    ghost use Rattle.std.specs.Option.{option_map};
+    ghost use Rattle.star_schema.specs.Groups.{GroupRow};
+    ghost use Rattle.star_program.specs.declared.key.KeyValue.{KeyValue};
     ghost use Rattle.star_group.specs.Private.Given.{row_shown};
     ghost use Rattle.star_group.specs.Entries.{listed_entries};
-    ghost use Rattle.star_group.specs.declared.group_row.GroupRow.{GroupRow as Row};
 
-    ghost Value = { List Row };
+    ghost Value = { List (GroupRow KeyValue) };
 
-    ghost view = { λ rows. map (row_shown rows.nothing rows.key_count) (listed_entries rows.rows) };
+    ghost view = { λ rows. map
+        (row_shown (option_map (λ row. take rows.rows.aggregate_count row) rows.nothing)
+        rows.key_count)
+        (listed_entries rows.rows) };
 
-    ghost invariant = { λ rows. rows.key_count ≤ 6 };
+    ghost invariant = { λ rows. (rows.key_count ≤ 6) × (rows.rows.aggregate_count ≤ 8) };
 }
 
 // The aggregate at a place, if there is one.
@@ -70,13 +75,13 @@ impl GroupRows {
     /// The aggregate at a place of the row of a number from 0, in which `None` is NULL; `None` if
     /// there is no such place or row.
     pub fn aggregate(&self, number: usize, place: usize) -> Option<i128>
-        ensures { result ≡ slice_index_or (row_at self.now number).aggregates place None }
+        ensures { result ≡ slice_index_or (row_at self.now number).totals place None }
     {
         match &self.nothing {
             None => self.rows.cell(number, place),
-            Some(aggregates) => {
+            Some(row) => {
                 if number < self.rows.len() {
-                    aggregate_at(aggregates.as_slice(), place)
+                    aggregate_at(&row[..self.rows.aggregate_count], place)
                 } else {
                     None
                 }
@@ -86,15 +91,15 @@ impl GroupRows {
 }
 
 // The shown cells of aggregates over no puts.
-fn over_nothing(aggregates: &[Aggregate]) -> RowAggregates
+fn over_nothing(aggregates: &[Aggregate]) -> [Option<i128>; 8]
     requires { length aggregates.now ≤ 8 }
-    ensures { result ≡ map (λ g. spec.shown g None) aggregates.now }
+    ensures { take (length aggregates.now) result ≡ map (λ g. spec.shown g None) aggregates.now }
 {
     let mut row = [None; 8];
     for place in 0..aggregates.len() {
         row[place] = shown(aggregates[place], None);
     }
-    RowAggregates::new(row, aggregates.len())
+    row
 }
 
 // The row of all keys hidden over no puts, if that is a grouping.

@@ -1,39 +1,30 @@
 -- Products of held numbers, and held numbers taken n times.
-use Rattle.std.proofs.Common.{ℕ, suc, ◌+◌, ◌*◌, ◌≤◌, refl, subst, arith, ℤ, pos, negsuc, ◌*ℤ◌, ◌≤ℤ◌}
-use Rattle.std.proofs.{lemmas.Int.ints, lemmas.Int.clamps, Math.Nat.mul-le-mul_left, Math.IntN.*ℤ_comm}
+use Rattle.std.proofs.{Common.ℕ, Common.◌+◌, Common.◌*◌, Common.◌≤◌, Common.arith, Common.ℤ, Common.pos, Common.negsuc, Common.◌*ℤ◌, Common.◌≤ℤ◌, Common.rules, lemmas.Int.ints, lemmas.Int.clamps, Math.Nat.mul-le-mul_left, Math.IntN.*ℤ_comm, lemmas.Grind.common_steps}
 use borrow.Author.Differences.{up, down, le_out}
-use Rattle.star_interval.specs.Range.{Range, Holds, IsOrdered, IsWithin, IsLeast, IsResult, IsMultiple, only, hull, corner_range, multiple_range}
-use Rattle.star_interval.specs.Laws.{KeepsValues, KeepsOrder}
-use Rattle.star_interval.proofs.Ranges.{holds_low, holds_high, holds_within, hulls_within, within_only, least_corners, corners_within}
+use Rattle.star_interval.specs.{Range.Range, Range.Holds, Range.IsOrdered, Range.IsWithin, Range.IsLeast, Range.IsResult, Range.IsMultiple, Range.only, Range.hull, Range.corner_range, Range.multiple_range, Laws.KeepsValues, Laws.KeepsOrder}
+use Rattle.star_interval.proofs.Ranges.{holds_within, hulls_within, within_only, least_corners, corners_within}
 
 -- a product grows with a factor where the other one is not negative
 pub mul_grows : (n : ℕ) (a b : ℤ) → a ≤ℤ b → (a *ℤ pos n) ≤ℤ (b *ℤ pos n)
-mul_grows n a b h =
-    let m : n * (up a + down b) ≤ n * (up b + down a) =
-    mul-le-mul_left n (le_out a b h) in omega (arith, ints, m)
+mul_grows n a b h = grind (arith, ints, up, down, mul-le-mul_left, le_out)
 
 -- and falls where it is negative
 pub mul_falls : (n : ℕ) (a b : ℤ) → a ≤ℤ b → (b *ℤ negsuc n) ≤ℤ (a *ℤ negsuc n)
-mul_falls n a b h =
-    let m : suc n * (up a + down b) ≤ suc n * (up b + down a) =
-    mul-le-mul_left (suc n) (le_out a b h) in omega (arith, ints, m)
+mul_falls n a b h = grind (arith, ints, up, down, mul-le-mul_left, le_out)
 
 -- ---- products
 
 -- a number between two others lies in their hull, whichever is the lesser
 between_up : (l m r : ℤ) → l ≤ℤ m → m ≤ℤ r → Holds (hull (only l) (only r)) m
-between_up l m r p q =
-    record { from = omega (arith, ints, clamps); to = omega (arith, ints, clamps) }
+between_up l m r p q = grind (arith, ints, clamps)
 
 between_down : (l m r : ℤ) → r ≤ℤ m → m ≤ℤ l → Holds (hull (only l) (only r)) m
-between_down l m r p q =
-    record { from = omega (arith, ints, clamps); to = omega (arith, ints, clamps) }
+between_down l m r p q = grind (arith, ints, clamps)
 
 -- a product lies between those of the left factor's ends
 between_left : (r : Range) (x y : ℤ) → Holds r x
     → Holds (hull (only (r.low *ℤ y)) (only (r.high *ℤ y))) (x *ℤ y)
-between_left r x (pos n) held =
-    between_up _ _ _ (mul_grows n r.low x held.from) (mul_grows n x r.high held.to)
+between_left r x (pos n) held = search (rules, between_up, mul_grows)
 between_left r x (negsuc n) held =
     between_down _ _ _ (mul_falls n x r.high held.to) (mul_falls n r.low x held.from)
 
@@ -47,8 +38,7 @@ pub products_held : KeepsValues ◌*ℤ◌ (corner_range ◌*ℤ◌)
 products_held a b x y p q =
     holds_within (hull (only (a.low *ℤ y)) (only (a.high *ℤ y))) (corner_range ◌*ℤ◌ a b) (x *ℤ y)
     (hulls_within _ _ _ _ (within_only _ _ (between_right b a.low y q))
-    (within_only _ _ (between_right b a.high y q)))
-    (between_left a x y p)
+    (within_only _ _ (between_right b a.high y q))) (between_left a x y p)
 
 pub least_products : (a b : Range) → IsOrdered a → IsOrdered b
     → IsLeast (IsResult ◌*ℤ◌ a b) (corner_range ◌*ℤ◌ a b)
@@ -61,25 +51,12 @@ products_within = corners_within ◌*ℤ◌ products_held
 
 pub multiples_held : (n : ℕ) (r : Range) (z : ℤ) → Holds r z
     → Holds (multiple_range n r) (pos n *ℤ z)
-multiples_held n r z held = record {
-  from = rw (*ℤ_comm (pos n) r.low, *ℤ_comm (pos n) z) (mul_grows n r.low z held.from);
-  to = rw (*ℤ_comm (pos n) z, *ℤ_comm (pos n) r.high) (mul_grows n z r.high held.to);
-}
-
-multiple_of : (n : ℕ) (r : Range) (z : ℤ) → Holds r z → IsMultiple n r (pos n *ℤ z)
-multiple_of n r z held = record { value = z; held = held; gives = refl }
+multiples_held n r z held = grind (arith, common_steps)
 
 pub least_multiples : (n : ℕ) (r : Range) → IsOrdered r
     → IsLeast (IsMultiple n r) (multiple_range n r)
-least_multiples n r ordered = record {
-  holds = λ z m. subst (Holds (multiple_range n r)) m.gives (multiples_held n r m.value m.held);
-  low = multiple_of n r r.low (holds_low r ordered);
-  high = multiple_of n r r.high (holds_high r ordered);
-}
+least_multiples n r ordered = grind (arith, common_steps)
 
 pub multiples_within : (n : ℕ) (a b : Range) → IsWithin a b
     → IsWithin (multiple_range n a) (multiple_range n b)
-multiples_within n a b inside = record {
-  from = rw (*ℤ_comm (pos n) b.low, *ℤ_comm (pos n) a.low) (mul_grows n b.low a.low inside.from);
-  to = rw (*ℤ_comm (pos n) a.high, *ℤ_comm (pos n) b.high) (mul_grows n a.high b.high inside.to);
-}
+multiples_within n a b inside = grind (arith, common_steps)

@@ -1,7 +1,7 @@
 -- Ranges that hold a number or lie in one another, least ranges, and what is so of any operation's
 -- corners.
-use Rattle.std.proofs.Common.{◌≡◌, ◌⊎◌, inl, inr, ⊎_elim, true, false, cond, refl, sym, subst, arith, ℤ, pos, negsuc, ◌≤ℤ◌, int_lt, FitsSigned, w64, IsTrue, ◌↔◌, ◌^◌}
-use Rattle.std.proofs.{lemmas.Bool.ltb-true, lemmas.Bool.lt-ltb, lemmas.Bool.and_parts, lemmas.Bool.and_from, lemmas.Int.ints, lemmas.Int.clamps}
+use Rattle.std.proofs.Common.{◌≡◌, ◌⊎◌, true, false, cond, refl, sym, subst, arith, ℤ, pos, negsuc, ◌≤ℤ◌, int_lt, FitsSigned, w64, IsTrue, ◌↔◌, ◌^◌, rules}
+use Rattle.std.proofs.{lemmas.Bool.ltb-true, lemmas.Bool.lt-ltb, lemmas.Bool.and_parts, lemmas.Bool.and_from, lemmas.Int.ints, lemmas.Int.clamps, lemmas.Grind.common_steps}
 use Rattle.std.specs.Int.{Width, w128, int_min, int_max}
 use Rattle.star_interval.specs.Range.{Range, Holds, IsOrdered, IsWithin, FitsI64, is_i64, fits_i64, FitsI128, is_i128, IsLeast, IsResult, only, hull, corner_range}
 use Rattle.star_interval.specs.{Laws.KeepsValues, Laws.KeepsOrder}
@@ -23,12 +23,10 @@ holds_only n z same = record { from = omega (arith, ints); to = omega (arith, in
 
 fits_between : (w : Width) (low high z : ℤ) → FitsSigned w low → FitsSigned w high
     → low ≤ℤ z → z ≤ℤ high → FitsSigned w z
-fits_between w low (pos h) (pos n) f g p q =
-    record { sfits = omega (arith, ints, f.sfits, g.sfits) }
+fits_between w low (pos h) (pos n) f g p q = grind (arith, ints)
 fits_between w low (negsuc h) (pos n) f g p q = absurd (omega (arith, ints))
 fits_between w (pos l) high (negsuc n) f g p q = absurd (omega (arith, ints))
-fits_between w (negsuc l) high (negsuc n) f g p q =
-    record { sfits = omega (arith, ints, f.sfits, g.sfits) }
+fits_between w (negsuc l) high (negsuc n) f g p q = grind (arith, ints)
 
 -- a range of 64 bits holds numbers of 64 bits alone, and one of 128 bits those of 128 bits
 pub fits_held : (r : Range) (z : ℤ) → FitsI64 r → Holds r z → FitsSigned w64 z
@@ -40,26 +38,16 @@ fits_i128_held r z fits held = fits_between w128 r.low r.high z fits.0 fits.1 he
 -- the tests are true of numbers of their bits, and of ranges of 64 bits, alone
 pub is_i64_fits : (z : ℤ) → IsTrue (is_i64 z) ↔ FitsSigned w64 z
 unfolding is_i64
-is_i64_fits (pos n) =
-    (λ e. record { sfits = ltb-true n (2 ^ 63) e }, λ f. lt-ltb n (2 ^ 63) f.sfits)
-is_i64_fits (negsuc n) =
-    (λ e. record { sfits = ltb-true n (2 ^ 63) e }, λ f. lt-ltb n (2 ^ 63) f.sfits)
+is_i64_fits (pos n) = grind (arith, ltb-true, lt-ltb)
+is_i64_fits (negsuc n) = grind (arith, ltb-true, lt-ltb)
 
 pub is_i128_fits : (z : ℤ) → IsTrue (is_i128 z) ↔ FitsSigned w128 z
 unfolding is_i128
-is_i128_fits (pos n) =
-    (λ e. record { sfits = ltb-true n (2 ^ 127) e }, λ f. lt-ltb n (2 ^ 127) f.sfits)
-is_i128_fits (negsuc n) =
-    (λ e. record { sfits = ltb-true n (2 ^ 127) e }, λ f. lt-ltb n (2 ^ 127) f.sfits)
+is_i128_fits (pos n) = grind (arith, ltb-true, lt-ltb)
+is_i128_fits (negsuc n) = grind (arith, ltb-true, lt-ltb)
 
 pub fits_i64_fits : (r : Range) → IsTrue (fits_i64 r) ↔ FitsI64 r
-fits_i64_fits r = (
-  λ e. let both =
-      and_parts (is_i64 r.low) (is_i64 r.high) e in
-      ((is_i64_fits r.low).0 both.0, (is_i64_fits r.high).0 both.1),
-  λ f. and_from (is_i64 r.low) (is_i64 r.high) ((is_i64_fits r.low).1 f.0)
-      ((is_i64_fits r.high).1 f.1),
-)
+fits_i64_fits r = grind (arith, and_parts, is_i64_fits, and_from)
 
 -- ---- one range in another
 
@@ -73,55 +61,42 @@ pub within_only : (r : Range) (z : ℤ) → Holds r z → IsWithin (only z) r
 within_only r z held = record { from = held.from; to = held.to }
 
 pub within_hull_left : (a b : Range) → IsWithin a (hull a b)
-within_hull_left a b =
-    record { from = omega (arith, ints, clamps); to = omega (arith, ints, clamps) }
+within_hull_left a b = grind (arith, ints, clamps)
 
 pub within_hull_right : (a b : Range) → IsWithin b (hull a b)
-within_hull_right a b =
-    record { from = omega (arith, ints, clamps); to = omega (arith, ints, clamps) }
+within_hull_right a b = grind (arith, ints, clamps)
 
 pub hull_within : (a b c : Range) → IsWithin a c → IsWithin b c → IsWithin (hull a b) c
-hull_within a b c p q =
-    record { from = omega (arith, ints, clamps); to = omega (arith, ints, clamps) }
+hull_within a b c p q = grind (arith, ints, clamps)
 
 -- ---- hulls of held numbers, and of smaller ranges
 
 pub hulls_held : (a b : Range) (z : ℤ) → Holds a z ⊎ Holds b z → Holds (hull a b) z
-hulls_held a b z =
-    ⊎_elim (holds_within a (hull a b) z (within_hull_left a b))
-    (holds_within b (hull a b) z (within_hull_right a b))
+hulls_held a b z = grind (arith, holds_within, within_hull_left, within_hull_right)
 
 pub hulls_within : (a b c d : Range) → IsWithin a c → IsWithin b d → IsWithin (hull a b) (hull c d)
-hulls_within a b c d p q =
-    hull_within a b (hull c d)
-    (within_trans a c (hull c d) p (within_hull_left c d))
-    (within_trans b d (hull c d) q (within_hull_right c d))
+hulls_within a b c d p q = grind (arith, common_steps)
 
 pub hulls_held_with : (r : Range) (n z : ℤ) → Holds r z ⊎ (z ≡ n) → Holds (hull r (only n)) z
-hulls_held_with r n z =
-    ⊎_elim (λ held. hulls_held r (only n) z (inl held))
-    (λ same. hulls_held r (only n) z (inr (holds_only n z same)))
+hulls_held_with r n z = grind (arith, common_steps)
 
 pub hulls_within_with : (n : ℤ) (a b : Range) → IsWithin a b
     → IsWithin (hull a (only n)) (hull b (only n))
-hulls_within_with n a b inside =
-    hulls_within a (only n) b (only n) inside (within_only (only n) n (holds_only n n refl))
+hulls_within_with n a b inside = grind (arith, common_steps)
 
 -- ---- least ranges
 
 -- the least range lies in each that holds the same numbers
 pub least_within : (Kind : ℤ → Type 0) (r s : Range) → IsLeast Kind r
     → ((z : ℤ) → Kind z → Holds s z) → IsWithin r s
-least_within Kind r s least held =
-    record { from = (held r.low least.low).from; to = (held r.high least.high).to }
+least_within Kind r s least held = grind arith
 
 pub least_same : (Kind : ℤ → Type 0) (r s : Range) → r ≡ s → IsLeast Kind s → IsLeast Kind r
 least_same Kind r s same least = subst (IsLeast Kind) (sym same) least
 
 -- a range is the least that holds its own numbers
 pub least_held : (r : Range) → IsOrdered r → IsLeast (Holds r) r
-least_held r ordered =
-    record { holds = λ z held. held; low = holds_low r ordered; high = holds_high r ordered }
+least_held r ordered = grind (arith, holds_low, holds_high)
 
 pub least_only : (n : ℤ) → IsLeast (λ z. z ≡ n) (only n)
 least_only n = record { holds = holds_only n; low = refl; high = refl }
@@ -136,19 +111,13 @@ of_max P x y px py = elim (int_lt y x) as (λ b. P (cond b x y)) [ true ↦ px |
 -- the hull of the least ranges of two kinds is the least range of both
 pub least_hull : (K L : ℤ → Type 0) (a b : Range) → IsLeast K a → IsLeast L b
     → IsLeast (λ z. K z ⊎ L z) (hull a b)
-least_hull K L a b p q = record {
-  holds = λ z. ⊎_elim (λ k. hulls_held a b z (inl (p.holds z k)))
-      (λ l. hulls_held a b z (inr (q.holds z l)));
-  low = of_min (λ z. K z ⊎ L z) a.low b.low (inl p.low) (inr q.low);
-  high = of_max (λ z. K z ⊎ L z) a.high b.high (inl p.high) (inr q.high);
-}
+least_hull K L a b p q = search (rules, hulls_held, of_min, of_max)
 
 -- ---- corners
 
 result_of : (op : ℤ → ℤ → ℤ) (a b : Range) (x y : ℤ) → Holds a x → Holds b y
     → IsResult op a b (op x y)
-result_of op a b x y p q =
-    record { left = x; right = y; left_held = p; right_held = q; gives = refl }
+result_of op a b x y p q = grind arith
 
 -- where the range over the corners holds every result, it is the least that does
 pub least_corners : (op : ℤ → ℤ → ℤ) → KeepsValues op (corner_range op)

@@ -1,16 +1,13 @@
 -- Sums and differences of held numbers.
 use Rattle.std.proofs.{Common.◌≡◌, Common.arith, Common.◌+ℤ◌, Common.◌-ℤ◌, lemmas.Int.ints, lemmas.Int.clamps}
-use Rattle.star_interval.specs.Range.{Range, IsOrdered, IsLeast, IsResult, corner_range}
-use Rattle.star_interval.specs.{Laws.KeepsValues, Laws.KeepsOrder}
+use Rattle.star_interval.specs.{Range.Range, Range.IsOrdered, Range.IsLeast, Range.IsResult, Range.corner_range, Laws.KeepsValues, Laws.KeepsOrder}
 use Rattle.star_interval.proofs.Ranges.{least_corners, corners_within}
 
 pub sums_held : KeepsValues ◌+ℤ◌ (corner_range ◌+ℤ◌)
-sums_held a b x y p q =
-    record { from = omega (arith, ints, clamps); to = omega (arith, ints, clamps) }
+sums_held a b x y p q = grind (arith, ints, clamps)
 
 pub differences_held : KeepsValues ◌-ℤ◌ (corner_range ◌-ℤ◌)
-differences_held a b x y p q =
-    record { from = omega (arith, ints, clamps); to = omega (arith, ints, clamps) }
+differences_held a b x y p q = grind (arith, ints, clamps)
 
 pub least_sums : (a b : Range) → IsOrdered a → IsOrdered b
     → IsLeast (IsResult ◌+ℤ◌ a b) (corner_range ◌+ℤ◌ a b)

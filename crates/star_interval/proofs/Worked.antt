@@ -1,8 +1,7 @@
 -- Ranges of a few numbers, by computation: which ranges are made of them, and what each word says.
 use Rattle.std.proofs.Common.{◌≡◌, ◌↔◌, ℕ, ℤ, List, [], ◌∷◌, true, false, map, pos, negsuc, refl, Ok, Err, w64}
-use Rattle.std.specs.Prelude.{◌≤ℤ◌, ◌-ℤ◌, ◌*ℤ◌, FitsSigned, codes}
-use Rattle.std.specs.{Fmt.digits}
-use Rattle.star_interval.specs.Range.{FitsI128, FitsI64, Holds, IsLeast, IsMultiple, IsOrdered, IsResult, IsWithin, Range, corner_range, fits_i64, hull, is_i128, is_i64, multiple_range, only, text_of}
+use Rattle.std.specs.{Prelude.◌≤ℤ◌, Prelude.◌-ℤ◌, Prelude.◌*ℤ◌, Prelude.FitsSigned, Prelude.codes, Fmt.digits}
+use Rattle.star_interval.specs.Range.{FitsI64, Holds, IsLeast, IsMultiple, IsOrdered, IsResult, IsWithin, Range, corner_range, fits_i64, hull, is_i128, is_i64, multiple_range, only, text_of}
 use Rattle.star_interval.specs.{declared.Interval.Interval, declared.Wide.Wide, Interval.bounds_of, Interval.range_of, Interval.wide_range_of, Laws.KeepsOrder, Laws.KeepsValues}
 
 abbrev from_to : ℤ → ℤ → Range

@@ -39,8 +39,7 @@ all_decodable db (d ∷ ds) = (tt, all_decodable db ds)
 pub group_decodable : (db : Database) (s : Shape) (ds : List GroupKey) (us : List Update)
     (keys : List (Option KeyValue)) → AllByRecursion (λ u. AreSoundKeys db ds u.keys) us
     → IsGroup s (length ds) us keys → AreDecodable db ds keys
-group_decodable db s ds us keys sound (shown, inl is) =
-    masked_decodable db ds keys is.0.keys is.2
+group_decodable db s ds us keys sound (shown, inl is) = masked_decodable db ds keys is.0.keys is.2
     (at_each (λ u. AreSoundKeys db ds u.keys) us is.0 sound is.1)
 group_decodable db s ds us keys sound (shown, inr all) =
     subst (AreDecodable db ds) (sym all) (all_decodable db ds)
@@ -48,10 +47,8 @@ group_decodable db s ds us keys sound (shown, inr all) =
 -- ---- a key at a place
 
 pub decoded_at : (db : Database) (ds : List GroupKey) (ks : List (Option KeyValue)) (place : ℕ)
-    → AreDecodable db ds ks
-    → get_or (decoded_keys (world_of db) ds ks) place None
-    ≡ option_map (decoded (world_of db) (get_or ds place declared.Number))
-    (get_or ks place None)
+    → AreDecodable db ds ks → get_or (decoded_keys (world_of db) ds ks) place None
+    ≡ option_map (decoded (world_of db) (get_or ds place declared.Number)) (get_or ks place None)
 decoded_at db [] [] place h = refl
 decoded_at db [] (k ∷ ks) place h = absurd h
 decoded_at db (d ∷ ds) [] place h = absurd h
@@ -84,8 +81,7 @@ same_values db (declared.Text c) (Code m) (Code n) sound_a sound_b =
     (slice_get-get_or texts n [] sound_b.1))
 
 same_keys : (db : Database) (d : GroupKey) (a b : Option KeyValue) → IsDecodable db d a
-    → IsDecodable db d b
-    → key_cmp value_cmp (option_map (decoded (world_of db) d) a)
+    → IsDecodable db d b → key_cmp value_cmp (option_map (decoded (world_of db) d) a)
     (option_map (decoded (world_of db) d) b) ≡ key_cmp by_code.key_value_cmp a b
 same_keys db d (Some a) (Some b) sound_a sound_b = same_values db d a b sound_a sound_b
 same_keys db d (Some a) None sound_a sound_b = refl

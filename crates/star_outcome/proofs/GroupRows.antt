@@ -4,15 +4,15 @@ use Rattle.std.proofs.{lemmas.List.get_or-map, lemmas.List.length-map, lemmas.Li
 use Rattle.std.specs.{Prelude.IsPermutation, Prelude.replicate, List.AllByRecursion, List.Contains, List.filter, Option.is_some, declared.cmp.Ordering.Ordering}
 use Rattle.star_schema.specs.Groups.{AreGroups, Entry, GroupRow as Row, IsGroup, aggregate, belongs, joined, joined_with, members, totals_from}
 use Rattle.star_schema.specs.{declared.group.Aggregate.Aggregate, declared.group.Aggregate.TheVariants.Sum, declared.group.Aggregate.TheVariants.Count, declared.group.Aggregate.TheVariants.Min, declared.group.Aggregate.TheVariants.Max, declared.group.Shape.Shape}
-use Rattle.star_common.proofs.Members.{at_each, contains_cases, contains_here, contains_mapped, contains_none}
+use Rattle.star_common.proofs.Members.{at_each, contains_cases, contains_here, contains_none}
 use Rattle.star_program.specs.{declared.key.KeyValue.KeyValue, Keys.key_value_cmp, Puts.Update}
-use Rattle.star_group.specs.{declared.group_row.GroupRow.GroupRow, Held.has_puts, StoreRows.AreRows, StoreRows.row_view, Stores.Group}
+use Rattle.star_group.specs.{Held.has_puts, StoreRows.AreRows, Stores.Group}
 use Rattle.star_group.proofs.GroupKeys.{key_decides, masked_length, own_belongs}
 use Rattle.star_outcome.proofs.{RowOrders.AreAlike, SortedRows.AreApart, SortedRows.keys_of_row}
 
 -- ---- apart
 
-pub rows_apart : (d : Group) (puts : List Update) (rows : List GroupRow) → AreRows d puts rows
+pub rows_apart : (d : Group) (puts : List Update) (rows : List (Row KeyValue)) → AreRows d puts rows
     → AreApart rows
 rows_apart d puts [] are =
     IsDistinct-from_AllPairs key_decides [] (λ i j k before within. absurd (omega (arith, within)))
@@ -98,14 +98,13 @@ group_wide d us keys fit (shown, inl is) =
     masked_length keys is.0.keys is.2 ∙ at_each (λ u. length u.keys ≡ d.count) us is.0 fit is.1
 group_wide d us keys fit (shown, inr all) = ap length all ∙ length-replicate d.count None
 
-pub groups_alike : (d : Group) (puts : List Update) (rows : List GroupRow)
+pub groups_alike : (d : Group) (puts : List Update) (rows : List (Row KeyValue))
     → AllByRecursion (λ u. length u.keys ≡ d.count) puts
-    → AreGroups key_value_cmp d.shape d.count d.aggregates puts (map row_view rows)
-    → (a b : GroupRow) → Contains rows a → Contains rows b
-    → AreAlike d.count (row_view a) (row_view b)
+    → AreGroups key_value_cmp d.shape d.count d.aggregates puts rows
+    → (a b : Row KeyValue) → Contains rows a → Contains rows b → AreAlike d.count a b
 groups_alike d puts rows fit are a b in_a in_b =
-    let group_a = are.each (row_view a) (contains_mapped row_view rows a in_a) in
-    let group_b = are.each (row_view b) (contains_mapped row_view rows b in_b) in
+    let group_a = are.each a in_a in
+    let group_b = are.each b in_b in
     let same = has_members d puts a.keys fit group_a.0
     ∙ sym (has_members d puts b.keys fit group_b.0) in
     record {

@@ -9,10 +9,10 @@ use Rattle.std.specs.{declared.cmp.Ordering.TheVariants.Greater}
 use Rattle.star_schema.specs.{declared.group.GroupColumn.GroupColumn, declared.group.Direction.Direction, declared.group.Direction.TheVariants.Ascending, declared.group.Direction.TheVariants.Descending, declared.group.SortKey.SortKey, Groups.GroupRow as Row, Order.key_cmp}
 use Rattle.star_common.proofs.Members.{from_contains_map}
 use Rattle.star_program.specs.{declared.key.KeyValue.KeyValue, Keys.key_value_cmp}
-use Rattle.star_group.specs.{declared.group_row.GroupRow.GroupRow, StoreRows.row_at, StoreRows.row_view}
+use Rattle.star_group.specs.StoreRows.{row_at}
 use Rattle.star_outcome.specs.Private.Leads.{all_lead, code_lead, code_lead_end, column_lead, directed, first_lead, greatest_lead, is_end, key_lead, least_lead, led_at, led_cmp, next_lead, null_lead, number_lead, total_lead}
 use Rattle.star_outcome.specs.{declared.outcome.leads.Led.Led, Private.RowOrder.column_order, Private.RowOrder.directed_order, Private.RowOrder.row_order, Private.RowOrder.sort_order}
-use Rattle.star_outcome.proofs.{RowOrders.row_total, SortedRows.shown_cmp, SortedRows.sorted_under}
+use Rattle.star_outcome.proofs.{RowOrders.row_total, SortedRows.sorted_under}
 use Rattle.star_schema.specs.declared.group.GroupColumn.TheVariants as column
 use Rattle.star_program.specs.declared.key.KeyValue.TheVariants as key
 
@@ -144,8 +144,7 @@ codes_exact m n end e =
 
 column_exact : (c : GroupColumn) (a b : Row KeyValue) → is_end (column_lead c a) ≡ false
     → column_lead c a ≡ column_lead c b → column_order c a b ≡ Equal
-column_exact (column.Key place) a b =
-    keys (get_or a.keys place None) (get_or b.keys place None)
+column_exact (column.Key place) a b = keys (get_or a.keys place None) (get_or b.keys place None)
   where
     keys : (a b : Option KeyValue) → is_end (key_lead a) ≡ false → key_lead a ≡ key_lead b
         → key_cmp key_value_cmp a b ≡ Equal
@@ -204,13 +203,13 @@ both_coarse Less n p e next = e
 both_coarse Equal n p e next = next refl
 both_coarse Greater n p e next = e
 
-led_finer : (sorts : List SortKey) (rows : List GroupRow) (i j : ℕ)
+led_finer : (sorts : List SortKey) (rows : List (Row KeyValue)) (i j : ℕ)
     → led_cmp sorts rows (led_at sorts rows i) (led_at sorts rows j)
-    ≡ shown_cmp sorts (row_at rows i) (row_at rows j)
+    ≡ row_order sorts (row_at rows i) (row_at rows j)
 led_finer [] rows i j = refl
 led_finer (sort ∷ sorts) rows i j =
-    let a = row_view (row_at rows i) in
-    let b = row_view (row_at rows j) in
+    let a = row_at rows i in
+    let b = row_at rows j in
     both_coarse (int_cmp (first_lead (sort ∷ sorts) a) (first_lead (sort ∷ sorts) b))
     (int_cmp (next_lead (sort ∷ sorts) a) (next_lead (sort ∷ sorts) b))
     (row_order (sort ∷ sorts) a b) (first_coarse (sort ∷ sorts) a b)
@@ -220,23 +219,23 @@ led_finer (sort ∷ sorts) rows i j =
 
 -- ---- the rows of a group
 
-pub led_total : (sorts : List SortKey) (rows : List GroupRow) → IsTotalOrder (led_cmp sorts rows)
+pub led_total : (sorts : List SortKey) (rows : List (Row KeyValue)) → IsTotalOrder (led_cmp sorts rows)
 led_total sorts rows = then_total
     (then_total (on_total (λ (led : Led). led.lead) int_cmp_total)
     (on_total (λ (led : Led). led.next) int_cmp_total))
-    (on_total (λ (led : Led). row_view (row_at rows led.number)) (row_total sorts))
+    (on_total (λ (led : Led). row_at rows led.number) (row_total sorts))
 
-numbered : (rows : List GroupRow) → map (row_at rows) (range_with_len 0 (length rows)) ≡ rows
+numbered : (rows : List (Row KeyValue)) → map (row_at rows) (range_with_len 0 (length rows)) ≡ rows
 numbered rows =
-    let none : GroupRow = record { keys = []; aggregates = [] } in
+    let none : Row KeyValue = record { keys = []; totals = [] } in
     let long = length-map-range_with_len (row_at rows) 0 (length rows) in
     ext_get_or none (map (row_at rows) (range_with_len 0 (length rows))) rows long
     (λ i h. get_or-map-range_with_len (row_at rows) 0 (length rows) i i none
     (omega (arith, h, long)) (omega arith))
 
-module _ (sorts : List SortKey) (rows : List GroupRow) (all : List Led)
+module _ (sorts : List SortKey) (rows : List (Row KeyValue)) (all : List Led)
     (moved : IsPermutation (map (led_at sorts rows) (range_with_len 0 (length rows))) all) where
-  abbrev pub row_of : Led → GroupRow
+  abbrev pub row_of : Led → Row KeyValue
   row_of led = row_at rows led.number
 
   -- each has the leads of its row
@@ -248,20 +247,19 @@ module _ (sorts : List SortKey) (rows : List GroupRow) (all : List Led)
       ap (λ (l : Led). led_at sorts rows l.number) (sym from.2) ∙ from.2
 
   by_row : (a b : Led) → Contains all a → Contains all b
-      → led_cmp sorts rows a b ≡ shown_cmp sorts (row_of a) (row_of b)
+      → led_cmp sorts rows a b ≡ row_order sorts (row_of a) (row_of b)
   by_row a b in_a in_b =
       (λ i. led_cmp sorts rows (sym (its_own a in_a) i) (sym (its_own b in_b) i))
       ∙ led_finer sorts rows a.number b.number
 
   pub rows_moved : IsPermutation rows (map row_of all)
-  rows_moved =
-      subst (λ xs. IsPermutation xs (map row_of all))
+  rows_moved = subst (λ xs. IsPermutation xs (map row_of all))
       (map-map row_of (led_at sorts rows) (range_with_len 0 (length rows)) ∙ numbered rows)
       (IsPermutation-map row_of (map (led_at sorts rows) (range_with_len 0 (length rows))) all moved)
 
   pub rows_ascend : IsSortedBy (λ a b. is_lt (led_cmp sorts rows a b)) all
-      → IsSortedBy (λ a b. is_lt (shown_cmp sorts a b)) (map row_of all)
-  rows_ascend up = sorted_under row_of (λ a b. is_lt (shown_cmp sorts a b)) all
+      → IsSortedBy (λ a b. is_lt (row_order sorts a b)) (map row_of all)
+  rows_ascend up = sorted_under row_of (λ a b. is_lt (row_order sorts a b)) all
       (λ k d from next.
       ap is_lt (sym (by_row (get_or all (k + 1) d) (get_or all k d)
       (Contains-get_or all (k + 1) d next) (Contains-get_or all k d (omega (arith, next)))))

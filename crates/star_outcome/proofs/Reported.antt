@@ -4,38 +4,36 @@ use Rattle.std.proofs.{Math.ListN.get_or-map, lemmas.List.length-map, lemmas.Lis
 use Rattle.std.specs.List.{All, AllByRecursion, Contains}
 use Rattle.star_schema.specs.{Database.Database, declared.group.SortKey.SortKey, Groups.GroupRow as Row}
 use Rattle.star_program.specs.{declared.group.GroupDecl.GroupDecl, declared.group.GroupKey.GroupKey, declared.outcome.Cell.Cell, declared.program.Parts.Parts, declared.key.KeyValue.KeyValue, Effects.State, Faults.group_at, Outcome.decoded_row, Outcome.shown_cells, Puts.Update}
-use Rattle.star_group.specs.{declared.group_row.GroupRow.GroupRow, StoreRows.AreRows as AreGroupRows, StoreRows.row_at, StoreRows.row_view, Stores.Group, Stores.group_declared}
+use Rattle.star_group.specs.{StoreRows.AreRows as AreGroupRows, StoreRows.row_at, Stores.Group, Stores.group_declared}
 use Rattle.star_outcome.specs.Private.Decoded.{AreDecodable, AreReported, AreSortedGroups, AreToReport, row_cells}
 use Rattle.star_outcome.specs.{Done.HasDone, SoundKeys.AreSoundKeys, declared.work.Work.Work}
 use Rattle.star_world.specs.WorldOf.{world_of}
 use Rattle.star_outcome.proofs.DecodedRows.{decoded_in_order, group_decodable}
-use Rattle.star_common.proofs.Members.{contains_mapped}
 
 -- ---- the rows have keys as declared
 
 groups_decodable : (db : Database) (d : GroupDecl) (sorts : List SortKey) (updates : List Update)
-    (rows : List GroupRow) → AllByRecursion (λ u. AreSoundKeys db d.keys u.keys) updates
+    (rows : List (Row KeyValue)) → AllByRecursion (λ u. AreSoundKeys db d.keys u.keys) updates
     → AreSortedGroups (group_declared d) sorts updates rows
-    → (group : Row KeyValue) → Contains (map row_view rows) group
-    → AreDecodable db d.keys group.keys
+    → (group : Row KeyValue) → Contains rows group → AreDecodable db d.keys group.keys
 groups_decodable db d sorts updates rows sound are group c =
     group_decodable db d.shape d.keys updates group.keys sound (are.groups.each group c).0
 
 pub rows_decodable : (db : Database) (d : GroupDecl) (sorts : List SortKey) (updates : List Update)
-    (rows : List GroupRow) → AllByRecursion (λ u. AreSoundKeys db d.keys u.keys) updates
+    (rows : List (Row KeyValue)) → AllByRecursion (λ u. AreSoundKeys db d.keys u.keys) updates
     → AreSortedGroups (group_declared d) sorts updates rows
     → All (λ row. AreDecodable db d.keys row.keys) rows
 rows_decodable db d sorts updates rows sound are = λ k row within.
-    groups_decodable db d sorts updates rows sound are (row_view (get_or rows k row))
-    (contains_mapped row_view rows (get_or rows k row) (Contains-get_or rows k row within))
+    groups_decodable db d sorts updates rows sound are (get_or rows k row)
+    (Contains-get_or rows k row within)
 
 pub decodable_by_number :
-    (db : Database) (ds : List GroupKey) (left : List GroupRow) (numbers : List ℕ)
+    (db : Database) (ds : List GroupKey) (left : List (Row KeyValue)) (numbers : List ℕ)
     → All (λ row. AreDecodable db ds row.keys) (map (row_at left) numbers)
     → All (λ number. AreDecodable db ds (row_at left number).keys) numbers
 decodable_by_number db ds left numbers all = λ k d within.
     let seen = length-map numbers (row_at left) in
-    subst (λ (row : GroupRow). AreDecodable db ds row.keys) (get_or-map (row_at left) numbers k d)
+    subst (λ (row : Row KeyValue). AreDecodable db ds row.keys) (get_or-map (row_at left) numbers k d)
     (all k (row_at left d) (omega (arith, within, seen)))
 
 -- ---- the report
@@ -56,9 +54,8 @@ sound_counts db ds (u ∷ us) h = (sound_count db ds u.keys h.0, sound_counts db
 
 -- what a run has done leaves the rows of its reported store
 pub to_report : {S : Type 0} (group : S → Group) (has : S → List Update → Type 0) (db : Database)
-    (parts : Parts) (work : Work S) (s : State) (store : S) (rows : List GroupRow)
-    → HasDone group has db parts work s
-    → slice_get work.stores.items parts.report ≡ Some store
+    (parts : Parts) (work : Work S) (s : State) (store : S) (rows : List (Row KeyValue))
+    → HasDone group has db parts work s → slice_get work.stores.items parts.report ≡ Some store
     → ((updates : List Update) → has store updates → AreGroupRows (group store) updates rows)
     → AreToReport db parts (s.updates_of parts.report) rows
 to_report group has db parts work s store rows done at are =
@@ -69,23 +66,21 @@ to_report group has db parts work s store rows done at are =
     }
 
 -- the sorted rows, cut to the show lines
-pub are_reported : (db : Database) (parts : Parts) (updates : List Update) (rows left : List GroupRow)
-    (cells : List (List Cell)) → AreToReport db parts updates left
+pub are_reported : (db : Database) (parts : Parts) (updates : List Update)
+    (rows left : List (Row KeyValue)) (cells : List (List Cell)) → AreToReport db parts updates left
     → AreSortedGroups (group_declared (group_at parts parts.report)) parts.sorts updates rows
     → cells ≡ map (row_cells (world_of db) (group_at parts parts.report) parts.shows) rows
     → AreReported (world_of db) parts updates cells
 are_reported db parts updates rows left cells is sorted shown =
     let d = group_at parts parts.report in
     record {
-      rows = map (decoded_row (world_of db) d) (map row_view rows);
+      rows = map (decoded_row (world_of db) d) rows;
       reported = record {
-        groups = map row_view rows;
+        groups = rows;
         each_group = sorted.groups;
         decoded = refl;
-        in_order = decoded_in_order db d parts.sorts (map row_view rows)
+        in_order = decoded_in_order db d parts.sorts rows
             (groups_decodable db d parts.sorts updates rows is.sound sorted) sorted.in_order;
       };
-      shown = shown
-          ∙ sym (map-map (shown_cells parts) (decoded_row (world_of db) d) (map row_view rows)
-          ∙ map-map (λ row. shown_cells parts (decoded_row (world_of db) d row)) row_view rows);
+      shown = shown ∙ sym (map-map (shown_cells parts) (decoded_row (world_of db) d) rows);
     }

@@ -61,8 +61,7 @@ directed_total c Ascending = column_total c
 directed_total c Descending = back_total (column_total c)
 
 pub row_total : (sorts : List SortKey) → IsTotalOrder (row_order sorts)
-row_total [] =
-    record { antisymm = λ a b. refl; trans = λ a b c p q. p; congr = λ a b c p. refl }
+row_total [] = record { antisymm = λ a b. refl; trans = λ a b c p q. p; congr = λ a b c p. refl }
 row_total (sort ∷ sorts) = then_total (directed_total sort.column sort.direction) (row_total sorts)
 
 -- ---- the keys of a row, one after another
@@ -128,8 +127,7 @@ all_keys count a b alike =
 pub rows_level : (sorts : List SortKey) (count : ℕ) (a b : Row KeyValue) → AreAlike count a b
     → row_order (all_sorts sorts count) a b ≡ Equal → a.keys ≡ b.keys
 rows_level [] count a b alike e = keys_level a.keys b.keys (sym (all_keys count a b alike) ∙ e)
-rows_level (sort ∷ sorts) count a b alike e =
-    rows_level sorts count a b alike
+rows_level (sort ∷ sorts) count a b alike e = rows_level sorts count a b alike
     (both_equal (sort_order sort a b) (row_order (all_sorts sorts count) a b) e).1
 
 same_total : (x y : Option ℤ) → is_some x ≡ is_some y
@@ -147,8 +145,7 @@ same_column (column.Aggregate place) a b nulls =
     same_total (get_or a.totals place None) (get_or b.totals place None) (nulls place)
 
 same_directed : (c : GroupColumn) (d : Direction) {count : ℕ} (a b : Row KeyValue)
-    → AreAlike count a b
-    → report.sort_cmp key_value_cmp (record { column = c; direction = d }) a b
+    → AreAlike count a b → report.sort_cmp key_value_cmp (record { column = c; direction = d }) a b
     ≡ directed_order c d a b
 same_directed c Ascending a b alike = same_column c a b alike.nulls
 same_directed c Descending a b alike = same_column c b a (λ place. sym (alike.nulls place))

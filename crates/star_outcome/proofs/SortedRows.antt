@@ -4,12 +4,12 @@ use denote.Param.Members.{Mut}
 use denote.Ref.{Bor}
 use Rattle.std.specs.{Prelude.IsPermutation, Cmp.IsStrictWeakOrder, Cmp.IsTotalOrder, Fn.Called, Fn.ComparesAs, List.Contains, List.IsDistinct, List.Sorted.IsSortedBy, List.Sorted.IsStrictlySortedBy, Ordering.is_lt, Ordering.ordering_reverse, declared.cmp.Ordering.Ordering}
 use Rattle.std.specs.{declared.cmp.Ordering.TheVariants.Less, declared.cmp.Ordering.TheVariants.Equal, declared.cmp.Ordering.TheVariants.Greater}
-use Rattle.std.proofs.{lemmas.Cmp.on_total, lemmas.Fn.always_returns_same, lemmas.List.get_or-map, lemmas.List.length-map, lemmas.List.Elements.Contains-get_or, lemmas.List.Sorted.Contains-permutation, lemmas.List.Sorted.IsPermutation-map, lemmas.List.Sorted.IsPermutation-sym}
+use Rattle.std.proofs.{lemmas.Fn.always_returns_same, lemmas.List.get_or-map, lemmas.List.length-map, lemmas.List.map-id, lemmas.List.Elements.Contains-get_or, lemmas.List.Sorted.Contains-permutation, lemmas.List.Sorted.IsPermutation-map, lemmas.List.Sorted.IsPermutation-sym}
 use Rattle.std.proofs.{lemmas.List.Sorted.ranks_by, lemmas.Map.Keys.IsDistinct-IsPermutation, lemmas.Map.Keys.apart_from_distinct, lemmas.Map.Keys.sorted_from_all_adjacent}
-use Rattle.star_schema.specs.{declared.group.SortKey.SortKey, Order.AreInOrder, Order.row_cmp}
+use Rattle.star_schema.specs.{declared.group.SortKey.SortKey, Groups.GroupRow as Row, Order.AreInOrder, Order.row_cmp}
 use Rattle.star_common.proofs.Members.{at_each, contains_here, contains_later, from_contains_map, of_each}
 use Rattle.star_program.specs.{declared.key.KeyValue.KeyValue, Keys.key_value_cmp}
-use Rattle.star_group.specs.{declared.group_row.GroupRow.GroupRow, BaseKeys.key_eq, StoreRows.row_view}
+use Rattle.star_group.specs.BaseKeys.{key_eq}
 use Rattle.star_group.proofs.GroupKeys.{key_decides, key_equiv}
 use Rattle.star_outcome.specs.Private.RowOrder.{all_sorts, row_order}
 use Rattle.star_outcome.proofs.RowOrders.{AreAlike, row_total, rows_level, same_order}
@@ -54,20 +54,17 @@ sorted_under f lt (x ∷ xs) up = λ k d from next.
 
 -- ---- the rows of a group
 
--- rows by their order
-abbrev pub shown_cmp : List SortKey → GroupRow → GroupRow → Ordering
-shown_cmp sorts a b = row_order sorts (row_view a) (row_view b)
-
-abbrev pub keys_of_row : GroupRow → List (Option KeyValue)
+abbrev pub keys_of_row : Row KeyValue → List (Option KeyValue)
 keys_of_row row = row.keys
 
 -- no two rows have the same keys
-abbrev pub AreApart : List GroupRow → Type 0
+abbrev pub AreApart : List (Row KeyValue) → Type 0
 AreApart rows = IsDistinct key_eq (map keys_of_row rows)
 
 -- rows that differ by their keys, where only rows with the same keys are level
-strictly : (R : GroupRow → GroupRow → Ordering) → IsTotalOrder R → (rows : List GroupRow)
-    → ((a b : GroupRow) → Contains rows a → Contains rows b → R a b ≡ Equal → a.keys ≡ b.keys)
+strictly : (R : Row KeyValue → Row KeyValue → Ordering) → IsTotalOrder R
+    → (rows : List (Row KeyValue))
+    → ((a b : Row KeyValue) → Contains rows a → Contains rows b → R a b ≡ Equal → a.keys ≡ b.keys)
     → IsSortedBy (λ a b. is_lt (R a b)) rows → AreApart rows → IsStrictlySortedBy R rows
 unfolding IsStrictlySortedBy
 strictly R order [] level up apart = tt
@@ -78,7 +75,7 @@ strictly R order (row ∷ rows) level up apart =
     before (get_or (row ∷ rows) k row) (get_or (row ∷ rows) (k + 1) row) first second
     (up k row (omega arith) next) (differ k next))
   where
-    before : (a b : GroupRow) → Contains (row ∷ rows) a → Contains (row ∷ rows) b
+    before : (a b : Row KeyValue) → Contains (row ∷ rows) a → Contains (row ∷ rows) b
         → is_lt (R b a) ≡ false → (a.keys ≡ b.keys → ⊥) → R a b ≡ Less
     before a b in_a in_b not_after apart = by (R b a) refl
       where
@@ -98,22 +95,22 @@ strictly R order (row ∷ rows) level up apart =
         (get_or (map keys_of_row (row ∷ rows)) (k + 1) row.keys)).1 (first ∙ same ∙ sym second))
         ∙ told)
 
-pub sorted_rows : (sorts : List SortKey) (count : ℕ) (old new : List GroupRow) → AreApart old
-    → ((a b : GroupRow) → Contains old a → Contains old b
-    → AreAlike count (row_view a) (row_view b))
-    → IsPermutation old new
-    → IsSortedBy (λ a b. is_lt (shown_cmp (all_sorts sorts count) a b)) new
-    → AreInOrder key_value_cmp sorts (map row_view new)
+pub sorted_rows : (sorts : List SortKey) (count : ℕ) (old new : List (Row KeyValue)) → AreApart old
+    → ((a b : Row KeyValue) → Contains old a → Contains old b
+    → AreAlike count a b)
+    → IsPermutation old new → IsSortedBy (λ a b. is_lt (row_order (all_sorts sorts count) a b)) new
+    → AreInOrder key_value_cmp sorts new
 sorted_rows sorts count old new apart alike moved up =
     let back = IsPermutation-sym old new moved in
     let all = all_sorts sorts count in
-    let each : (a b : GroupRow) → Contains new a → Contains new b
-    → AreAlike count (row_view a) (row_view b) =
+    let each : (a b : Row KeyValue) → Contains new a → Contains new b
+    → AreAlike count a b =
     λ a b in_a in_b. alike a b (Contains-permutation new old a back in_a)
     (Contains-permutation new old b back in_b) in
-    sorted_mapped row_view (shown_cmp all) (row_cmp key_value_cmp sorts) new
-    (λ a b in_a in_b. same_order sorts count (row_view a) (row_view b) (each a b in_a in_b))
-    (strictly (shown_cmp all) (on_total row_view (row_total all)) new
-    (λ a b in_a in_b. rows_level sorts count (row_view a) (row_view b) (each a b in_a in_b)) up
+    subst (IsStrictlySortedBy (row_cmp key_value_cmp sorts)) (map-id new)
+    (sorted_mapped (λ row. row) (row_order all) (row_cmp key_value_cmp sorts) new
+    (λ a b in_a in_b. same_order sorts count a b (each a b in_a in_b))
+    (strictly (row_order all) (row_total all) new
+    (λ a b in_a in_b. rows_level sorts count a b (each a b in_a in_b)) up
     (IsDistinct-IsPermutation key_eq key_equiv.symm (map keys_of_row old)
-    (map keys_of_row new) (IsPermutation-map keys_of_row old new moved) apart))
+    (map keys_of_row new) (IsPermutation-map keys_of_row old new moved) apart)))

@@ -1,12 +1,11 @@
 //! What a run looks up in the catalogue, in the words of the world that programs see.
 
 ghost use Rattle.std.specs.Prelude.{◌≡◌, ◌<◌, true, length, IfSome};
-ghost use Rattle.star_schema.specs.{Database.rows_in, Columns.column_dictionary};
+ghost use Rattle.star_schema.specs.Database.{rows_in};
 ghost use Rattle.star_program.specs.{Effects.loaded, declared.value.Value.TheVariants.Place};
 ghost use Rattle.star_outcome.specs.Sound.{IsSoundValue};
 ghost use Rattle.star_world.specs.WorldOf.{world_of};
 ghost use Rattle.star_schema.specs.Schema as schema;
-ghost use Rattle.star_schema.specs.declared.column.Kind.TheVariants as kind;
 ghost use Rattle.star_program.specs.World as world;
 
 use star_catalogue::Catalogue;
@@ -25,25 +24,6 @@ pub fn place(catalogue: &Catalogue, edge: Edge, column: ColumnId, text: &Text) -
     }
 }
 
-/// A number column's value in a row, from 0.
-pub fn number(catalogue: &Catalogue, column: ColumnId, row: u32) -> i64
-    requires kind { schema.kind_of column ≡ kind.Number }
-    requires row { row < length (rows_in catalogue.now (schema.table_of column)) }
-    ensures { result ≡ (world_of catalogue.now).number column row }
-{
-    catalogue.number(column, row)
-}
-
-/// The code of a text column's text in a row, from 0.
-pub fn code(catalogue: &Catalogue, column: ColumnId, row: u32) -> u32
-    requires kind { schema.kind_of column ≡ kind.Text }
-    requires row { row < length (rows_in catalogue.now (schema.table_of column)) }
-    ensures code { result ≡ (world_of catalogue.now).code column row }
-    ensures within { result < length (column_dictionary catalogue.now column) }
-{
-    catalogue.code(column, row)
-}
-
 /// A column's value in a row, from 0.
 pub fn load(catalogue: &Catalogue, column: ColumnId, row: u32) -> Value
     requires { row < length (rows_in catalogue.now (schema.table_of column)) }
@@ -52,9 +32,9 @@ pub fn load(catalogue: &Catalogue, column: ColumnId, row: u32) -> Value
     ensures sound { IsSoundValue catalogue.now result }
 {
     if is_text(column) {
-        Value::Text(column, code(catalogue, column, row))
+        Value::Text(column, catalogue.code(column, row))
     } else {
-        Value::Number(number(catalogue, column, row))
+        Value::Number(catalogue.number(column, row))
     }
 }
 

@@ -17,11 +17,7 @@ names_split n (plain y ∷ ys) (suc i) x within at =
     let next : suc i + 1 ≡ suc (i + 1) = omega arith in
     rw next (names_split n ys i x (omega arith) at)
 names_split n (aggregate y ∷ ys) (suc i) x within at =
-    let next : suc i + 1 ≡ suc (i + 1) = omega arith in
-    let later : n + suc (length (names_from (n + 1) (take i ys)))
-    ≡ n + 1 + length (names_from (n + 1) (take i ys)) = omega arith in
-    rw (next, later) (ap (λ names. name_of_aggregate n y ∷ names)
-    (names_split (n + 1) ys i x (omega arith) at))
+    grind (arith, names_split (n + 1) ys i x (omega arith) at)
 
 count_more : (n : ℕ) (items : List Item) (i : ℕ) (x : Item) → i < length items
     → x ≡ get_or items i x
@@ -61,15 +57,7 @@ at_seam (x ∷ xs) ys y d = at_seam xs ys y d
 
 named_at : (names seen : List (List ℕ)) (x : Item) (rest : List Item)
     → names ≡ seen ++ names_from (1 + length seen) (x ∷ rest) → IsNamedAt names (length seen) x
-named_at names seen (plain n) rest e = tt
-named_at names seen (aggregate a) rest e =
-    let name = name_of_aggregate (1 + length seen) a in
-    let others = names_from (1 + length seen + 1) rest in
-    let number : 1 + length seen ≡ length seen + 1 = omega arith in (
-      omega (arith, ap length e, length-append seen (name ∷ others)),
-      ap (λ ns. get_or ns (length seen) []) e ∙ at_seam seen others name []
-          ∙ ap (λ n. name_of_aggregate n a) number,
-    )
+named_at names seen it rest e = grind (arith, length-append, at_seam)
 
 module _ {X : Type 0} (v : X → Item) (items : List X) (i : ℕ) (x : X) (names : List (List ℕ))
     (before : ℕ)
@@ -101,10 +89,7 @@ module _ {X : Type 0} (v : X → Item) (items : List X) (i : ℕ) (x : X) (names
   pub item_passed : (groups : List Name) → BesideSoFar v (item_fault groups) items i
       → item_fault_after groups (take before names) (v x) ≡ None
       → BesideSoFar v (item_fault groups) items (i + 1)
-  item_passed groups so_far passed =
-      beside_passed v (item_fault groups) items i x within so_far
-      (sym (ap (λ y. item_fault_after groups (aggregate_names (map v (take i items))) (v y))
-      (sym at) ∙ rw (← names_taken) passed))
+  item_passed groups so_far passed = grind (arith, beside_passed, names_taken)
 
 -- ---- an aggregate's name beside those before it
 
@@ -119,16 +104,4 @@ pub alias_told : (groups : List Name) (aggregates : List Named) (place : ℕ) (a
     → (if taken then Some (DuplicateAlias at) else None)
     ≡ alias_fault groups (take place (names_view aggregates)) a
 alias_told groups aggregates place a own name taken at within named is tested placed =
-    let before = take place (names_view aggregates) in
-    let viewed : before ≡ names_view (take place aggregates) =
-    take-map (λ b. b.name.items) place aggregates in
-    let long : place ≡ length before =
-    sym (length-take-le place (names_view aggregates)
-    (omega (arith, within, length-map aggregates (λ b. b.name.items)))) in
-    let same : name ≡ name_of_aggregate (length before + 1) a =
-    is ∙ sym (get_or-map (λ b. b.name.items) aggregates place own [] within) ∙ named
-    ∙ ap (λ n. name_of_aggregate (n + 1) a) long in
-    let test : taken ≡ (has_text before (name_of_aggregate (length before + 1) a)
-    || has_name groups (name_of_aggregate (length before + 1) a)) =
-    tested ∙ (λ j. has_text (sym viewed j) (same j) || has_name groups (same j)) in
-    λ j. if test j then Some (DuplicateAlias (placed j)) else None
+    grind (arith, take-map, length-take-le, length-map, get_or-map)

@@ -1,5 +1,5 @@
 -- No element twice, where each is asked beside those before it.
-use Rattle.std.proofs.Common.{◌≡◌, ◌∙◌, sym, Bool, true, false, ◌||◌, if◌then◌else◌, List, [], ◌∷◌, ◌++◌, Option, Some, None, refl}
+use Rattle.std.proofs.Common.{◌≡◌, Bool, true, false, if◌then◌else◌, List, [], ◌∷◌, ◌++◌, Option, Some, None, refl, arith}
 use Rattle.std.specs.{List.AllByRecursion, List.IsDistinct, List.list_any, Option.is_none, Option.option_or}
 use Rattle.std.proofs.lemmas.{Bool.or_from, Bool.or_parts, List.Folds.list_any-append}
 use Rattle.star_common.proofs.Firsts.{or_none}
@@ -56,17 +56,11 @@ IsFresh same before x = list_any (λ y. same y x) before ≡ false
 
 fresh_parts : {X : Type 0} (same : X → X → Bool) (before : List X) (x y : X)
     → IsFresh same (before ++ x ∷ []) y → (IsFresh same before y) × (same x y ≡ false)
-fresh_parts same before x y e =
-    let both = or_parts (list_any (λ z. same z y) before) (same x y || false)
-    (sym (list_any-append (λ z. same z y) before (x ∷ [])) ∙ e) in
-    (both.0, (or_parts (same x y) false both.1).0)
+fresh_parts same before x y e = grind (arith, or_parts, list_any-append)
 
 fresh_from : {X : Type 0} (same : X → X → Bool) (before : List X) (x y : X) → IsFresh same before y
     → same x y ≡ false → IsFresh same (before ++ x ∷ []) y
-fresh_from same before x y e h =
-    list_any-append (λ z. same z y) before (x ∷ [])
-    ∙ or_from (list_any (λ z. same z y) before) (same x y || false) e
-    (or_from (same x y) false h refl)
+fresh_from same before x y e h = grind (arith, list_any-append, or_from)
 
 -- each is none of those before, nor another of these
 pub record AreApart {X : Type 0} (same : X → X → Bool) (before xs : List X) : Type 0 where

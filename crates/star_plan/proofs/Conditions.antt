@@ -1,5 +1,5 @@
 -- A query is well named exactly where it has no fault.
-use Rattle.std.proofs.Common.{◌≡◌, ◌∙◌, sym, ap, subst, ℕ, suc, ◌+◌, ◌≤◌, Bool, true, false, ◌||◌, if◌then◌else◌, List, [], ◌∷◌, ◌++◌, Option, Some, None, length, append-nil, arith, refl}
+use Rattle.std.proofs.Common.{◌≡◌, ◌∙◌, sym, ap, subst, ℕ, ◌+◌, ◌≤◌, Bool, true, false, ◌||◌, if◌then◌else◌, List, [], ◌∷◌, ◌++◌, Option, Some, None, length, append-nil, arith, refl}
 use Rattle.std.proofs.{lemmas.Bool.or_from, lemmas.Bool.or_parts}
 use Rattle.std.specs.{List.AllByRecursion, List.IsDistinct, Option.is_none, Option.option_or}
 use Rattle.star_common.proofs.Firsts.{or_none}
@@ -67,19 +67,11 @@ names_last : (n : ℕ) (before : List Item) (i : Item)
     ≡ names_from n before ++ names_from (n + length (names_from n before)) (i ∷ [])
 names_last n [] i = let none : n + 0 ≡ n = omega arith in rw none refl
 names_last n (plain y ∷ ys) i = names_last n ys i
-names_last n (aggregate y ∷ ys) i =
-    let later : n + suc (length (names_from (n + 1) ys)) ≡ n + 1 + length (names_from (n + 1) ys) =
-    omega arith in
-    rw later (ap (λ names. name_of_aggregate n y ∷ names) (names_last (n + 1) ys i))
+names_last n (aggregate y ∷ ys) i = grind (arith, names_last (n + 1) ys i)
 
 names_more : (before : List Item) (i : Item)
     → aggregate_names (before ++ i ∷ []) ≡ more_names (aggregate_names before) i
-names_more before (plain n) = names_last 1 before (plain n) ∙ append-nil (aggregate_names before)
-names_more before (aggregate a) =
-    let number : 1 + length (aggregate_names before) ≡ length (aggregate_names before) + 1 =
-    omega arith in
-    names_last 1 before (aggregate a)
-    ∙ ap (λ k. aggregate_names before ++ name_of_aggregate k a ∷ []) number
+names_more before it = grind (arith, names_last, append-nil)
 
 -- the first fault of items after aggregates of these names
 abbrev items_fault : List Name → List (List ℕ) → List Item → Option PlanFault

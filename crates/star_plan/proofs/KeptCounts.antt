@@ -1,17 +1,18 @@
 -- The counts of a plan are those of its query.
-use Rattle.std.proofs.Common.{◌≡◌, ◌∙◌, sym, ap, subst, ℕ, ◌+◌, ◌<◌, ◌≤◌, true, inl, inr, List, [], ◌∷◌, ◌++◌, Option, Some, None, length, nat_eq, option_map, arith, refl}
-use Rattle.std.specs.{Cmp.Lexicographic.pointwise, List.list_all, List.position, List.sum_by, Option.option_or}
+use Rattle.std.proofs.Common.{◌≡◌, ◌∙◌, sym, ap, subst, ℕ, ◌+◌, ◌<◌, ◌≤◌, true, List, [], ◌∷◌, ◌++◌, Option, Some, None, length, option_map, arith, refl}
+use Rattle.std.specs.{List.list_all, List.sum_by, Option.option_or}
 use Rattle.std.proofs.lemmas.{Bool.and_from, Bool.lt-ltb, List.Quantifiers.position-Some, List.Sums.sum_by-append, List.Sums.sum_by-cons}
 use Rattle.star_schema.specs.declared.{column.ColumnId.ColumnId, group.GroupColumn.GroupColumn}
 use Rattle.star_schema.specs.declared.group.GroupColumn.TheVariants as group
 use Rattle.star_schema.specs.declared.group.SortKey as sorted
 use Rattle.star_query.specs.Tree as tree
-use Rattle.star_query.specs.Tree.{Item, Name, SortKey, Expression, column, constant, add, sub, mul, or, and, not, test, compare, between, Measure, count, fold}
+use Rattle.star_query.specs.Tree.{Item, Name, SortKey, Expression, column, or, and, not, test, compare, between, Measure}
 use Rattle.star_query.specs.Limits as asked
 use Rattle.star_plan.specs.{Meaning.RowCondition, Naming.names_from, Naming.aggregate_column, Naming.key_column, Naming.resolved_key, Sound.is_group_column, Private.Stages.resolved_measures}
 use Rattle.star_plan.specs.Resolved.{conjuncts_of, items_from, option_all, resolved_condition, resolved_expression, resolved_measure, where_conjuncts}
 use Rattle.star_query.specs.Limits.{comparisons_of, measure_operands, operands_of}
 use Rattle.star_plan.proofs.{Options.both_gave, Options.first_or_second, Options.mapped_gave, Related.condition_related, Related.expression_related}
+use Rattle.std.proofs.lemmas.Grind.{common_steps}
 
 abbrev sorted_by : GroupColumn → SortKey → sorted.SortKey
 sorted_by c k = record { column = c; direction = k.direction }
@@ -26,10 +27,7 @@ expression_operands e x h =
 
 resolved_operands : (m : tree.Measure tree.Name) (x : Measure ColumnId)
     → resolved_measure m ≡ Some x → measure_operands x ≡ asked.measure_operands m
-resolved_operands tree.count x e = let same : count ≡ x = cc in ap measure_operands (sym same)
-resolved_operands (tree.fold f y) x e =
-    let g = mapped_gave (fold f) (resolved_expression y) x e in
-    ap measure_operands (sym g.2) ∙ expression_operands y g.0 g.1
+resolved_operands it x e = grind (arith, mapped_gave, expression_operands)
 
 condition_comparisons : (q : tree.Condition tree.Test) (x : RowCondition)
     → resolved_condition q ≡ Some x → comparisons_of x ≡ asked.comparisons_of q
@@ -40,10 +38,7 @@ condition_comparisons q x h =
 lone_comparisons : (q : tree.Condition tree.Test) (xs : List RowCondition)
     → option_map (λ x. x ∷ []) (resolved_condition q) ≡ Some xs
     → sum_by comparisons_of xs ≤ asked.comparisons_of q
-lone_comparisons q xs e =
-    let g = mapped_gave (λ (x : RowCondition). x ∷ []) (resolved_condition q) xs e in
-    subst (λ ys. sum_by comparisons_of ys ≤ asked.comparisons_of q) g.2
-    (omega (arith, condition_comparisons q g.0 g.1))
+lone_comparisons q xs e = grind (arith, mapped_gave, condition_comparisons)
 
 conjuncts_comparisons : (q : tree.Condition tree.Test) (xs : List RowCondition)
     → conjuncts_of q ≡ Some xs → sum_by comparisons_of xs ≤ asked.comparisons_of q
@@ -111,11 +106,7 @@ names_counted number [] = refl
 names_counted number (tree.plain n ∷ is') =
     omega (arith, names_counted number is', sum_by-cons asked.aggregates_in (tree.plain n) is')
 names_counted number (tree.aggregate a ∷ is') =
-    omega (
-      arith,
-      names_counted (number + 1) is',
-      sum_by-cons asked.aggregates_in (tree.aggregate a) is',
-    )
+    grind (arith, common_steps, names_counted (number + 1) is', sum_by-cons)
 
 -- ---- groups, items and the order
 
@@ -140,25 +131,11 @@ items_counted groups before (tree.aggregate a ∷ is') cs e =
 
 key_there : (groups : List Name) (text : List ℕ) (c : GroupColumn) (most : ℕ)
     → key_column groups text ≡ Some c → is_group_column (length groups) most c ≡ true
-key_there groups text c most e =
-    let g = mapped_gave (λ place. group.Key place)
-    (position (λ n. pointwise nat_eq n.text text) groups) c e in
-    subst (λ d. is_group_column (length groups) most d ≡ true) g.2
-    (lt-ltb _ _ (position_within groups g.0 g.1))
-  where
-    position_within : (ns : List Name) (i : ℕ)
-        → position (λ n. pointwise nat_eq n.text text) ns ≡ Some i → i < length ns
-    position_within [] i h = absurd (cc)
-    position_within (n ∷ ns) i h = let found =
-        position-Some (λ m. pointwise nat_eq m.text text) (n ∷ ns) i n h in found.0
+key_there groups text c most e = grind (arith, mapped_gave, lt-ltb, position-Some)
 
 aggregate_there : (keys : ℕ) (names : List (List ℕ)) (text : List ℕ) (c : GroupColumn)
     → aggregate_column names text ≡ Some c → is_group_column keys (length names) c ≡ true
-aggregate_there keys names text c e =
-    let g = mapped_gave (λ place. group.Aggregate place)
-    (position (λ t. pointwise nat_eq t text) names) c e in
-    let found = position-Some (λ t. pointwise nat_eq t text) names g.0 [] g.1 in
-    subst (λ d. is_group_column keys (length names) d ≡ true) g.2 (lt-ltb _ _ found.0)
+aggregate_there keys names text c e = grind (arith, mapped_gave, position-Some, lt-ltb)
 
 pub items_there : (groups : List Name) (before most : ℕ) (is' : List Item) (cs : List GroupColumn)
     → before + sum_by asked.aggregates_in is' ≤ most
@@ -188,12 +165,7 @@ items_there groups before most (tree.aggregate a ∷ is') cs few e =
 sort_there : (groups : List Name) (names : List (List ℕ)) (text : List ℕ) (c : GroupColumn)
     → option_or (key_column groups text) (aggregate_column names text) ≡ Some c
     → is_group_column (length groups) (length names) c ≡ true
-sort_there groups names text c e =
-    elim (first_or_second (key_column groups text) (aggregate_column names text) c e) [
-      | inl key ↦ key_there groups text c (length names) key
-      | inr other ↦ aggregate_there
-          (length groups) names text c other
-    ]
+sort_there groups names text c e = grind (arith, first_or_second, key_there, aggregate_there)
 
 pub sorts_there : (groups : List Name) (names : List (List ℕ)) (ks : List SortKey)
     (ss : List sorted.SortKey) → option_all (resolved_key groups names) ks ≡ Some ss

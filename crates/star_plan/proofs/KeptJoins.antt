@@ -2,26 +2,19 @@
 use Rattle.std.proofs.Common.{◌≡◌, ◌∙◌, sym, ap, subst, ℕ, ◌+◌, ◌≤◌, Bool, true, false, not as negated, if◌then◌else◌, inl, inr, List, [], ◌∷◌, ◌++◌, Option, Some, None, length, arith, refl}
 use Rattle.std.specs.{List.AllByRecursion, List.IsDistinct, List.list_all, List.list_any, Option.option_map_or}
 use Rattle.std.proofs.lemmas.Bool.{and_from, and_parts, not-true, not_from_false}
-use Rattle.star_schema.specs.{declared.table.TableId.TableId, declared.column.ColumnId.ColumnId, Schema.is_table, Schema.key_of, Schema.references, Schema.table_of}
+use Rattle.star_schema.specs.{declared.table.TableId.TableId, declared.column.ColumnId.ColumnId, Schema.is_table, Schema.table_of}
 use Rattle.star_schema.specs.declared.table.TableId.TheVariants.{Date, Customer, Supplier, Part, Lineorder}
 use Rattle.star_schema.proofs.Same.{table_same}
 use Rattle.star_query.specs.Tree.{Condition, Test, and, comparison, or, not, pair, test}
 use Rattle.star_plan.specs.{declared.tree.Join.Join, Names.column_at, Faults.pair_fault, Sound.are_distinct, WellNamed.IsThere}
-use Rattle.star_plan.specs.Joins.{Pair, is_foreign, is_joined, is_lone_key, join_by, join_of, joins, joins_of, pairs_of, refers, where_pairs}
+use Rattle.star_plan.specs.Joins.{Pair, is_foreign, is_joined, join_by, join_of, joins, joins_of, pairs_of, where_pairs}
 use Rattle.star_plan.proofs.{Apart.IsFresh, Apart.found_known, Apart.found_none, Options.first_or_second}
 
 -- ---- each by a foreign key
 
 join_by_foreign : (f k : ColumnId) (j : Join) → join_by f k ≡ Some j
     → is_foreign j.foreign j.key ≡ true
-join_by_foreign f k j e = go (is_foreign f k) refl e
-  where
-    go : (b : Bool) → is_foreign f k ≡ b → join_by f k ≡ Some j → is_foreign j.foreign j.key ≡ true
-    go true h e =
-        let found : Some (record { foreign = f; key = k }) ≡ Some j = rw h at e in
-        let same : record { foreign = f; key = k } ≡ j = cc in
-        subst (λ (q : Join). is_foreign q.foreign q.key ≡ true) same h
-    go false h e = absurd (let none : None ≡ Some j = rw h at e in cc)
+join_by_foreign f k j e = grind arith
 
 join_of_foreign : (m n : Option ColumnId) (j : Join) → join_of m n ≡ Some j
     → is_foreign j.foreign j.key ≡ true
@@ -54,13 +47,7 @@ pairs_foreign b (test (comparison c)) = tt
 joins_foreign : (ps : List Pair) → AllByRecursion IsForeign ps
     → list_all (λ j. is_foreign j.foreign j.key) (joins_of ps) ≡ true
 joins_foreign [] all = refl
-joins_foreign (p ∷ ps) all = go p.join refl (joins_foreign ps all.1)
-  where
-    go : (o : Option Join) → p.join ≡ o
-        → list_all (λ j. is_foreign j.foreign j.key) (joins_of ps) ≡ true
-        → list_all (λ j. is_foreign j.foreign j.key) (joins_of (p ∷ ps)) ≡ true
-    go None h rest = rw h rest
-    go (Some j) h rest = rw h (and_from _ _ (all.0 j h) rest)
+joins_foreign (p ∷ ps) all = grind (arith, joins_foreign ps all.1, and_from)
 
 pub where_foreign : (o : Option (Condition Test))
     → list_all (λ j. is_foreign j.foreign j.key) (joins_of (where_pairs o)) ≡ true
@@ -181,10 +168,7 @@ once t (j ∷ js) e = let both = and_parts _ _ e in
 
 -- lineorder has no lone key
 not_the_fact : (j : Join) → is_foreign j.foreign j.key ≡ true → table_of j.key ≡ Lineorder → ⊥
-not_the_fact j e fact =
-    let both = and_parts (refers (references j.foreign) (table_of j.key))
-    (is_lone_key j.key (key_of (table_of j.key))) e in
-    let wrong = rw fact at both.1 in cc
+not_the_fact j e fact = grind (arith, and_parts)
 
 all_counted : (js : List Join) → list_all (λ j. is_foreign j.foreign j.key) js ≡ true
     → length js ≡ joins_to Date js + joins_to Customer js + joins_to Supplier js + joins_to Part js
@@ -206,12 +190,4 @@ all_counted (j ∷ js) e = let both = and_parts _ _ e in
 
 pub at_most_four : (js : List Join) → list_all (λ j. is_foreign j.foreign j.key) js ≡ true
     → are_distinct js ≡ true → length js ≤ 4
-at_most_four js foreign apart =
-    omega (
-      arith,
-      all_counted js foreign,
-      once Date js apart,
-      once Customer js apart,
-      once Supplier js apart,
-      once Part js apart,
-    )
+at_most_four js foreign apart = grind (arith, all_counted, once)

@@ -6,10 +6,10 @@ use Rattle.std.proofs.lemmas.{Fmt.decimal_is_IsNumeral, Fmt.length-decimal-le, S
 use Rattle.star_schema.specs.{declared.column.ColumnId.ColumnId, Tables.Value}
 use Rattle.star_query.specs.declared.token.Fold.TheVariants as fold
 use Rattle.star_query.specs.Tree as tree
-use Rattle.star_query.specs.Tree.{Aggregate, Comparison, Item, Name, Expression, column, constant, add, sub, mul, or, and, not, test, compare, between, Measure, count as counted, fold as folds}
+use Rattle.star_query.specs.Tree.{Aggregate, Comparison, Item, Name, Expression, or, and, not, test, compare, between, Measure}
 use Rattle.star_query.specs.{Tokens.begins_with_letter, Tokens.is_letter, Tokens.is_word_byte, Spelled.is_name, Spelled.has_few_digits, Spelled.comparison_is_spelled}
 use Rattle.star_query.specs.Spelled as asked
-use Rattle.star_plan.specs.{Meaning.RowCondition, Names.column_at, Naming.name_of_aggregate, Naming.default_name, Naming.function_word, Naming.names_from, Spelled.condition_is_spelled, Spelled.expression_is_spelled, Spelled.measure_is_spelled, Spelled.value_is_spelled, Private.Stages.resolved_measures}
+use Rattle.star_plan.specs.{Meaning.RowCondition, Naming.name_of_aggregate, Naming.default_name, Naming.function_word, Naming.names_from, Spelled.condition_is_spelled, Spelled.expression_is_spelled, Spelled.measure_is_spelled, Spelled.value_is_spelled, Private.Stages.resolved_measures}
 use Rattle.star_plan.specs.Resolved.{conjuncts_of, resolved_condition, resolved_expression, resolved_measure, resolved_test, where_conjuncts}
 use Rattle.star_plan.proofs.{Options.both_gave, Options.mapped_gave, Related.condition_related, Related.expression_related}
 
@@ -28,11 +28,7 @@ expression_spelled =
 
 resolved_spelled : (m : tree.Measure tree.Name) (x : Measure ColumnId) → resolved_measure m ≡ Some x
     → asked.measure_is_spelled m ≡ true → measure_is_spelled x ≡ true
-resolved_spelled tree.count x e good = let same : counted ≡ x = cc in
-    ap measure_is_spelled (sym same)
-resolved_spelled (tree.fold f y) x e good =
-    let g = mapped_gave (folds f) (resolved_expression y) x e in
-    ap measure_is_spelled (sym g.2) ∙ expression_spelled y g.0 g.1 good
+resolved_spelled it x e good = grind (arith, mapped_gave, expression_spelled)
 
 pub measures_spelled : (is' : List Item) (ms : List (Measure ColumnId))
     → resolved_measures is' ≡ Some ms → list_all asked.item_is_spelled is' ≡ true
@@ -55,16 +51,7 @@ measures_spelled (tree.aggregate a ∷ is') ms e good =
 
 test_spelled : (t : tree.Test) (c : Comparison ColumnId Value) → resolved_test t ≡ Some c
     → asked.test_is_spelled t ≡ true → comparison_is_spelled (λ c. true) value_is_spelled c ≡ true
-test_spelled (tree.pair m n) c e good = absurd (cc)
-test_spelled (tree.comparison (tree.compare n s l)) c e good =
-    let g = mapped_gave (λ d. compare d s l) (column_at n) c e in
-    ap (comparison_is_spelled (λ c. true) value_is_spelled) (sym g.2)
-    ∙ (and_parts (is_name n.text) (asked.value_is_spelled l) good).1
-test_spelled (tree.comparison (tree.between n from upto)) c e good =
-    let g = mapped_gave (λ d. between d from upto) (column_at n) c e in
-    ap (comparison_is_spelled (λ c. true) value_is_spelled) (sym g.2)
-    ∙ (and_parts (is_name n.text) (asked.value_is_spelled from && asked.value_is_spelled upto)
-    good).1
+test_spelled it c e good = grind (arith, mapped_gave, and_parts)
 
 condition_spelled : (q : tree.Condition tree.Test) (x : RowCondition)
     → resolved_condition q ≡ Some x → asked.condition_is_spelled q ≡ true
@@ -78,10 +65,7 @@ lone_spelled : (q : tree.Condition tree.Test) (xs : List RowCondition)
     → option_map (λ x. x ∷ []) (resolved_condition q) ≡ Some xs
     → asked.condition_is_spelled q ≡ true
     → list_all condition_is_spelled xs ≡ true
-lone_spelled q xs e good =
-    let g = mapped_gave (λ (x : RowCondition). x ∷ []) (resolved_condition q) xs e in
-    ap (list_all condition_is_spelled) (sym g.2)
-    ∙ and_from _ _ (condition_spelled q g.0 g.1 good) refl
+lone_spelled q xs e good = grind (arith, mapped_gave, and_from, condition_spelled)
 
 conjuncts_spelled : (q : tree.Condition tree.Test) (xs : List RowCondition)
     → conjuncts_of q ≡ Some xs → asked.condition_is_spelled q ≡ true
@@ -123,11 +107,8 @@ word_then_digits : (word ds : List ℕ) → begins_with_letter word ≡ true
     → length ds ≤ 20
     → is_name (word ++ ds) ≡ true
 unfolding is_name
-word_then_digits [] ds begins word short digits few = absurd (cc)
-word_then_digits (c ∷ cs) ds begins word short digits few =
-    let long : length ((c ∷ cs) ++ ds) ≤ 64 = omega (arith, length-append (c ∷ cs) ds) in
-    and_from _ _ begins (and_from _ _
-    (list_all-append is_word_byte (c ∷ cs) ds ∙ and_from _ _ word digits) (le-leb _ 64 long))
+word_then_digits it ds begins word short digits few =
+    grind (arith, length-append, and_from, begins, list_all-append, digits, le-leb)
 
 default_spelled : (m : tree.Measure tree.Name) (n : ℕ) → n < 2 ^ 64
     → is_name (default_name m n) ≡ true
@@ -162,12 +143,7 @@ default_spelled m n below = by_word (function_word m) (begins m) (letters m) (sh
 
 name_spelled : (n : ℕ) (a : Aggregate) → n < 2 ^ 64 → asked.alias_is_spelled (a.name) ≡ true
     → is_name (name_of_aggregate n a) ≡ true
-name_spelled n a d good = go a.name refl good
-  where
-    go : (o : Option Name) → a.name ≡ o → asked.alias_is_spelled (o) ≡ true
-        → is_name (name_of_aggregate n a) ≡ true
-    go None h e = rw h (default_spelled a.measure n d)
-    go (Some own) h e = rw h e
+name_spelled n a d good = grind (arith, default_spelled)
 
 pub names_spelled : (number : ℕ) (is' : List Item) → number + length is' < 2 ^ 64
     → list_all asked.item_is_spelled is' ≡ true → list_all is_name (names_from number is') ≡ true

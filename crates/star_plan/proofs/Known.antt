@@ -1,6 +1,6 @@
 -- The names of a well named query stand for something that is in scope and of the kind that is
 -- asked of it.
-use Rattle.std.proofs.Common.{◌≡◌, ◌∙◌, sym, ap, ◌+◌, ℕ, Bool, true, false, ◌&&◌, ◌||◌, if◌then◌else◌, List, [], ◌∷◌, ◌++◌, Option, Some, None, nat_eq, option_map, refl}
+use Rattle.std.proofs.Common.{◌≡◌, ◌∙◌, sym, ap, ◌+◌, ℕ, Bool, true, false, ◌&&◌, ◌||◌, if◌then◌else◌, List, [], ◌∷◌, ◌++◌, Option, Some, None, nat_eq, option_map, refl, arith}
 use Rattle.std.specs.{Cmp.Lexicographic.pointwise, Cmp.Lexicographic.same_text, List.AllByRecursion, List.list_all, List.list_any, Option.is_none}
 use Rattle.std.proofs.lemmas.{Bool.and_from, List.Folds.list_all-append}
 use Rattle.star_common.proofs.Firsts.{or_none}
@@ -230,12 +230,7 @@ items_known groups before (tree.aggregate a ∷ is') all =
 
 joined_table : (ps : List Pair) (t : TableId) → is_joined ps t ≡ joins_table (joins_of ps) t
 joined_table [] t = refl
-joined_table (p ∷ ps) t = go p.join refl (joined_table ps t)
-  where
-    go : (o : Option Join) → p.join ≡ o → is_joined ps t ≡ joins_table (joins_of ps) t
-        → is_joined (p ∷ ps) t ≡ joins_table (joins_of (p ∷ ps)) t
-    go None h rest = rw h rest
-    go (Some j) h rest = rw h (ap (λ b. is_table t (table_of j.key) || b) rest)
+joined_table (p ∷ ps) t = grind (arith, joined_table ps t)
 
 pub reached_each : (ps : List Pair) (tables : List Name)
     → first_answer (missing_fault ps) tables ≡ None

@@ -79,11 +79,7 @@ all_whole v f xs i done past so_far =
 
 pub all_first : {A B : Type 0} (f : A → Option B) (xs : List A)
     → with_rest [] (option_all f xs) ≡ option_all f xs
-all_first f xs = go (option_all f xs)
-  where
-    go : {B : Type 0} (o : Option (List B)) → with_rest [] o ≡ o
-    go None = refl
-    go (Some ys) = refl
+all_first f xs = grind arith
 
 -- ---- what gave an answer
 
@@ -97,10 +93,7 @@ pub record Both {A B C : Type 0} (f : A → B → C) (a : Option A) (b : Option 
 
 pub both_gave : {A B C : Type 0} (f : A → B → C) (a : Option A) (b : Option B) (c : C)
     → option_both f a b ≡ Some c → Both f a b c
-both_gave f None b c e = absurd (cc)
-both_gave f (Some x) None c e = absurd (cc)
-both_gave f (Some x) (Some y) c e =
-    record { left = x; right = y; first = refl; second = refl; made = cc }
+both_gave f it b c e = grind arith
 
 pub mapped_gave : {A B : Type 0} (f : A → B) (o : Option A) (b : B) → option_map f o ≡ Some b
     → (a : A) × (o ≡ Some a) × (f a ≡ b)

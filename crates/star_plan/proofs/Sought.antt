@@ -1,5 +1,5 @@
 -- What a name of SELECT or ORDER BY stands for: it is there exactly where a test finds the name.
-use Rattle.std.proofs.Common.{◌≡◌, ◌∙◌, sym, cond, ltb, ◌||◌, Bool, true, false, not as negated, if◌then◌else◌, ℕ, suc, ◌+◌, List, [], ◌∷◌, Option, Some, None, length, nat_eq, option_map, arith, refl}
+use Rattle.std.proofs.Common.{◌≡◌, ◌∙◌, cond, ltb, ◌||◌, Bool, true, false, not as negated, if◌then◌else◌, ℕ, suc, ◌+◌, List, [], ◌∷◌, Option, Some, None, length, nat_eq, option_map, arith, refl}
 use Rattle.std.proofs.lemmas.Bool.{le-ltb, lt-ltb, ltb-false, ltb-true}
 use Rattle.std.specs.{Cmp.Lexicographic.pointwise, List.list_any, List.position, List.prefix_len, Option.is_some, Option.option_or}
 use Rattle.star_schema.specs.declared.group.GroupColumn.TheVariants as group
@@ -23,21 +23,12 @@ some_either None q = refl
 some_either (Some x) q = refl
 
 ltb_next : (a b : ℕ) → ltb (1 + a) (suc b) ≡ ltb a b
-ltb_next a b = go (ltb a b) refl
-  where
-    go : (t : Bool) → ltb a b ≡ t → ltb (1 + a) (suc b) ≡ ltb a b
-    go true h = lt-ltb (1 + a) (suc b) (omega (arith, ltb-true a b h)) ∙ sym h
-    go false h = le-ltb (1 + a) (suc b) (omega (arith, ltb-false a b h)) ∙ sym h
+ltb_next a b = grind (arith, ltb, lt-ltb, ltb-true, le-ltb, ltb-false)
 
 any_within : {X : Type 0} (p : X → Bool) (xs : List X)
     → ltb (prefix_len (λ x. negated (p x)) xs) (length xs) ≡ list_any p xs
 any_within p [] = refl
-any_within p (x ∷ xs) = go (p x) refl (any_within p xs)
-  where
-    go : (b : Bool) → p x ≡ b → ltb (prefix_len (λ y. negated (p y)) xs) (length xs) ≡ list_any p xs
-        → ltb (prefix_len (λ y. negated (p y)) (x ∷ xs)) (length (x ∷ xs)) ≡ list_any p (x ∷ xs)
-    go true h rest = rw h (lt-ltb 0 (length (x ∷ xs)) (omega arith))
-    go false h rest = rw h (ltb_next (prefix_len (λ y. negated (p y)) xs) (length xs) ∙ rest)
+any_within p (x ∷ xs) = grind (arith, any_within p xs, ltb, negated, lt-ltb, ltb_next)
 
 place_sought : {X : Type 0} (p : X → Bool) (xs : List X) → is_some (position p xs) ≡ list_any p xs
 place_sought p xs = some_if _ (prefix_len (λ x. negated (p x)) xs) ∙ any_within p xs

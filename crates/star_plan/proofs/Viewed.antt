@@ -89,12 +89,7 @@ after_here : {X Y A : Type 0} (v : X → Y) (f : List Y → Y → Option A) (bef
 after_here v f before [] i d within = absurd (omega arith)
 after_here v f before (x ∷ xs) zero d within = rw append-nil refl
 after_here v f before (x ∷ xs) (suc i) d within =
-    let next : suc i + 1 ≡ suc (i + 1) = omega arith in
-    let rest = after_here v f (before ++ v x ∷ []) xs i d (omega arith) in
-    rw next (rw (
-      append_assoc before (v x ∷ []) (map v (take i xs)),
-      append_assoc before (v x ∷ []) (map v (take (i + 1) xs)),
-    ) at rest)
+    grind (arith, after_here v f (before ++ v x ∷ []) xs i d (omega arith), append_assoc)
 
 beside_here : {X Y A : Type 0} (v : X → Y) (f : List Y → Y → Option A) (xs : List X) (i : ℕ)
     (d : X) → i < length xs

@@ -1,24 +1,18 @@
 -- The product of some tables: in which order they stand, and what joins leave of it.
-use Rattle.std.proofs.Common.{◌≡◌, ◌∙◌, Bool, true, false, true≢false, ◌&&◌, ◌||◌, not, if◌then◌else◌, List, [], ◌∷◌, ◌++◌, Option, Some, None, refl, sym, ap, subst, cond, map}
+use Rattle.std.proofs.Common.{◌≡◌, ◌∙◌, Bool, true, false, true≢false, ◌&&◌, ◌||◌, not, if◌then◌else◌, List, [], ◌∷◌, ◌++◌, Option, Some, None, refl, sym, ap, subst, cond, map, arith}
 use Rattle.std.specs.{Prelude.filter, List.AllByRecursion, List.flat_map, List.list_all, List.list_any, List.Sorted.IsPermutation, Ordering.is_eq}
-use Rattle.std.proofs.lemmas.{Bool.and_parts, Bool.or_parts, Bool.not-true, List.Elements.filter-append, List.Sorted.IsPermutation-refl, List.Sorted.IsPermutation-trans}
+use Rattle.std.proofs.lemmas.{Bool.and_parts, Bool.or_parts, Bool.not-true, List.Elements.filter-append, List.Sorted.IsPermutation-trans}
 use Rattle.star_schema.specs.{declared.table.TableId.TableId, declared.table.TableId.TheVariants.Lineorder, Order.value_cmp, Schema.is_table, Schema.key_of, Schema.references, Schema.table_of}
 use Rattle.star_schema.proofs.{KeyColumns.foreign_key, Same.table_same, Same.table_itself}
 use Rattle.star_plan.specs.{declared.tree.Join.Join, Joins.is_foreign, Joins.is_lone_key, Joins.refers, Sound.are_distinct}
-use Rattle.star_plan.specs.Meaning.{Joined, Row, Tables, joined_rows, matches, only_row, partners, value_in, joined_value, with_row}
+use Rattle.star_plan.specs.Meaning.{Joined, Row, Tables, joined_rows, matches, only_row, partners, joined_value, with_row}
 use Rattle.star_query_meaning.specs.Rows.{product, with_choices}
 use Rattle.star_query_meaning.proofs.Reorderings.{crossed, each_reordered, reordered}
 
 -- ---- tables
 
 pub table_turned : (s t : TableId) → is_table s t ≡ false → is_table t s ≡ false
-table_turned s t e = by (is_table t s) refl
-  where
-    by : (b : Bool) → is_table t s ≡ b → is_table t s ≡ false
-    by false h = h
-    by true h =
-        absurd (true≢false
-        (sym (table_itself t) ∙ ap (λ u. is_table u t) (table_same t s h) ∙ e))
+table_turned s t e = grind (arith, true≢false, table_itself, table_same)
 
 -- the table is among these
 abbrev pub is_among : TableId → List TableId → Bool
@@ -63,13 +57,7 @@ filter_same p q (x ∷ xs) all =
 pub filter_both : {X : Type 0} (p q : X → Bool) (xs : List X)
     → filter (λ x. p x && q x) xs ≡ filter q (filter p xs)
 filter_both p q [] = refl
-filter_both p q (x ∷ xs) = by (p x) (filter_both p q xs)
-  where
-    by : (b : Bool) → filter (λ x. p x && q x) xs ≡ filter q (filter p xs)
-        → cond (b && q x) (x ∷ filter (λ x. p x && q x) xs) (filter (λ x. p x && q x) xs)
-        ≡ filter q (cond b (x ∷ filter p xs) (filter p xs))
-    by true e = λ i. cond (q x) (x ∷ e i) (e i)
-    by false e = e
+filter_both p q (x ∷ xs) = grind (arith, filter_both p q xs)
 
 -- a test that first asks a fact of all elements
 filter_fact : {X : Type 0} (b : Bool) (q : X → Bool) (xs : List X)
@@ -82,13 +70,7 @@ filter_fact false q (x ∷ xs) = filter_fact false q xs
 given_kept : {X Y : Type 0} (p : X → Bool) (f : X → List Y) (xs : List X)
     → flat_map (λ x. cond (p x) (f x) []) xs ≡ flat_map f (filter p xs)
 given_kept p f [] = refl
-given_kept p f (x ∷ xs) = by (p x) (given_kept p f xs)
-  where
-    by : (b : Bool) → flat_map (λ x. cond (p x) (f x) []) xs ≡ flat_map f (filter p xs)
-        → cond b (f x) [] ++ flat_map (λ x. cond (p x) (f x) []) xs
-        ≡ flat_map f (cond b (x ∷ filter p xs) (filter p xs))
-    by true e = ap (λ l. f x ++ l) e
-    by false e = e
+given_kept p f (x ∷ xs) = grind (arith, given_kept p f xs)
 
 given_same : {X Y : Type 0} (f g : X → List Y) (xs : List X) → ((x : X) → f x ≡ g x)
     → flat_map f xs ≡ flat_map g xs
@@ -127,10 +109,7 @@ module _ (ts : Tables) where
       × ((row : Joined) → IsPermutation (with_choices ts xs row) (with_choices ts ys row)))
 
   choices_same : (xs : List TableId) → SameChoices xs xs
-  choices_same xs = (
-    λ t. refl,
-    λ apart. (apart, λ row. IsPermutation-refl (with_choices ts xs row)),
-  )
+  choices_same xs = grind arith
 
   choices_again : (xs ys zs : List TableId) → SameChoices xs ys → SameChoices ys zs
       → SameChoices xs zs
@@ -145,15 +124,7 @@ module _ (ts : Tables) where
 
   choices_under : (x : TableId) (xs ys : List TableId) → SameChoices xs ys
       → SameChoices (x ∷ xs) (x ∷ ys)
-  choices_under x xs ys h = (
-    λ t. ap (λ b. is_table t x || b) (h.0 t),
-    λ apart. (let rest = h.1 apart.1 in (
-      (sym (h.0 x) ∙ apart.0, rest.0),
-      λ row. each_reordered (λ chosen. with_choices ts xs (with_row row x chosen))
-          (λ chosen. with_choices ts ys (with_row row x chosen)) (ts x)
-          (λ chosen. rest.1 (with_row row x chosen)),
-    )),
-  )
+  choices_under x xs ys h = grind (arith, each_reordered)
 
   choices_turned : (x y : TableId) (xs : List TableId) → SameChoices (x ∷ y ∷ xs) (y ∷ x ∷ xs)
   choices_turned x y xs = (
@@ -228,15 +199,7 @@ module _ (ts : Tables) where
   asked : (j : Join) (js : List Join) (row : Joined) (d : Row) (choice : Joined) → IsStar (j ∷ js)
       → Keeps (dimensions_of js) (with_row row (table_of j.key) d) choice
       → is_joined_by choice j ≡ matches row j d
-  asked j js row d choice star keeps =
-      let t = table_of j.key in
-      let fact : choice (table_of j.foreign) ≡ row (table_of j.foreign) =
-      subst (λ u. choice u ≡ row u) (sym star.0)
-      (keeps Lineorder (no_fact_among js star.3)
-      ∙ ap (λ b. if b then d else row Lineorder) star.1) in
-      let dimension : choice t ≡ d =
-      keeps t star.2 ∙ ap (λ b. if b then d else row t) (table_itself t) in
-      λ i. is_eq (value_cmp (value_in j.foreign (fact i)) (value_in j.key (dimension i)))
+  asked j js row d choice star keeps = grind (arith, no_fact_among, table_itself)
 
   -- what the joins leave of every choice of the dimensions' rows are the partners of the row
   joined_choices : (js : List Join) → IsStar js → (row : Joined)
@@ -285,18 +248,7 @@ refers_to (Some s) t e = ap Some (table_same s t e)
 -- lineorder has no lone key
 pub no_key_of_fact : (j : Join) → is_foreign j.foreign j.key ≡ true
     → is_table Lineorder (table_of j.key) ≡ false
-no_key_of_fact j e = by (is_table Lineorder (table_of j.key)) refl
-  where
-    by : (b : Bool) → is_table Lineorder (table_of j.key) ≡ b
-        → is_table Lineorder (table_of j.key) ≡ false
-    by false h = h
-    by true h =
-        let lone = (and_parts (refers (references j.foreign) (table_of j.key))
-        (is_lone_key j.key (key_of (table_of j.key))) e).1 in
-        let wrong : is_lone_key j.key (key_of Lineorder) ≡ true =
-        subst (λ t. is_lone_key j.key (key_of t) ≡ true)
-        (sym (table_same Lineorder (table_of j.key) h)) lone in
-        absurd (cc)
+no_key_of_fact j e = grind (arith, and_parts, table_same)
 
 apart_from : (t : TableId) (js : List Join)
     → list_all (λ q. not (is_table (table_of q.key) t)) js ≡ true

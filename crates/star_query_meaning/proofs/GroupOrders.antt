@@ -25,11 +25,9 @@ aggregate_reordered Count xs ys h = ap (λ n. Some (pos n)) (sym (length_permuta
 aggregate_reordered Sum xs ys h =
     joined_reordered (λ x y. x +ℤ y) (λ x y. omega (arith, ints)) (λ x y z. omega (arith, ints)) xs
     ys h
-aggregate_reordered Min xs ys h =
-    joined_reordered int_min (λ x y. omega (arith, ints, clamps))
+aggregate_reordered Min xs ys h = joined_reordered int_min (λ x y. omega (arith, ints, clamps))
     (λ x y z. omega (arith, ints, clamps)) xs ys h
-aggregate_reordered Max xs ys h =
-    joined_reordered int_max (λ x y. omega (arith, ints, clamps))
+aggregate_reordered Max xs ys h = joined_reordered int_max (λ x y. omega (arith, ints, clamps))
     (λ x y z. omega (arith, ints, clamps)) xs ys h
 
 module _ {K : Type 0} where

@@ -1,7 +1,7 @@
 -- WHERE, on a query's own tree, says of a row what the joins and the other conjuncts of the plan
 -- say.
-use Rattle.std.proofs.Common.{◌≡◌, ◌∙◌, Bool, true, false, ◌&&◌, ◌||◌, not as negated, inl, inr, List, [], ◌∷◌, ◌++◌, Option, Some, None, option_map, refl, sym, ap}
-use Rattle.std.specs.{List.AllByRecursion, Prelude.pos, Option.option_map_or, Option.option_to_list, Ordering.is_eq, Ordering.is_le, Ordering.ordering_reverse, declared.cmp.Ordering.Ordering}
+use Rattle.std.proofs.Common.{◌≡◌, ◌∙◌, Bool, true, false, ◌&&◌, ◌||◌, not as negated, inl, inr, List, [], ◌∷◌, ◌++◌, Option, Some, None, option_map, refl, sym, ap, arith}
+use Rattle.std.specs.{List.AllByRecursion, Prelude.pos, Option.option_map_or, Option.option_to_list, Ordering.is_eq, Ordering.ordering_reverse, declared.cmp.Ordering.Ordering}
 use Rattle.std.specs.declared.cmp.Ordering.TheVariants.{Less, Equal, Greater}
 use Rattle.std.proofs.{lemmas.Grind.flat_map-append, lemmas.List.Folds.list_all-append}
 use Rattle.star_schema.specs.{declared.column.ColumnId.ColumnId, Order.value_cmp, Tables.Value, Tables.Number}
@@ -10,7 +10,7 @@ use Rattle.star_query.specs.Tree.{Comparison, Condition, Name, Test, or, and, no
 use Rattle.star_report.proofs.OneOrder.{value_turned}
 use Rattle.star_plan.specs.{declared.tree.Join.Join, Joins.Pair, Joins.is_foreign, Joins.join_by, Joins.join_of, Joins.joins_of, Joins.pairs_of, Joins.where_pairs, Names.column_at}
 use Rattle.star_plan.specs.Meaning as plan
-use Rattle.star_plan.specs.Meaning.{Joined, all_hold, holds, tests, joined_value}
+use Rattle.star_plan.specs.Meaning.{Joined, all_hold, holds, joined_value}
 use Rattle.star_plan.specs.Resolved.{conjuncts_of, resolved_condition, resolved_test, where_conjuncts}
 use Rattle.star_plan.proofs.{Known.each_left, Known.each_right, Options.both_gave, Options.first_or_second, Options.mapped_gave, Related.condition_related}
 use Rattle.star_query_meaning.specs.Rows.{is_true, test_is_true, value_named, where_is_true}
@@ -29,21 +29,11 @@ named n c row e = ap (λ o. value_if o row) e
 
 test_same : (row : Joined) (t : Test) (c : Comparison ColumnId Value) → resolved_test t ≡ Some c
     → test_is_true row t ≡ plan.comparison_holds (λ d. joined_value d row) (λ v. v) c
-test_same row (tree.pair m n) c e = absurd (cc)
-test_same row (tree.comparison (tree.compare n s l)) c e =
-    let g = mapped_gave (λ d. compare d s l) (column_at n) c e in
-    (λ i. tests s (value_cmp (named n g.0 row g.1 i) l))
-    ∙ ap (plan.comparison_holds (λ d. joined_value d row) (λ v. v)) g.2
-test_same row (tree.comparison (tree.between n from upto)) c e =
-    let g = mapped_gave (λ d. between d from upto) (column_at n) c e in
-    (λ i. is_le (value_cmp from (named n g.0 row g.1 i))
-    && is_le (value_cmp (named n g.0 row g.1 i) upto))
-    ∙ ap (plan.comparison_holds (λ d. joined_value d row) (λ v. v)) g.2
+test_same row it c e = grind (arith, mapped_gave, named)
 
 condition_same : (q : Condition Test) (x : plan.RowCondition) (row : Joined)
     → resolved_condition q ≡ Some x → is_true q row ≡ holds x row
-condition_same q x row =
-    condition_related (λ a b. a ≡ b) (test_is_true row)
+condition_same q x row = condition_related (λ a b. a ≡ b) (test_is_true row)
     (plan.comparison_holds (λ d. joined_value d row) (λ v. v)) negated ◌||◌ ◌&&◌ (test_same row)
     (λ a b h. ap negated h) (λ a b c d l r. cc) (λ a b c d l r. cc) q x
 
@@ -98,10 +88,7 @@ abbrev pub AreJoins : List Pair → Type 0
 AreJoins ps = AllByRecursion (λ p. (j : Join) × (p.join ≡ Some j)) ps
 
 ands_crossed : (a b c d : Bool) → ((a && b) && (c && d)) ≡ ((a && c) && (b && d))
-ands_crossed true true c d = refl
-ands_crossed true false true d = refl
-ands_crossed true false false d = refl
-ands_crossed false b c d = refl
+ands_crossed it b c d = grind arith
 
 and_true : (b : Bool) → b ≡ (b && true)
 and_true true = refl
@@ -136,13 +123,7 @@ conjuncts_same (tree.and a b) xs row e all =
     (all_joined (joins_of qs) row) (all_hold g.right row)
     ∙ (λ i. sym joins i && sym others i)
 conjuncts_same (tree.test (tree.pair m n)) xs row e all =
-    let none : [] ≡ xs = cc in
-    let j = all.0.0 in
-    let joins : j ∷ [] ≡ joins_of (pairs_of true (tree.test (tree.pair m n))) =
-    λ i. option_to_list (sym all.0.1 i) ++ [] in
-    join_same (column_at m) (column_at n) j row all.0.1 ∙ and_true (is_joined_by row j)
-    ∙ and_true (is_joined_by row j && true)
-    ∙ (λ i. all_joined (joins i) row && all_hold (none i) row)
+    grind (arith, join_same, and_true, is_joined_by, all_joined)
 conjuncts_same (tree.or a b) xs row e all = lone_same (tree.or a b) xs row e
 conjuncts_same (tree.not a) xs row e all = lone_same (tree.not a) xs row e
 conjuncts_same (tree.test (tree.comparison (tree.compare n s l))) xs row e all =

@@ -1,5 +1,5 @@
 -- A query fits tables by its own words where its plan does.
-use Rattle.std.proofs.Common.{◌≡◌, ◌∙◌, ◌↔◌, ℕ, List, [], ◌∷◌, Some, refl, sym, ap}
+use Rattle.std.proofs.Common.{◌≡◌, ◌∙◌, ◌↔◌, ℕ, List, [], ◌∷◌, Some, refl, sym, ap, arith}
 use Rattle.std.specs.{Prelude.◌+ℤ◌, Prelude.◌-ℤ◌, Prelude.◌*ℤ◌, Prelude.◌&&◌, List.list_all}
 use Rattle.star_schema.specs.{declared.column.ColumnId.ColumnId, Columns.bounds_in}
 use Rattle.star_interval.specs.Range.{corner_range, fits_i64, only}
@@ -31,8 +31,7 @@ module _ (ts : Tables) where
       let whole = ap (nodes_fit (bounds_in ts)) g.made in
       let range : expression_range (range_named ts) (add a b)
       ≡ expression_range (bounds_in ts) (add g.left g.right) =
-      λ i. corner_range ◌+ℤ◌ (ranges_same a g.left g.first i)
-      (ranges_same b g.right g.second i) in
+      λ i. corner_range ◌+ℤ◌ (ranges_same a g.left g.first i) (ranges_same b g.right g.second i) in
       (λ i. nodes_same a g.left g.first i
       && (nodes_same b g.right g.second i && fits_i64 (range i))) ∙ whole
   nodes_same (tree.sub a b) x h =
@@ -40,8 +39,7 @@ module _ (ts : Tables) where
       let whole = ap (nodes_fit (bounds_in ts)) g.made in
       let range : expression_range (range_named ts) (sub a b)
       ≡ expression_range (bounds_in ts) (sub g.left g.right) =
-      λ i. corner_range ◌-ℤ◌ (ranges_same a g.left g.first i)
-      (ranges_same b g.right g.second i) in
+      λ i. corner_range ◌-ℤ◌ (ranges_same a g.left g.first i) (ranges_same b g.right g.second i) in
       (λ i. nodes_same a g.left g.first i
       && (nodes_same b g.right g.second i && fits_i64 (range i))) ∙ whole
   nodes_same (tree.mul a b) x h =
@@ -49,18 +47,13 @@ module _ (ts : Tables) where
       let whole = ap (nodes_fit (bounds_in ts)) g.made in
       let range : expression_range (range_named ts) (mul a b)
       ≡ expression_range (bounds_in ts) (mul g.left g.right) =
-      λ i. corner_range ◌*ℤ◌ (ranges_same a g.left g.first i)
-      (ranges_same b g.right g.second i) in
+      λ i. corner_range ◌*ℤ◌ (ranges_same a g.left g.first i) (ranges_same b g.right g.second i) in
       (λ i. nodes_same a g.left g.first i
       && (nodes_same b g.right g.second i && fits_i64 (range i))) ∙ whole
 
   measure_same : (m : Measure Name) (x : Measure ColumnId) → resolved_measure m ≡ Some x
       → measure_fits (range_named ts) m ≡ measure_fits (bounds_in ts) x
-  measure_same tree.count x e = let same : tree.count ≡ x = cc in
-      ap (measure_fits (bounds_in ts)) same
-  measure_same (tree.fold f e) x h =
-      let g = mapped_gave (tree.fold f) (resolved_expression e) x h in
-      nodes_same e g.0 g.1 ∙ ap (measure_fits (bounds_in ts)) g.2
+  measure_same it x e = grind (arith, mapped_gave, nodes_same)
 
   measures_same : (items : List Item) (ms : List (Measure ColumnId))
       → option_all resolved_measure (measures_of items) ≡ Some ms

@@ -7,7 +7,7 @@ use Rattle.star_schema.specs.declared.group.GroupColumn.TheVariants as group
 use Rattle.star_schema.specs.declared.group.SortKey as sorted
 use Rattle.star_schema.specs.Schema.{column_name}
 use Rattle.star_schema.proofs.NamesApart.{found_named}
-use Rattle.star_query.specs.{declared.token.Fold.Fold, Tree.Expression, Tree.Item, Tree.Measure, Tree.Name, Tree.SortKey, Tree.Tree, Tree.add, Tree.column, Tree.constant, Tree.mul, Tree.sub}
+use Rattle.star_query.specs.{declared.token.Fold.Fold, Tree.Expression, Tree.Item, Tree.Measure, Tree.Name, Tree.SortKey, Tree.Tree}
 use Rattle.star_query.specs.declared.token.Fold.TheVariants as fold
 use Rattle.star_query.specs.Tree as tree
 use Rattle.star_plan.specs.Meaning as plan
@@ -22,8 +22,7 @@ use Rattle.star_query_meaning.proofs.OwnConditions.{named}
 pub keys_same : (names : List Name) (cs : List ColumnId) (row : Joined)
     → option_all column_at names ≡ Some cs
     → map (λ n. value_named n row) names ≡ map (λ c. joined_value c row) cs
-keys_same names cs row =
-    mapped_all column_at (λ n. value_named n row) (λ c. joined_value c row)
+keys_same names cs row = mapped_all column_at (λ n. value_named n row) (λ c. joined_value c row)
     (λ n c h. named n c row h) names cs
 
 expression_same : (e : Expression Name) (x : Expression ColumnId) (row : Joined)
@@ -37,11 +36,7 @@ expression_same e x row =
 measure_same : (m : Measure Name) (x : Measure ColumnId) (row : Joined)
     → resolved_measure m ≡ Some x
     → plan.measured (λ n. value_named n row) m ≡ plan.measured (λ c. joined_value c row) x
-measure_same tree.count x row e = let same : tree.count ≡ x = cc in
-    ap (plan.measured (λ c. joined_value c row)) same
-measure_same (tree.fold f e) x row h =
-    let g = mapped_gave (tree.fold f) (resolved_expression e) x h in
-    expression_same e g.0 row g.1 ∙ ap (plan.measured (λ c. joined_value c row)) g.2
+measure_same it x row e = grind (arith, mapped_gave, expression_same)
 
 folded_function : (f : Fold) (e : Expression Name) (x : Expression ColumnId)
     → plan.aggregate_of (tree.fold f e) ≡ plan.aggregate_of (tree.fold f x)
@@ -51,19 +46,13 @@ folded_function fold.Max e x = refl
 
 function_same : (m : Measure Name) (x : Measure ColumnId) → resolved_measure m ≡ Some x
     → plan.aggregate_of m ≡ plan.aggregate_of x
-function_same tree.count x e = let same : tree.count ≡ x = cc in ap plan.aggregate_of same
-function_same (tree.fold f e) x h =
-    let g = mapped_gave (tree.fold f) (resolved_expression e) x h in
-    folded_function f e g.0 ∙ ap plan.aggregate_of g.2
+function_same it x e = grind (arith, mapped_gave, folded_function)
 
 pub values_same : (items : List Item) (ms : List (Measure ColumnId)) (row : Joined)
     → option_all resolved_measure (measures_of items) ≡ Some ms
     → map (plan.measured (λ n. value_named n row)) (measures_of items)
     ≡ map (plan.measured (λ c. joined_value c row)) ms
-values_same items ms row =
-    mapped_all resolved_measure (plan.measured (λ n. value_named n row))
-    (plan.measured (λ c. joined_value c row)) (λ m x h. measure_same m x row h) (measures_of items)
-    ms
+values_same items ms row = grind (arith, mapped_all, measure_same)
 
 pub functions_same : (items : List Item) (ms : List (Measure ColumnId))
     → option_all resolved_measure (measures_of items) ≡ Some ms

@@ -1,7 +1,7 @@
 -- FROM names lineorder and the dimensions that are joined, in some order.
-use Rattle.std.proofs.Common.{◌≡◌, ◌∙◌, Bool, true, false, true≢false, ◌||◌, inl, inr, List, [], ◌∷◌, ◌++◌, Option, Some, None, nat_eq, refl, sym, ap, subst}
+use Rattle.std.proofs.Common.{◌≡◌, ◌∙◌, Bool, true, false, true≢false, ◌||◌, inl, inr, List, [], ◌∷◌, ◌++◌, Option, Some, None, nat_eq, refl, sym, ap, subst, arith}
 use Rattle.std.proofs.lemmas.List.Sorted.{IsPermutation-refl, IsPermutation-cons, IsPermutation-middle, IsPermutation-sym, IsPermutation-trans}
-use Rattle.std.proofs.{lemmas.Grind.flat_map-append, lemmas.List.Folds.list_any-append, lemmas.Bool.or_parts}
+use Rattle.std.proofs.{lemmas.Grind.flat_map-append, lemmas.List.Folds.list_any-append, lemmas.Bool.or_parts, lemmas.Grind.common_steps}
 use Rattle.std.specs.{Cmp.Lexicographic.pointwise, List.AllByRecursion, List.IsDistinct, List.Sorted.IsPermutation, Option.option_to_list}
 use Rattle.star_schema.specs.declared.table.TableId.TheVariants.{Date, Customer, Supplier, Part, Lineorder}
 use Rattle.star_schema.specs.declared.column.ColumnId.TheVariants.{DDatekey, CCustkey, SSuppkey, PPartkey, LoOrderkey}
@@ -42,29 +42,11 @@ middle_apart : (t : TableId) (front back : List TableId) → AreApart (front ++ 
     → (is_among t (front ++ back) ≡ false) × AreApart (front ++ back)
 middle_apart t [] back apart = apart
 middle_apart t (u ∷ front) back apart =
-    let rest = middle_apart t front back apart.1 in
-    let among : (is_among u front || (is_table u t || is_among u back)) ≡ false =
-    sym (list_any-append (is_table u) front (t ∷ back)) ∙ apart.0 in
-    let first = or_parts (is_among u front) (is_table u t || is_among u back) among in
-    let second = or_parts (is_table u t) (is_among u back) first.1 in
-    let other : is_among u (front ++ back) ≡ false =
-    list_any-append (is_table u) front back ∙ (λ i. first.0 i || second.1 i) in
-    let turned : is_table t u ≡ false =
-    by_test (is_table t u) refl
-    (λ h. true≢false (sym (table_itself u) ∙ ap (is_table u) (sym (table_same t u h))
-    ∙ second.0)) in
-    ((λ i. turned i || rest.0 i), (other, rest.1))
-  where
-    by_test : (b : Bool) → is_table t u ≡ b → (is_table t u ≡ true → ⊥) → is_table t u ≡ false
-    by_test true h no' = absurd (no' h)
-    by_test false h no' = h
+    grind (arith, common_steps, middle_apart t front back apart.1, back, list_any-append, or_parts)
 
 middle_among : (u t : TableId) (front back : List TableId)
     → is_among u (front ++ t ∷ back) ≡ (is_table u t || is_among u (front ++ back))
-middle_among u t front back =
-    list_any-append (is_table u) front (t ∷ back)
-    ∙ ors_turned (is_among u front) (is_table u t) (is_among u back)
-    ∙ ap (λ b. is_table u t || b) (sym (list_any-append (is_table u) front back))
+middle_among u t front back = grind (arith, list_any-append, back, ors_turned)
 
 -- two lists with no table twice, and with the same tables
 same_tables : (xs ys : List TableId) → AreApart xs → AreApart ys
@@ -151,10 +133,7 @@ pub named_apart : (names : List Name) → AreTables names → IsDistinct same_na
     → AreApart (tables_of names)
 unfolding IsDistinct
 named_apart [] all once = tt
-named_apart (n ∷ ns) all once =
-    let u = all.0.0 in
-    subst (λ o. AreApart (option_to_list o ++ tables_of ns)) (sym all.0.1)
-    (not_again n u ns all.0.1 all.1 once.0, named_apart ns all.1 once.1)
+named_apart (n ∷ ns) all once = grind (arith, named_apart ns all.1 once.1, not_again)
 
 -- ---- the dimensions that are joined
 
@@ -177,13 +156,7 @@ IsNamed tables j = has_name tables (table_name (table_of j.key)) ≡ true
 
 every_join : (P : Join → Type 0) (ps qs : List Pair) → AllByRecursion P (joins_of ps)
     → AllByRecursion P (joins_of qs) → AllByRecursion P (joins_of (ps ++ qs))
-every_join P ps qs a b =
-    subst (AllByRecursion P) (sym (flat_map-append (λ (p : Pair). option_to_list p.join) ps qs))
-    (go (joins_of ps) a)
-  where
-    go : (xs : List Join) → AllByRecursion P xs → AllByRecursion P (xs ++ joins_of qs)
-    go [] h = b
-    go (x ∷ xs) h = (h.0, go xs h.1)
+every_join it ps qs a b = grind (arith, common_steps, flat_map-append)
 
 -- a join of two columns of tables in FROM
 pair_named : (tables : List Name) (m n : Option ColumnId) → is_in_from tables m ≡ true
@@ -209,8 +182,7 @@ pair_named tables m n a b = by (join_of m n) refl
 joins_named : (tables : List Name) (b : Bool) (q : Condition Test)
     → AllByRecursion (λ u. is_in_from tables u.column ≡ true) (condition_uses q)
     → AllByRecursion (IsNamed tables) (joins_of (pairs_of b q))
-joins_named tables b (tree.and c d) all =
-    every_join (IsNamed tables) (pairs_of b c) (pairs_of b d)
+joins_named tables b (tree.and c d) all = every_join (IsNamed tables) (pairs_of b c) (pairs_of b d)
     (joins_named tables b c (each_left _ (condition_uses c) (condition_uses d) all))
     (joins_named tables b d (each_right _ (condition_uses c) (condition_uses d) all))
 joins_named tables b (tree.or c d) all =

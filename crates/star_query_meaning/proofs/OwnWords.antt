@@ -31,8 +31,7 @@ module _ (ts : Tables) (t : Tree) (p : Plan) (named : IsWellNamed t)
       (where_uses t.condition ++ groups_uses t.grouping.columns) named.scope) in
       let tables : IsPermutation from (Lineorder ∷ dimensions_of js) =
       from_tables t.tables js named.tables named.tables_once named.fact there.named.reach
-      (where_named t.tables t.condition scope)
-      (no_fact_among js star, dimensions_apart js star) in
+      (where_named t.tables t.condition scope) (no_fact_among js star, dimensions_apart js star) in
       let choices : IsPermutation (product ts from) (product ts (Lineorder ∷ dimensions_of js)) =
       product_reordered ts from (Lineorder ∷ dimensions_of js)
       (named_apart t.tables named.tables named.tables_once) tables in
@@ -78,10 +77,8 @@ module _ (ts : Tables) (t : Tree) (p : Plan) (named : IsWellNamed t)
   entries_reordered =
       let same : map (query_entry t) (selected ts t) ≡ map (plan.entry_of p) (selected ts t) =
       λ i. map (λ row. record {
-        keys =
-            keys_same t.grouping.columns p.keys row resolved.keys i;
-        values =
-            values_same t.items p.measures row resolved.measures i;
+        keys = keys_same t.grouping.columns p.keys row resolved.keys i;
+        values = values_same t.items p.measures row resolved.measures i;
       }) (selected ts t) in
       subst (λ es. IsPermutation es (map (plan.entry_of p) (plan.plan_rows ts p))) (sym same)
       (IsPermutation-map (plan.entry_of p) (selected ts t) (plan.plan_rows ts p) selected_reordered)
@@ -132,8 +129,7 @@ module _ (ts : Tables) (t : Tree) (p : Plan) (named : IsWellNamed t)
       record {
         headed = a.headed ∙ sym heads;
         groups = a.groups;
-        each_group =
-            subst (λ (X : Type 0). X)
+        each_group = subst (λ (X : Type 0). X)
             (sym (own_groups (map (query_entry t) (selected ts t)) a.groups))
             (groups_reordered value_cmp p.shape (length p.keys) (map plan.aggregate_of p.measures)
             (map (plan.entry_of p) (plan.plan_rows ts p)) (map (query_entry t) (selected ts t))

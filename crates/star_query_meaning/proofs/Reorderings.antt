@@ -67,8 +67,7 @@ module _ {X : Type 0} (p : X → Bool) where
 
   pub filter_reordered : (xs ys : List X) → IsPermutation xs ys
       → IsPermutation (filter p xs) (filter p ys)
-  filter_reordered =
-      reordered (λ xs ys. IsPermutation (filter p xs) (filter p ys))
+  filter_reordered = reordered (λ xs ys. IsPermutation (filter p xs) (filter p ys))
       (λ xs. IsPermutation-refl (filter p xs))
       (λ xs ys zs a b. IsPermutation-trans (filter p xs) (filter p ys) (filter p zs) a b) kept_under
       kept_turned

@@ -2,7 +2,7 @@
 
 ghost use Rattle.std.specs.Prelude.{◌≡◌, ◌++◌, ◌∷◌, [], ℕ, None, Some, IfOk, MatchOption, MatchResult, false, true, take};
 ghost use Rattle.star_common.specs.Memory.{UnlessMemory};
-ghost use Rattle.star_reader.specs.{Columns.raw_kind, Columns.values, Faults.cell_fault, Private.Fronts.IsFront};
+ghost use Rattle.star_reader.specs.{Columns.raw_kind, Columns.values, Faults.cell_fault, Private.Fronts.IsEndOf, Private.Fronts.IsFront};
 ghost use Rattle.star_schema.specs.Tables as spec;
 
 use crate::cell::parse_number;
@@ -85,10 +85,15 @@ impl RawColumn {
         Ok(())
     }
 
-    /// Adds the value of the first field of a text, and gives how many bytes that field has; none
-    /// if it is no cell of the column.
+    /// Adds the value of the first field of a text, the end of a line, and gives how many bytes that
+    /// field has; none if it is no cell of the column.
     #[inline(always)]
-    pub(crate) fn push_front(&mut self, text: &[u8]) -> Result<Option<usize>, AllocError>
+    pub(crate) fn push_front(
+        &mut self,
+        line: &[u8],
+        text: &[u8],
+    ) -> Result<Option<usize>, AllocError>
+        requires { IsEndOf line.now text.now }
         ensures pushed { IfOk result (λ found. MatchOption found
             ((count : ℕ) → IsFront text.now count
             → spec.is_cell (raw_kind self.old) (take count text.now) ≡ false)
@@ -106,7 +111,7 @@ impl RawColumn {
                 }
                 None => Ok(None),
             },
-            RawColumn::Texts(texts) => match text_front(text) {
+            RawColumn::Texts(texts) => match text_front(line, text) {
                 Some(count) => {
                     texts.push_front(text, count)?;
                     Ok(Some(count))

@@ -3,7 +3,7 @@
 ghost use Rattle.std.specs.Prelude.{◌≡◌, ◌+◌, ◌<◌, ◌≤◌, ◌^◌, ◌&&◌, if◌then◌else◌, ℕ, None, Some, MatchOption, false, true, length, map, not, take};
 ghost use Rattle.std.specs.{List.list_all, List.prefix_len, Simd.Lanes.mask_l, Str.Parse.digits_value};
 ghost use Rattle.star_common.specs.{Numerals.is_numeral, Printable.is_printable};
-ghost use Rattle.star_reader.specs.Private.Fronts.{IsFront, is_stop};
+ghost use Rattle.star_reader.specs.Private.Fronts.{IsEndOf, IsFront, is_stop};
 ghost use Rattle.star_schema.specs.Tables as spec;
 
 use crate::cell::parse_number;
@@ -145,9 +145,29 @@ fn near_front(text: &[u8]) -> usize
     }
 }
 
-/// How many bytes the first field of a text has, if these are at most 255 and printable.
+// How many bytes of the end of a line, at most 16 of them, come before one that ends a cell, or may
+// not be in one. The line has 16.
 #[inline(always)]
-pub(crate) fn text_front(text: &[u8]) -> Option<usize>
+fn near_end(line: &[u8], text: &[u8]) -> usize
+    requires end { IsEndOf line.now text.now }
+    requires room { 16 ≤ length line.now }
+    requires few { length text.now ≤ 16 }
+    ensures { result ≡ prefix_len (λ b. not (is_stop b)) text.now }
+{
+    let last = stops(u8x16::from_slice(&line[line.len() - NEAR..]));
+    let left = last >> (NEAR - text.len());
+    if left == 0 {
+        text.len()
+    } else {
+        left.trailing_zeros() as usize
+    }
+}
+
+/// How many bytes the first field of a text, the end of a line, has, if these are at most 255 and
+/// printable.
+#[inline(always)]
+pub(crate) fn text_front(line: &[u8], text: &[u8]) -> Option<usize>
+    requires { IsEndOf line.now text.now }
     ensures { MatchOption result
         ((count : ℕ) → IsFront text.now count
         → (spec.is_short (take count text.now)
@@ -158,6 +178,11 @@ pub(crate) fn text_front(text: &[u8]) -> Option<usize>
     if text.len() >= NEAR {
         let count = near_front(text);
         if count < NEAR && text[count] == b'|' {
+            return Some(count);
+        }
+    } else if line.len() >= NEAR {
+        let count = near_end(line, text);
+        if count >= text.len() || text[count] == b'|' {
             return Some(count);
         }
     }

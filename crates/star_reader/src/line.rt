@@ -35,7 +35,7 @@ fn push_line(columns: &mut [RawColumn], line: &[u8]) -> Result<bool, AllocError>
     let mut rest = line;
     for place in 0..columns.len() {
         let column = &mut columns[place];
-        let count = match column.push_front(rest)? {
+        let count = match column.push_front(line, rest)? {
             Some(count) => count,
             None => return Ok(false),
         };

@@ -24,8 +24,7 @@ picked_less (false ∷ bs) (v ∷ vs) = let r =
 
 picked_lies : (t : Tally) (picks : List Bool) (vs : List ℤ) → IsTallied t vs
     → Holds (tally_sum t) (sum_of (picked picks vs))
-picked_lies t picks vs h = let r =
-    picked_less picks vs in
+picked_lies t picks vs h = let r = picked_less picks vs in
     sums_lie t (picked picks vs) (omega (arith, r.0, h.above)) (omega (arith, r.1, h.below))
 
 -- what all updates of a program may add up to fits their bits
@@ -66,8 +65,7 @@ onward w known y visits e Next h go = grind (arith, common_steps)
 in_each_turn : (y add : Tallies) (start inner rows : ℕ) (turn : ℕ → State → End)
     (Holding : ℕ → State → Type 0)
     → ((j : ℕ) (s : State) → j < rows → AreTallied (plus_all y (times_all j add)) s
-    → s.visits ≤ start + j * (inner + 1) + 1
-    → Holding j s
+    → s.visits ≤ start + j * (inner + 1) + 1 → Holding j s
     × Safe (plus_all (plus_all y (times_all j add)) add) (s.visits + inner) (turn j s))
     → (k j : ℕ) → j + k ≡ rows → (s : State) → AreTallied (plus_all y (times_all j add)) s
     → s.visits ≤ start + j * (inner + 1) → InEachTurn k j turn Holding s
@@ -105,8 +103,7 @@ module _ (w : World) (catalogue : IsLoaded w) (parts : Parts) (all : Shares)
         (omega (arith, quoted))
     always (Then op rest) at pending x y regs s ready agrees tallied quoted = (
       moment w parts all x.known y regs s fit agrees tallied (here_fits pending x y at
-          (Then op rest) ready)
-          (omega (arith, quoted)),
+          (Then op rest) ready) (omega (arith, quoted)),
       onward w (after_op w parts x op).known (plus_all y (op_gain parts x op)) s.visits
           (act w parts x.inside regs s op) _
           (act_good w catalogue parts x y regs s agrees tallied (open_with pending rest) op
@@ -155,8 +152,7 @@ module _ (w : World) (catalogue : IsLoaded w) (parts : Parts) (all : Shares)
           in_each_turn y add s.visits met rows turn _
               (λ j s' lt q b. (
                 always body (at + 1) (open_with pending (Each table r body rest)) inner (plus_all y
-                    (times_all j add))
-                    (with_entry regs r (Row table j)) s'
+                    (times_all j add)) (with_entry regs r (Row table j)) s'
                     (ready_in w parts (tallies_of all) pending x y at table r body rest ready j lt)
                     (entered j lt) q
                     (le_trans (in_time s.visits s'.visits met later rows j lt b) within),
@@ -168,8 +164,7 @@ module _ (w : World) (catalogue : IsLoaded w) (parts : Parts) (all : Shares)
               (safe_turns y add s.visits met rows (λ visits. true) turn (λ k h. refl)
               (λ j s' lt q b. safe_more (plus_all (plus_all y (times_all j add)) add)
               (plus_all y (times_all (j + 1) add)) (s'.visits + met) (s.visits + (j + 1) *
-              (met + 1))
-              (turn j s')
+              (met + 1)) (turn j s')
               (λ g a. at_most_turn j (y g a) (add g a)) (in_bound s.visits s'.visits met j b)
               (safe_turn j s' lt q))
               rows 0 (omega arith) s (at_start y add s tallied) (omega arith))
@@ -182,8 +177,7 @@ module _ (w : World) (catalogue : IsLoaded w) (parts : Parts) (all : Shares)
 -- ---- a whole program
 
 pub accepted_throughout : (w : World) (parts : Parts) → IsAccepted w parts → HoldsThroughout w parts
-accepted_throughout w parts accepted =
-    always w accepted.loaded parts (all_shares w parts)
+accepted_throughout w parts accepted = always w accepted.loaded parts (all_shares w parts)
     (record { sums = all_fit w parts accepted; few = few_puts w parts accepted }) parts.body 1
     none_open at_first no_tallies no_registers empty_state
     (ready_first w parts (not_refused w parts accepted)) (λ r. tt) nothing_tallied (omega arith)

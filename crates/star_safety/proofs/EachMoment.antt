@@ -77,8 +77,7 @@ module _ (w : World) (parts : Parts) (all : Shares) where
   ends_declared at false go h = absurd h
 
   onward_from : (e : Effect) (at : ℕ) (go : Registers → State → End)
-      (Next : Registers → State → Type 0)
-      → Ends (follow at e go)
+      (Next : Registers → State → Type 0) → Ends (follow at e go)
       → ((registers : Registers) (s : State) → e ≡ GoesOn registers s → Ends (go registers s)
       → Next registers s)
       → Onward e Next

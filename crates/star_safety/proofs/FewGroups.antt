@@ -9,8 +9,7 @@ module _ {X : Type 0} where
   contains_flat : {Y : Type 0} (f : X → List Y) (xs : List X) (x : X) (y : Y)
       → Contains xs x → Contains (f x) y → Contains (flat_map f xs) y
   contains_flat f [] x y h k = absurd (contains_none x h)
-  contains_flat {Y} f (z ∷ xs) x y h k =
-      ⊎_elim {C = Contains (f z ++ flat_map f xs) y}
+  contains_flat {Y} f (z ∷ xs) x y h k = ⊎_elim {C = Contains (f z ++ flat_map f xs) y}
       (λ e. Contains-append_left (f z) (flat_map f xs) y (subst (λ v. Contains (f v) y) (sym e) k))
       (λ later. Contains-append_right (f z) (flat_map f xs) y (contains_flat f xs x y later k))
       (contains_cases z xs x h)
@@ -22,8 +21,7 @@ module _ {X : Type 0} where
       ⊎_elim {C = Contains (filter p (z ∷ xs)) x} (λ same. here (p z) (ap p same ∙ e) same)
       (λ later. there (p z) (contains_passing p xs x later e)) (contains_cases z xs x h)
     where
-      here : (b : Bool) → b ≡ true → z ≡ x
-          → Contains (if b then z ∷ filter p xs else filter p xs) x
+      here : (b : Bool) → b ≡ true → z ≡ x → Contains (if b then z ∷ filter p xs else filter p xs) x
       here true e same = subst (Contains (z ∷ filter p xs)) same (contains_here z (filter p xs))
       here false e same = absurd (true≢false (sym e))
 
@@ -32,8 +30,7 @@ module _ {X : Type 0} where
       there true c = contains_later z (filter p xs) x c
       there false c = c
 
-  passing_contains : (p : X → Bool) (xs : List X) (x : X) → Contains (filter p xs) x
-      → Contains xs x
+  passing_contains : (p : X → Bool) (xs : List X) (x : X) → Contains (filter p xs) x → Contains xs x
   passing_contains p [] x h = absurd (contains_none x h)
   passing_contains p (z ∷ xs) x h = by (p z) (passing_contains p xs x) h
     where
@@ -41,8 +38,7 @@ module _ {X : Type 0} where
           → Contains (if b then z ∷ filter p xs else filter p xs) x → Contains (z ∷ xs) x
       by true later c = ⊎_elim {C = Contains (z ∷ xs) x}
           (λ same. subst (Contains (z ∷ xs)) same (contains_here z xs))
-          (λ k. contains_later z xs x (later k))
-          (contains_cases z (filter p xs) x c)
+          (λ k. contains_later z xs x (later k)) (contains_cases z (filter p xs) x c)
       by false later c = contains_later z xs x (later c)
 
 -- ---- masks
@@ -201,8 +197,7 @@ module _ {K : Type 0} where
 
     -- a list that has every group of a grouping
     abbrev cover : List (Option ℕ) → List (List (Option K))
-    cover ms =
-        if list_all is_none ms then replicate (length vss) None ∷ []
+    cover ms = if list_all is_none ms then replicate (length vss) None ∷ []
         else (if nat_le updates (lists_of ms) then map (cut_like ms) rows else choices ms vss)
 
     length-cover : (ms : List (Option ℕ)) → IsMasked ms counts
@@ -212,8 +207,7 @@ module _ {K : Type 0} where
 
     -- a group of some rows each of whose keys that is shown has one of its values
     abbrev pub IsOne : List (Option K) → Type 0
-    IsOne qs =
-        ((ks : List K) × Contains rows ks × IsMasked qs ks × AreAmong qs vss)
+    IsOne qs = ((ks : List K) × Contains rows ks × IsMasked qs ks × AreAmong qs vss)
         ⊎ (qs ≡ replicate (length vss) None)
 
     covers : (qs : List (Option K)) → length qs ≡ length vss → IsOne qs
@@ -241,8 +235,7 @@ module _ {K : Type 0} where
                 → AreAmong qs vss
                 → Contains (if least then map (cut_like (like qs counts)) rows
                 else choices (like qs counts) vss) qs
-            of_row true ks c m among =
-                subst (Contains (map (cut_like (like qs counts)) rows))
+            of_row true ks c m among = subst (Contains (map (cut_like (like qs counts)) rows))
                 (cut_again qs counts ks same m)
                 (contains_mapped (cut_like (like qs counts)) rows ks c)
             of_row false ks c m among = chosen qs counts vss same among
@@ -252,8 +245,7 @@ module _ {K : Type 0} where
             else (if nat_le updates (lists_of (like qs counts))
             then map (cut_like (like qs counts)) rows
             else choices (like qs counts) vss)) qs
-        by true h =
-            subst (Contains (replicate (length vss) None ∷ []))
+        by true h = subst (Contains (replicate (length vss) None ∷ []))
             (ap (λ n. replicate n None) (sym e) ∙ sym (all_rolled_up qs (sym hidden ∙ h)))
             (contains_here (replicate (length vss) None) [])
         by false h = shown (nat_le updates (lists_of (like qs counts))) (sym hidden ∙ h)
@@ -280,8 +272,7 @@ module _ {K : Type 0} where
     every s = flat_map cover (filter (is_grouping s) (masks counts))
 
     length-every : (s : Shape) → length (every s) ≤ rows_of_groupings s updates counts
-    length-every s =
-        length-covers (filter (is_grouping s) (masks counts))
+    length-every s = length-covers (filter (is_grouping s) (masks counts))
         (λ m c. among_mask counts m (passing_contains (is_grouping s) (masks counts) m c))
 
     in_every : (s : Shape) (qs : List (Option K)) → length qs ≡ length vss → is_grouping s qs ≡ true
@@ -291,8 +282,7 @@ module _ {K : Type 0} where
         contains_flat cover (filter (is_grouping s) (masks counts)) (like qs counts) qs
         (contains_passing (is_grouping s) (masks counts) (like qs counts)
         (mask_among (like qs counts) counts (like_masked qs counts same))
-        (like_grouping s qs counts same ∙ grouping))
-        (covers qs e one)
+        (like_grouping s qs counts same ∙ grouping)) (covers qs e one)
 
 -- ---- groups of keys, no two of them the same
 
@@ -302,10 +292,8 @@ pub few_groups : (s : Shape) (rows vss : List (List KeyValue)) (updates : ℕ)
     → ((qs : List (Option KeyValue)) → Contains groups qs → (length qs ≡ length vss)
     × (is_grouping s qs ≡ true) × IsOne rows vss updates few qs)
     → length groups ≤ rows_of_groupings s updates (sizes vss)
-few_groups s rows vss updates few groups distinct each =
-    le_trans
+few_groups s rows vss updates few groups distinct each = le_trans
     (length-le_from_is_member key_equiv groups (every rows vss updates few s) distinct
     (λ q h. let one = each q (Contains-from_any (λ a b. (key_decides a b).0) q groups h) in
     list_any-from_Contains key_equiv q (every rows vss updates few s)
-    (in_every rows vss updates few s q one.0 one.1 one.2)))
-    (length-every rows vss updates few s)
+    (in_every rows vss updates few s q one.0 one.1 one.2))) (length-every rows vss updates few s)

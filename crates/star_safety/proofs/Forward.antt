@@ -10,8 +10,7 @@ use Rattle.std.proofs.lemmas.Grind.{common_steps}
 puts_by_code : (w : World) (parts : Parts) (c : Code) (round : List Enclosing) (x : Context)
     (at g : ℕ) → list_any (puts_to g) (standing w parts round x at c) ≡ code_puts_to g c
 puts_by_code w parts Stop round x at g = refl
-puts_by_code w parts (Then op rest) round x at g =
-    ap (λ b. op_puts_to g op || b)
+puts_by_code w parts (Then op rest) round x at g = ap (λ b. op_puts_to g op || b)
     (puts_by_code w parts rest round (after_op w parts x op) (at + 1) g)
 puts_by_code w parts (Each table r body rest) round x at g =
     let inner = in_scan w x table r in
@@ -298,8 +297,7 @@ in_none (s ∷ ss) = in_none ss
 
 no_scans : (g : ℕ) (is : List Standing) → list_any (λ j. puts_to g j && in_one_of [] j) is ≡ false
 no_scans g [] = refl
-no_scans g (i ∷ is) =
-    ap (λ b. b || list_any (λ j. puts_to g j && in_one_of [] j) is)
+no_scans g (i ∷ is) = ap (λ b. b || list_any (λ j. puts_to g j && in_one_of [] j) is)
     (and_right (puts_to g i) (in_one_of [] i) (in_none i.round))
     ∙ no_scans g is
 

@@ -120,8 +120,7 @@ IsGood w known y visits (EndsTurn s) = AreTallied y s × (s.visits ≡ visits)
 IsGood w known y visits (Traps trap) = ⊥
 
 good_unless : (w : World) (known : AllKnown) (y : Tallies) (visits : ℕ) (o : Option Fault)
-    (own : Option TrapKind) (e : Effect)
-    → o ≡ None → IsGood w known y visits (unless_trap own e)
+    (own : Option TrapKind) (e : Effect) → o ≡ None → IsGood w known y visits (unless_trap own e)
     → IsGood w known y visits (unless_trap (option_or (option_map Wrong o) own) e)
 good_unless w known y visits None own e p h = h
 good_unless w known y visits (Some fault) own e p h = absurd (cc)
@@ -144,8 +143,7 @@ module _ (w : World) (catalogue : IsLoaded w) (parts : Parts) (x : Context) (y :
 
   -- arithmetic
   good_result : (operation : ℤ → ℤ → ℤ) → KeepsValues operation (corner_range operation)
-      → (t a b : ℕ)
-      → both_fault parts.registers (kinds_known x.known) is_number_kind a b ≡ None
+      → (t a b : ℕ) → both_fault parts.registers (kinds_known x.known) is_number_kind a b ≡ None
       → overflow_of w (known_arithmetic operation (x.known a) (x.known b)) ≡ None
       → IsGood w (with_entry x.known t (known_arithmetic operation (x.known a) (x.known b)))
       (plus_all y no_tallies) s.visits
@@ -253,8 +251,7 @@ module _ (w : World) (catalogue : IsLoaded w) (parts : Parts) (x : Context) (y :
       good_number (is_i64 z) t (known_number r) z (fits_held r z fits held) (held, tt)
 
   does_good : (pending : ℕ → Bool) (op : Op) (m : Tallies)
-      → operands_fault parts (kinds_known x.known) op ≡ None
-      → source_reason pending x op ≡ None
+      → operands_fault parts (kinds_known x.known) op ≡ None → source_reason pending x op ≡ None
       → range_reason w parts x op ≡ None
       → ((g a : ℕ) → pending g ≡ false → AtMost (y g a) (tally_of (x.so_far g a)))
       → ((g a : ℕ) → AtMost (plus (y g a) (op_gain parts x op g a)) (m g a))
@@ -286,8 +283,7 @@ module _ (w : World) (catalogue : IsLoaded w) (parts : Parts) (x : Context) (y :
 -- one instruction of an admissible program
 pub act_good : (w : World) → IsLoaded w
     → (parts : Parts) (x : Context) (y : Tallies) (regs : Registers) (s : State)
-    → Agrees w x.known regs → AreTallied y s
-    → (pending : ℕ → Bool) (op : Op) (m : Tallies)
+    → Agrees w x.known regs → AreTallied y s → (pending : ℕ → Bool) (op : Op) (m : Tallies)
     → op_reason w parts pending x op ≡ None
     → ((g a : ℕ) → pending g ≡ false → AtMost (y g a) (tally_of (x.so_far g a)))
     → ((g a : ℕ) → AtMost (plus (y g a) (op_gain parts x op g a)) (m g a))
@@ -304,7 +300,6 @@ act_good w catalogue parts x y regs s agrees tallied pending op m e closed room 
     let c = or_none again (operands_fault parts (kinds_known x.known) op) b.1 in
     good_unless w (after_op w parts x op).known (plus_all y (op_gain parts x op)) s.visits
     (fault_of parts x.inside None (kinds_in regs) op) (result_trap w parts regs s op)
-    (effect_of w parts regs s op)
-    (same_fault w parts x.inside again x.known regs op agrees q)
+    (effect_of w parts regs s op) (same_fault w parts x.inside again x.known regs op agrees q)
     (does_good w catalogue parts x y regs s agrees tallied pending op m c.1 known.0 known.1 closed
     room fit)

@@ -24,8 +24,7 @@ module _ (w : World) (parts : Parts) where
   one_on i part h = record {
     front = h.front ++ i ∷ [];
     back = h.back;
-    cut =
-        h.cut ∙ sym (append_assoc h.front (i ∷ []) (part ++ h.back));
+    cut = h.cut ∙ sym (append_assoc h.front (i ∷ []) (part ++ h.back));
   }
 
   left_part : (a b : List Standing) → IsPart (instructions_of w parts) (a ++ b)
@@ -37,8 +36,7 @@ module _ (w : World) (parts : Parts) where
   right_part a b h = record {
     front = h.front ++ a;
     back = h.back;
-    cut =
-        h.cut ∙ ap (λ xs. h.front ++ xs) (append_assoc a b h.back)
+    cut = h.cut ∙ ap (λ xs. h.front ++ xs) (append_assoc a b h.back)
         ∙ sym (append_assoc h.front a (b ++ h.back));
   }
 
@@ -48,8 +46,7 @@ module _ (w : World) (parts : Parts) where
     record {
       front = [];
       back = [];
-      cut =
-          sym (append-nil (instructions_of w parts));
+      cut = sym (append-nil (instructions_of w parts));
     },
   )
   stretch m (behind x op rest at before after s t earlier goes) =
@@ -76,8 +73,7 @@ module _ (w : World) (parts : Parts) where
         stretch (moment x (Each table r body rest) at registers s) earlier,
       )
 
-  head_stands : (x : Context) (c : Code) (at : ℕ) (round : List Enclosing)
-      → (rest : List Standing)
+  head_stands : (x : Context) (c : Code) (at : ℕ) (round : List Enclosing) → (rest : List Standing)
       × (standing w parts round x at c
       ≡ record { number = at; round = round; context = x; item = item_of c } ∷ rest)
   head_stands x Stop at round = ([], refl)
@@ -99,8 +95,7 @@ stands_in w parts m met =
       number = m.at;
       round = part.0;
       context = m.context;
-      item =
-          item_of m.left;
+      item = item_of m.left;
     } in
     record {
       place = length part.1.front;

@@ -7,12 +7,10 @@ use Rattle.std.proofs.lemmas.Grind.{common_steps}
 
 -- at the first instruction
 pub first_fits : (parts : Parts) → Fits parts at_first
-first_fits parts =
-    record { known = λ r. zero_narrow; each = λ g a. tt }
+first_fits parts = record { known = λ r. zero_narrow; each = λ g a. tt }
 
 pub op_fits : (w : World) (parts : Parts) (pending : ℕ → Bool) (x : Context) (op : Op)
-    → Fits parts x
-    → op_reason w parts pending x op ≡ None → Fits parts (after_op w parts x op)
+    → Fits parts x → op_reason w parts pending x op ≡ None → Fits parts (after_op w parts x op)
 op_fits w parts pending x op fits e = grind (arith, common_steps, after_narrow, or_none)
 
 pub in_fits : (w : World) (parts : Parts) (x : Context) (table : TableId) (r : ℕ)
@@ -21,12 +19,10 @@ in_fits w parts x table r fits = grind (arith, common_steps, entry_narrow)
 
 pub past_fits : (parts : Parts) (x end : Context) → Fits parts x → Fits parts end
     → Fits parts (after_scan x end)
-past_fits parts x end fits ended =
-    record { known = fits.known; each = ended.each }
+past_fits parts x end fits ended = record { known = fits.known; each = ended.each }
 
 pub end_fits : (w : World) (parts : Parts) (c : Code) (pending : ℕ → Bool) (at : ℕ) (x : Context)
-    → Fits parts x
-    → first_reason w parts pending x at c ≡ None → Fits parts (at_end w parts x c)
+    → Fits parts x → first_reason w parts pending x at c ≡ None → Fits parts (at_end w parts x c)
 end_fits w parts Stop pending at x fits e = fits
 end_fits w parts (Then op rest) pending at x fits e =
     let p = or_none (at_place at (op_reason w parts (open_with pending rest) x op)) _ e in

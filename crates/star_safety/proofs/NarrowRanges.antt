@@ -93,8 +93,7 @@ sum_fits ss all few =
 pub after_narrow : (w : World) (parts : Parts) (x : Context) (op : Op) → Fits parts x
     → range_reason w parts x op ≡ None → Fits parts (after_op w parts x op)
 after_narrow w parts x (Assign t o) fits e = grind (arith, common_steps, entry_narrow, made_narrow)
-after_narrow w parts x (Keep f) fits e =
-    record { known = fits.known; each = fits.each }
+after_narrow w parts x (Keep f) fits e = record { known = fits.known; each = fits.each }
 after_narrow w parts x (Put g ks vs) fits e = grind (arith, common_steps, put_share, share_narrow)
 
 -- ---- what is refused
@@ -165,13 +164,10 @@ extreme_narrow (s ∷ ss) n all h =
     numbers (s ∷ ss) all = one_more (hull_of ss) s.range (numbers ss all.1) all.0
 
 read_wide : (g : Aggregate) (ss : List Share) (n : ℤ) → AllNarrow ss
-    → most_of ss ≤ 4096 * (1 + 10 ^ 15) → unsigned_abs n ≤ 2 ^ 63
-    → Wide (read_range g ss (only n))
-read_wide Sum ss n all many h =
-    hull_small (2 ^ 126) (sum_range ss) (only n)
+    → most_of ss ≤ 4096 * (1 + 10 ^ 15) → unsigned_abs n ≤ 2 ^ 63 → Wide (read_range g ss (only n))
+read_wide Sum ss n all many h = hull_small (2 ^ 126) (sum_range ss) (only n)
     (small_more (most_of ss * 2 ^ 63) (2 ^ 126) (sum_range ss) (omega (arith, many))
-    (sum_small ss all))
-    (only_small (2 ^ 126) n (omega (arith, h)))
+    (sum_small ss all)) (only_small (2 ^ 126) n (omega (arith, h)))
 read_wide Count ss n all many h =
     grind (arith, common_steps, ints, pos, most_of, narrow_wide, hull, only, hull_small, only_small)
 read_wide Min ss n all many h =
@@ -185,8 +181,7 @@ pub record Counts (x : Context) : Type 0 where
   pub many : (g a : ℕ) → most_of (x.so_far g a) ≤ 4096 * (1 + 10 ^ 15)
 
 pub result_wide : (w : World) (parts : Parts) (x : Context) (t : ℕ) (o : Operation) → Fits parts x
-    → Counts x → NamesI64 (Assign t o)
-    → ((c : ColumnId) → is_text c ≡ false → FitsI64 (w.bounds c))
+    → Counts x → NamesI64 (Assign t o) → ((c : ColumnId) → is_text c ≡ false → FitsI64 (w.bounds c))
     → IsWide (result_known w parts x (Assign t o))
 result_wide w parts x t o fits counts named bounds =
     grind (arith, common_steps, only, only_small, named_small, loaded_wide, answer_wide, read_wide)

@@ -86,8 +86,7 @@ in_hull (t ∷ ss) s z c h = (
     of_others : (o : Option Range) → (r : Range) × (o ≡ Some r) × Holds r z
         → Holds (hull_with o t.range) z
     of_others None found = absurd (let e = found.1 in cc e)
-    of_others (Some q) found =
-        holds_hull_left q t.range z
+    of_others (Some q) found = holds_hull_left q t.range z
         (subst (λ s. Holds s z) (sym (let e = found.1 in let same : q ≡ found.0 = cc e in same))
         found.2)
 
@@ -105,8 +104,7 @@ IsTextAlone (Some (KnownText c)) = is_text c ≡ true
 IsTextAlone _ = Unit {0}
 
 key_listed : (w : World) (ss : List Share) (met : ℕ) (declared : GroupKey) (k : Option Known)
-    (v : Option Value)
-    → Contains ss (known_share met k)
+    (v : Option Value) → Contains ss (known_share met k)
     → kind_fault (fits_key declared) (option_map register_kind v) ≡ None
     → IsTextAlone k → FitsAt w k v → Contains (listed w ss declared) (key_read v)
 key_listed w ss met declared None None c e text h = absurd (cc)
@@ -176,8 +174,7 @@ module _ (w : World) (parts : Parts) (g : ℕ) (vss : List (List KeyValue)) wher
 
   -- a put to the group is so where it has no fault and the registers hold what is known
   abbrev pub ListsKeys : Context → Op → Type 0
-  ListsKeys x (Put h ks vs) =
-      nat_eq g h ≡ true → (regs : Registers) → Agrees w x.known regs
+  ListsKeys x (Put h ks vs) = nat_eq g h ≡ true → (regs : Registers) → Agrees w x.known regs
       → fault_of parts x.inside None (kinds_in regs) (Put h ks vs) ≡ None
       → KeysAmong (update_of (group_at parts h) regs ks vs).keys vss
   ListsKeys x op = Unit {0}
@@ -185,8 +182,7 @@ module _ (w : World) (parts : Parts) (g : ℕ) (vss : List (List KeyValue)) wher
   abbrev pub AllListKeys : Context → Code → Type 0
   AllListKeys x Stop = Unit {0}
   AllListKeys x (Then op rest) = ListsKeys x op × AllListKeys (after_op w parts x op) rest
-  AllListKeys x (Each t r body rest) =
-      AllListKeys (in_scan w x t r) body
+  AllListKeys x (Each t r body rest) = AllListKeys (in_scan w x t r) body
       × AllListKeys (after_scan x (at_end w parts (in_scan w x t r) body)) rest
 
   abbrev Leaves : Effect → Type 0
@@ -206,22 +202,19 @@ module _ (w : World) (parts : Parts) (g : ℕ) (vss : List (List KeyValue)) wher
   listed_more false u us one h = h
 
   leaves : (x : Context) (regs : Registers) (s : State) (op : Op) → Agrees w x.known regs
-      → AreListed s
-      → ListsKeys x op → Leaves (act w parts x.inside regs s op)
+      → AreListed s → ListsKeys x op → Leaves (act w parts x.inside regs s op)
   leaves x regs s op agrees h lists =
       grind (arith, common_steps, leaves_unless, unmapped_none, or_none)
 
   kept_follow : (at : ℕ) (e : Effect) (next : Registers → State → End)
-      (Next : Registers → State → Type 0)
-      → Onward e Next → Leaves e
+      (Next : Registers → State → Type 0) → Onward e Next → Leaves e
       → ((regs : Registers) (s : State) → Next regs s → AreListed s
       → EndsWith (next regs s) AreListed)
       → EndsWith (follow at e next) AreListed
   kept_follow at e next Next h k go = grind (arith, common_steps)
 
   ends_after : (e : End) (next : State → End) (A : State → Type 0) → EndsWith e A
-      → EndsWith e AreListed
-      → ((s : State) → A s → AreListed s → EndsWith (next s) AreListed)
+      → EndsWith e AreListed → ((s : State) → A s → AreListed s → EndsWith (next s) AreListed)
       → EndsWith (after e next) AreListed
   ends_after (Ended s) next A h k go = go s h k
   ends_after (Trapped at trap) next A h k go = absurd h
@@ -246,8 +239,7 @@ module _ (w : World) (parts : Parts) (g : ℕ) (vss : List (List KeyValue)) wher
       → Throughout w parts all x c at regs s → AllListKeys x c → AreListed s
       → EndsWith (meaning w parts (λ visits. true) c at x.inside regs s) AreListed
   kept all Stop at x regs s h lists k = k
-  kept all (Then op rest) at x regs s h lists k =
-      kept_follow at (act w parts x.inside regs s op)
+  kept all (Then op rest) at x regs s h lists k = kept_follow at (act w parts x.inside regs s op)
       (meaning w parts (λ visits. true) rest (at + 1) x.inside)
       (Throughout w parts all (after_op w parts x op) rest (at + 1)) h.1
       (leaves x regs s op (moment_of w parts all x (Then op rest) at regs s h).registers k lists.0)
@@ -274,8 +266,7 @@ text_entry : (known : AllKnown) (t : ℕ) (k : Known) (q : ℕ) → ((r : ℕ) �
 text_entry known t k q texts here = grind (arith, common_steps)
 
 text_then : (w : World) (parts : Parts) (x : Context) (op : Op)
-    → ((r : ℕ) → IsTextAlone (x.known r))
-    → (r : ℕ) → IsTextAlone ((after_op w parts x op).known r)
+    → ((r : ℕ) → IsTextAlone (x.known r)) → (r : ℕ) → IsTextAlone ((after_op w parts x op).known r)
 text_then w parts x op texts r = grind (arith, common_steps, text_entry)
 
 -- what is put to the keys of groups stays
@@ -300,8 +291,7 @@ module _ (w : World) (parts : Parts) (g : ℕ) where
 
   -- all that the keys of the group are given up to some context is given to them in the end
   abbrev IsGivenBefore : Context → Type 0
-  IsGivenBefore x =
-      (place : ℕ) (s : Share) → Contains (x.keys_so_far g place) s
+  IsGivenBefore x = (place : ℕ) (s : Share) → Contains (x.keys_so_far g place) s
       → Contains (all_key_shares w parts g place) s
 
   put_listed : (x : Context) (h : ℕ) (ks vs : List ℕ) → ((r : ℕ) → IsTextAlone (x.known r))
@@ -334,8 +324,7 @@ module _ (w : World) (parts : Parts) (g : ℕ) where
   op_listed x (Keep f) texts given = tt
 
   pub all_listed : (c : Code) (x : Context) → ((r : ℕ) → IsTextAlone (x.known r))
-      → IsGivenBefore (at_end w parts x c)
-      → AllListKeys w parts g values x c
+      → IsGivenBefore (at_end w parts x c) → AllListKeys w parts g values x c
   all_listed Stop x texts given = tt
   all_listed (Then op rest) x texts given =
       let next = after_op w parts x op in (

@@ -38,8 +38,7 @@ adds_up t vs w e = grind (arith, common_steps, ints, sum_ends, above_is, below_i
 pub has_room : (d : GroupDecl) (t : ℕ → Tally) (us : List Update)
     → ((a : ℕ) → IsTallied (t a) (numbers_for a us)) → tallies_fit d.aggregates 0 t ≡ true
     → (t 0).many < 2 ^ 63 → HasRoom (group_declared d) us
-has_room d t us w e few =
-    small_room (group_declared d) us
+has_room d t us w e few = small_room (group_declared d) us
     (λ place h same. adds_up (t place) (numbers_for place us) (w place)
     (subst (λ n. sum_fits (t n) ≡ true) (zero-add place)
     (sum_at d.aggregates 0 place t e h same)))

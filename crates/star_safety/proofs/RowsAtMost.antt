@@ -52,8 +52,7 @@ module _ (w : World) (parts : Parts) (us : List Update) (rows : List (GroupRow V
       → a.keys ≡ b.keys → a ≡ b
   one_group a b c d e =
       let d' = group_at parts parts.report in
-      let totals : a.totals ≡ b.totals =
-      (are.each_group.each a c).1
+      let totals : a.totals ≡ b.totals = (are.each_group.each a c).1
       ∙ ap (λ ks. totals_of d'.aggregates (members key_value_cmp ks us)) e
       ∙ sym (are.each_group.each b d).1 in
       λ i. record { keys = e i; totals = totals i }
@@ -209,17 +208,14 @@ module _ (w : World) (parts : Parts) where
 
   listed_end : IsAccepted w parts
       → EndsWith (run_of w parts) (AreListed w parts parts.report values)
-  listed_end accepted =
-      ends_unshown (shown_fault parts) _ _ accepted.admissible.report
+  listed_end accepted = ends_unshown (shown_fault parts) _ _ accepted.admissible.report
       (kept w parts parts.report values (all_shares w parts) parts.body 1 at_first no_registers
-      empty_state
-      (accepted_throughout w parts accepted)
+      empty_state (accepted_throughout w parts accepted)
       (all_listed w parts parts.report parts.body at_first (λ r. tt) (λ place s h. h)) tt)
 
   few_end : IsAccepted w parts
       → EndsWith (run_of w parts) (λ s. length (s.updates_of parts.report) ≤ most)
-  few_end accepted =
-      ends w parts (λ visits. true) accepted (λ k h. refl) _
+  few_end accepted = ends w parts (λ visits. true) accepted (λ k h. refl) _
       (λ s tallied visits. omega (
         arith,
         (tallied parts.report 0).many,
@@ -231,8 +227,7 @@ module _ (w : World) (parts : Parts) where
   pub rows_at_most : IsAccepted w parts
       → EndsWith (run_of w parts) (λ s. (outcome : Outcome) → IsOutcome w parts s outcome
       → length outcome.rows ≤ most_report_rows w parts)
-  rows_at_most accepted =
-      ends_more (run_of w parts) _ _
+  rows_at_most accepted = ends_more (run_of w parts) _ _
       (λ s h outcome is.
       let bound = few_rows (s.updates_of parts.report) is.rows is.reported h.0 h.1 in
       omega (arith, bound, ap length is.cells, length-map is.rows (shown_cells parts)))

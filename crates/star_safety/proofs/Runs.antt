@@ -38,14 +38,12 @@ module _ (w : World) (catalogue : IsLoaded w) (parts : Parts) (may : ℕ → Boo
       (op_room w parts m pending x y at op rest ready)
       fit)
       (λ g a. at_most_both (y g a) (y g a) (add g a) (plus (add g a) (more g a))
-      (at_most_refl (y g a)) (at_most_plus (add g a) (more g a)))
-      (omega arith)
+      (at_most_refl (y g a)) (at_most_plus (add g a) (more g a))) (omega arith)
       (λ regs' s' agrees' tallied' same.
       safe_more (plus_all (plus_all y add) more) (plus_all y (plus_all add more))
       (s'.visits + turns_met w.size 1 rest) (s.visits + turns_met w.size 1 rest)
       (meaning w parts may rest (at + 1) x.inside regs' s')
-      (λ g a. at_most_assoc (y g a) (add g a) (more g a))
-      (omega arith)
+      (λ g a. at_most_assoc (y g a) (add g a) (more g a)) (omega arith)
       (sound rest (at + 1) pending (after_op w parts x op) (plus_all y add) regs' s'
       (ready_then w parts m pending x y at op rest ready) agrees' tallied'
       (λ k h. allowed k (omega arith))))
@@ -75,8 +73,7 @@ module _ (w : World) (catalogue : IsLoaded w) (parts : Parts) (may : ℕ → Boo
       (turns_met w.size 1 rest) rows may turn next
       allowed'
       (λ j s' lt q b. sound body (at + 1) (open_with pending (Each table r body rest)) inner
-      (plus_all y (times_all j add))
-      (with_entry regs r (Row table j)) s'
+      (plus_all y (times_all j add)) (with_entry regs r (Row table j)) s'
       (ready_in w parts m pending x y at table r body rest ready j lt)
       (agrees_entry w x.known regs r (KnownRow table) (Row table j) agrees (refl, lt)) q
       (λ k h. allowed' k
@@ -107,20 +104,17 @@ few : (w : World) (parts : Parts) (x : Context) (c : Code) (g a : ℕ)
     → (tally_of ((at_end w parts x c).so_far g a)).many
     ≤ (tally_of (x.so_far g a)).many + code_size c * (x.met + turns_met w.size x.met c)
 few w parts x Stop g a = omega arith
-few w parts x (Then op rest) g a =
-    then_few (tally_of (x.so_far g a)).many x.met _ (code_size rest)
+few w parts x (Then op rest) g a = then_few (tally_of (x.so_far g a)).many x.met _ (code_size rest)
     (turns_met w.size x.met rest) _
     (op_counted w parts x op g a) (few w parts (after_op w parts x op) rest g a)
 few w parts x (Each t r body rest) g a =
     let inner = in_scan w x t r in
     each_few (tally_of (x.so_far g a)).many x.met (w.size t) _ _ (code_size body) (code_size rest)
     (turns_met w.size x.met (Each t r body rest)) (turns_met w.size (x.met * w.size t) body)
-    (turns_met w.size x.met rest) refl
-    (few w parts inner body g a)
+    (turns_met w.size x.met rest) refl (few w parts inner body g a)
     (few w parts (after_scan x (at_end w parts inner body)) rest g a)
 
-few_enough : (size q m : ℕ) → size ≤ 4096 → q ≤ 10 ^ 15 → m ≤ 0 + size * (1 + q)
-    → m < 2 ^ 63
+few_enough : (size q m : ℕ) → size ≤ 4096 → q ≤ 10 ^ 15 → m ≤ 0 + size * (1 + q) → m < 2 ^ 63
 few_enough size q m h k b = let a : size * (1 + q) ≤ 4096 * (1 + q) =
     mul-le-mul_right (1 + q) h in omega arith
 
@@ -133,14 +127,12 @@ all_gained w parts g a =
     let t = gain w parts at_first parts.body g a in
     at_most_trans _ _ _
     (at_most_both no_tally no_tally t (times 1 t) (at_most_refl no_tally)
-    (at_most_once 1 t (le_refl 1)))
-    (gained w parts at_first parts.body g a)
+    (at_most_once 1 t (le_refl 1))) (gained w parts at_first parts.body g a)
 
 -- no instruction is refused
 pub not_refused : (w : World) (parts : Parts) → IsAccepted w parts
     → first_reason w parts none_open at_first 1 parts.body ≡ None
-not_refused w parts accepted =
-    first_standing w parts
+not_refused w parts accepted = first_standing w parts
     ∙ first_answer_none (reason_of w parts) (instructions_of w parts)
     accepted.admissible.instructions
 
@@ -176,11 +168,9 @@ all_narrow w parts accepted =
     (not_refused w parts accepted)).each
 
 pub all_fit : (w : World) (parts : Parts) → IsAccepted w parts → AllFit parts (whole_gain w parts)
-all_fit w parts accepted g =
-    all_tallies_fit (group_at parts g).aggregates 0 (whole_gain w parts g)
+all_fit w parts accepted g = all_tallies_fit (group_at parts g).aggregates 0 (whole_gain w parts g)
     (λ a. few_fit (all_shares w parts g a) (all_narrow w parts accepted g a)
-    (few_puts w parts accepted g a))
-    (few_puts w parts accepted g)
+    (few_puts w parts accepted g a)) (few_puts w parts accepted g)
 
 pub nothing_tallied : AreTallied no_tallies empty_state
 nothing_tallied g a =
@@ -213,8 +203,7 @@ ends_shown None go Done e h = h
 ends_shown (Some place) go Done e h = absurd (cc)
 
 pub ends : (w : World) (parts : Parts) (may : ℕ → Bool) → IsAccepted w parts
-    → ((k : ℕ) → k < quote w.size parts → may k ≡ true)
-    → (Done : State → Type 0)
+    → ((k : ℕ) → k < quote w.size parts → may k ≡ true) → (Done : State → Type 0)
     → ((s : State) → AreTallied (whole_gain w parts) s → s.visits ≤ quote w.size parts → Done s)
     → EndsWith (run_while w may parts) Done
 ends w parts may accepted allowed Done done =

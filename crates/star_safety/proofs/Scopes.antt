@@ -33,8 +33,7 @@ pub all_with : (new : Enclosing) (scans ss : List Enclosing) → AreBelow new.nu
     → list_all (λ s. has_scan (new ∷ scans) s.number) ss
     ≡ list_all (λ s. has_scan scans s.number) ss
 all_with new scans [] h = refl
-all_with new scans (s ∷ ss) h =
-    ap (λ b. b && list_all (λ t. has_scan (new ∷ scans) t.number) ss)
+all_with new scans (s ∷ ss) h = ap (λ b. b && list_all (λ t. has_scan (new ∷ scans) t.number) ss)
     (same_with new scans s.number h.0)
     ∙ ap (λ b. has_scan scans s.number && b) (all_with new scans ss h.1)
 
@@ -42,16 +41,14 @@ pub any_with : (new : Enclosing) (scans ss : List Enclosing) → AreBelow new.nu
     → list_any (λ s. has_scan (new ∷ scans) s.number) ss
     ≡ list_any (λ s. has_scan scans s.number) ss
 any_with new scans [] h = refl
-any_with new scans (s ∷ ss) h =
-    ap (λ b. b || list_any (λ t. has_scan (new ∷ scans) t.number) ss)
+any_with new scans (s ∷ ss) h = ap (λ b. b || list_any (λ t. has_scan (new ∷ scans) t.number) ss)
     (same_with new scans s.number h.0)
     ∙ ap (λ b. has_scan scans s.number || b) (any_with new scans ss h.1)
 
 all_in : (scans ss : List Enclosing) → ((n : ℕ) → has_scan ss n ≡ true → has_scan scans n ≡ true)
     → list_all (λ s. has_scan scans s.number) ss ≡ true
 all_in scans [] among = refl
-all_in scans (s ∷ ss) among =
-    ap (λ b. b && list_all (λ t. has_scan scans t.number) ss)
+all_in scans (s ∷ ss) among = ap (λ b. b && list_all (λ t. has_scan scans t.number) ss)
     (among s.number (ap (λ b. b || has_scan ss s.number) (eq-eqb s.number s.number refl)))
     ∙ all_in scans ss (λ n h. among n (or_right (nat_eq s.number n) (has_scan ss n) h))
 
@@ -104,8 +101,7 @@ each_so P Q (x ∷ xs) so h = (so x h.0, each_so P Q xs so h.1)
 pub same_filter : (p q : Standing → Bool) (is : List Standing) → EachOf (λ i. p i ≡ q i) is
     → filter p is ≡ filter q is
 same_filter p q [] h = refl
-same_filter p q (i ∷ is) h =
-    ap (λ b. if b then i ∷ filter p is else filter p is) h.0
+same_filter p q (i ∷ is) h = ap (λ b. if b then i ∷ filter p is else filter p is) h.0
     ∙ ap (λ js. if q i then i ∷ js else js) (same_filter p q is h.1)
 
 pub same_any : (p q : Standing → Bool) (is : List Standing) → EachOf (λ i. p i ≡ q i) is
@@ -130,8 +126,7 @@ stand_in w parts (Each table r body rest) round x at n h =
       each_both _ (standing w parts (new ∷ round) inner (at + 1) body) _
           (stand_in w parts body (new ∷ round) inner (at + 1) n
           (or_right (nat_eq at n) (has_scan round n) h))
-          (stand_in w parts rest round
-          (after_scan x (at_end w parts inner body))
+          (stand_in w parts rest round (after_scan x (at_end w parts inner body))
           (at + 1 + code_size body) n h),
     )
 
@@ -179,8 +174,7 @@ last_past scans r xs ys h = grind (arith, common_steps, filter-append, no_writer
 pub last_within : (new : Enclosing) (scans : List Enclosing) (r : ℕ) (is : List Standing)
     → EachOf (λ i. AreBelow new.number (scope_of i)) is
     → last_writer (new ∷ scans) r is ≡ last_writer scans r is
-last_within new scans r is h =
-    ap (last_or None)
+last_within new scans r is h = ap (last_or None)
     (same_filter (λ j. writes_to r j && is_in_scope (new ∷ scans) j)
     (λ j. writes_to r j && is_in_scope scans j) is
     (each_so _ _ is (λ i b. ap (λ t. writes_to r i && t) (all_with new scans (scope_of i) b)) h))

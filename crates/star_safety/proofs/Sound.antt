@@ -43,15 +43,12 @@ op_adds_nothing parts x (Put h ks vs) g a e =
 op_adds_nothing parts x _ g a e = at_most_refl no_tally
 
 adds_nothing : (w : World) (parts : Parts) (x : Context) (c : Code) (g a : ℕ)
-    → code_puts_to g c ≡ false
-    → AtMost (gain w parts x c g a) no_tally
+    → code_puts_to g c ≡ false → AtMost (gain w parts x c g a) no_tally
 adds_nothing w parts x Stop g a e = at_most_refl no_tally
-adds_nothing w parts x (Then op rest) g a e =
-    at_most_both _ no_tally _ no_tally
+adds_nothing w parts x (Then op rest) g a e = at_most_both _ no_tally _ no_tally
     (op_adds_nothing parts x op g a (or_parts (op_puts_to g op) (code_puts_to g rest) e).0)
     (adds_nothing w parts _ rest g a (or_parts (op_puts_to g op) (code_puts_to g rest) e).1)
-adds_nothing w parts x (Each t r body rest) g a e =
-    at_most_both _ no_tally _ no_tally
+adds_nothing w parts x (Each t r body rest) g a e = at_most_both _ no_tally _ no_tally
     (at_most_trans _ (times (w.size t) no_tally) no_tally
     (at_most_times_both (w.size t) _ no_tally
     (adds_nothing w parts (in_scan w x t r) body g a
@@ -74,8 +71,7 @@ in_time start visits inner later rows j lt b =
 -- where no instruction is refused, what is known before some code, and what is put so far: at most
 -- y, in groups that aren't open at most what is known, and with all that the code adds at most m
 pub record IsReady (w : World) (parts : Parts) (m : Tallies) (pending : ℕ → Bool) (x : Context)
-    (y : Tallies) (at : ℕ)
-    (c : Code) : Type 0 where
+    (y : Tallies) (at : ℕ) (c : Code) : Type 0 where
   pub some : 1 ≤ x.met
   pub accepted : first_reason w parts pending x at c ≡ None
   pub closed : (g a : ℕ) → pending g ≡ false → AtMost (y g a) (tally_of (x.so_far g a))
@@ -83,8 +79,7 @@ pub record IsReady (w : World) (parts : Parts) (m : Tallies) (pending : ℕ → 
 
 -- after an instruction
 pub ready_then : (w : World) (parts : Parts) (m : Tallies) (pending : ℕ → Bool) (x : Context)
-    (y : Tallies) (at : ℕ)
-    (op : Op) (rest : Code) → IsReady w parts m pending x y at (Then op rest)
+    (y : Tallies) (at : ℕ) (op : Op) (rest : Code) → IsReady w parts m pending x y at (Then op rest)
     → IsReady w parts m pending (after_op w parts x op) (plus_all y (op_gain parts x op)) (at + 1)
     rest
 ready_then w parts m pending x y at op rest ready =
@@ -106,8 +101,7 @@ ready_then w parts m pending x y at op rest ready =
 pub ready_in : (w : World) (parts : Parts) (m : Tallies) (pending : ℕ → Bool) (x : Context)
     (y : Tallies) (at : ℕ)
     (table : TableId) (r : ℕ) (body rest : Code) → IsReady w parts m pending x y at
-    (Each table r body rest)
-    → (j : ℕ) → j < w.size table
+    (Each table r body rest) → (j : ℕ) → j < w.size table
     → IsReady w parts m (open_with pending (Each table r body rest)) (in_scan w x table r)
     (plus_all y (times_all j (gain w parts (in_scan w x table r) body))) (at + 1) body
 ready_in w parts m pending x y at table r body rest ready j lt =
@@ -145,8 +139,7 @@ ready_in w parts m pending x y at table r body rest ready j lt =
 pub ready_after : (w : World) (parts : Parts) (m : Tallies) (pending : ℕ → Bool) (x : Context)
     (y : Tallies) (at : ℕ)
     (table : TableId) (r : ℕ) (body rest : Code) → IsReady w parts m pending x y at
-    (Each table r body rest)
-    → IsReady w parts m pending
+    (Each table r body rest) → IsReady w parts m pending
     (after_scan x (at_end w parts (in_scan w x table r) body))
     (plus_all y (times_all (w.size table) (gain w parts (in_scan w x table r) body)))
     (at + 1 + code_size body) rest
@@ -164,14 +157,12 @@ ready_after w parts m pending x y at table r body rest ready =
           (scan_gained w parts x table r body rest g a);
       room = λ g a. at_most_trans _ _ _
           (at_most_assoc (y g a) (add g a) (gain w parts (after_scan x (at_end w parts inner body))
-          rest g a))
-          (ready.room g a);
+          rest g a)) (ready.room g a);
     }
 
 -- the instruction itself
 pub op_room : (w : World) (parts : Parts) (m : Tallies) (pending : ℕ → Bool) (x : Context)
-    (y : Tallies) (at : ℕ)
-    (op : Op) (rest : Code) → IsReady w parts m pending x y at (Then op rest)
+    (y : Tallies) (at : ℕ) (op : Op) (rest : Code) → IsReady w parts m pending x y at (Then op rest)
     → (g a : ℕ) → AtMost (plus (y g a) (op_gain parts x op g a)) (m g a)
 op_room w parts m pending x y at op rest ready g a =
     let more = gain w parts (after_op w parts x op) rest in

@@ -174,8 +174,7 @@ pub no_overflow : (gs : List Aggregate) (t : ℕ → Tally) (us : List Update)
     → tallies_fit gs 0 t ≡ true
     → list_any (λ keys. some_leaves gs 0 (members key_value_cmp keys us)) ms ≡ false
 no_overflow gs t us [] w e = refl
-no_overflow gs t us (m ∷ ms) w e =
-    or_from (some_leaves gs 0 (members key_value_cmp m us))
+no_overflow gs t us (m ∷ ms) w e = or_from (some_leaves gs 0 (members key_value_cmp m us))
     (list_any (λ keys. some_leaves gs 0 (members key_value_cmp keys us)) ms)
     (all_stay gs 0 t (members key_value_cmp m us) (λ k. tallied_members (t k) k m us (w k)) e)
     (no_overflow gs t us ms w e)
@@ -218,8 +217,7 @@ sums_lie t vs p q =
 pub aggregate_lies : (g : Aggregate) (t : Tally) (vs : List ℤ) → IsTallied t vs
     → TotalLies (tally_range g t) (aggregate g vs)
 aggregate_lies Sum t [] w = tt
-aggregate_lies Sum t (v ∷ vs) w =
-    subst (TotalLies (Some (tally_sum t))) (sym (joined_sum v vs))
+aggregate_lies Sum t (v ∷ vs) w = subst (TotalLies (Some (tally_sum t))) (sym (joined_sum v vs))
     (sums_lie t (v ∷ vs) w.above w.below)
 aggregate_lies Count t vs w =
     record { from = omega (arith, ints); to = omega (arith, ints, w.many) }
@@ -236,8 +234,7 @@ read_lies (Some r) (Some z) default h = holds_hull_left r (only default) z h
 -- an aggregate of what puts gave lies in its range, where it is there
 pub shares_lie : (g : Aggregate) (ss : List Share) (vs : List ℤ) → IsTallied (tally_of ss) vs
     → TotalLies (aggregate_range g ss) (aggregate g vs)
-shares_lie g ss vs w =
-    subst (λ o. TotalLies o (aggregate g vs)) (sym (range_is g ss))
+shares_lie g ss vs w = subst (λ o. TotalLies o (aggregate g vs)) (sym (range_is g ss))
     (aggregate_lies g (tally_of ss) vs w)
 
 pub read_holds : (g : Aggregate) (ss : List Share) (default : ℤ) (vs : List ℤ)

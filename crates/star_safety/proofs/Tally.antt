@@ -38,8 +38,7 @@ plus a b = record {
 }
 
 abbrev pub times : ℕ → Tally → Tally
-times n a =
-    record { below = n * a.below; above = n * a.above; many = n * a.many; each = a.each }
+times n a = record { below = n * a.below; above = n * a.above; many = n * a.many; each = a.each }
 
 -- one for each group and each of its aggregates, by their numbers
 abbrev pub Tallies : Type 0

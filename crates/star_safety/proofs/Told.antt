@@ -28,8 +28,7 @@ one_more : (at : ℕ) (earlier : List Standing) (i : Standing) → is_instructio
 one_more at earlier i e h = grind (arith, common_steps, filter-append, i, length-append)
 
 numbered_more : (at : ℕ) (earlier : List Standing) (i : Standing) → i.number ≤ at + 1
-    → EachOf (λ j. j.number ≤ at) earlier
-    → EachOf (λ j. j.number ≤ at + 1) (earlier ++ i ∷ [])
+    → EachOf (λ j. j.number ≤ at) earlier → EachOf (λ j. j.number ≤ at + 1) (earlier ++ i ∷ [])
 numbered_more at earlier i here h =
     each_both _ earlier (i ∷ []) (each_so _ _ earlier (λ j b. omega (arith, b)) h) (here, tt)
 
@@ -41,8 +40,7 @@ keys_more earlier i g place =
 
 -- a register of the context after an instruction that writes one
 entry_or_kept : (w : World) (parts : Parts) (known : AllKnown) (t r : ℕ) (i : Standing)
-    (last : Option Standing)
-    → known r ≡ option_map (standing_result w parts) last
+    (last : Option Standing) → known r ≡ option_map (standing_result w parts) last
     → with_entry known t (standing_result w parts i) r
     ≡ option_map (standing_result w parts) (if nat_eq t r && true then Some i else last)
 entry_or_kept w parts known t r i last kept =
@@ -72,8 +70,7 @@ tells_then w parts round x at earlier op told = record {
   round_below = below_more at (at + 1) round (omega arith) told.round_below;
   scopes_below = each_both _ earlier (i ∷ [])
       (each_so _ _ earlier (λ j b. below_more at (at + 1) (scope_of j) (omega arith) b)
-      told.scopes_below)
-      (below_more at (at + 1) round (omega arith) told.round_below, tt);
+      told.scopes_below) (below_more at (at + 1) round (omega arith) told.round_below, tt);
 }
   where
     i : Standing
@@ -163,8 +160,7 @@ tells_after w parts round x at earlier table r body told ended =
 
 -- behind the end of some code
 pub tells_stop : (w : World) (parts : Parts) (round : List Enclosing) (x : Context) (at : ℕ)
-    (earlier : List Standing) → Tells w parts round x at earlier
-    → Tells w parts round x at
+    (earlier : List Standing) → Tells w parts round x at earlier → Tells w parts round x at
     (earlier ++ record { number = at; round = round; context = x; item = BodyEnd } ∷ [])
 tells_stop w parts round x at earlier told =
     grind (arith, common_steps, filter-append, append-nil, or-false, list_any-append)
@@ -195,8 +191,7 @@ told_of w parts round x at earlier item told = grind (arith, common_steps)
 -- each instruction of some code is told, and so is what stands behind its end
 pub tells_through : (w : World) (parts : Parts) (c : Code) (round : List Enclosing) (x : Context)
     (at end : ℕ) (earlier : List Standing) → at + code_size c ≡ end
-    → Tells w parts round x at earlier
-    → TellEach w parts earlier (standing w parts round x at c)
+    → Tells w parts round x at earlier → TellEach w parts earlier (standing w parts round x at c)
     × Tells w parts round (at_end w parts x c) end (earlier ++ standing w parts round x at c)
 tells_through w parts Stop round x at end earlier e told =
     grind (arith, common_steps, told_of, standing, tells_stop)
@@ -245,15 +240,13 @@ nothing_told w parts = grind (arith, common_steps)
 
 pub all_told : (w : World) (parts : Parts) (earlier later : List Standing) (i : Standing)
     → instructions_of w parts ≡ earlier ++ i ∷ later → IsTold w parts earlier i
-all_told w parts earlier later i split =
-    told_at w parts earlier i later []
+all_told w parts earlier later i split = told_at w parts earlier i later []
     (subst (TellEach w parts []) split
     (tells_through w parts parts.body [] at_first 1 _ [] refl (nothing_told w parts)).0)
 
 -- the last of the contexts is that at the end of the code
 last_is : (w : World) (parts : Parts) (c : Code) (round : List Enclosing) (x : Context) (at : ℕ)
-    (o : Option Standing)
-    → option_map (λ i. i.context) (last_or o (standing w parts round x at c))
+    (o : Option Standing) → option_map (λ i. i.context) (last_or o (standing w parts round x at c))
     ≡ Some (at_end w parts x c)
 last_is w parts Stop round x at o = refl
 last_is w parts (Then op rest) round x at o =

@@ -138,8 +138,7 @@ module _ (w : World) (parts : Parts)
       (either_first (at_place at (scan_reason parts x q)) _ (n, Overflow r.low r.high columns) e)
 
 pub refused_instruction : (w : World) (most : ℕ) (parts : Parts) (refused : ℕ × Reason)
-    → first_refusal w most parts ≡ Some (Refused refused)
-    → (quote w.size parts ≤ most)
+    → first_refusal w most parts ≡ Some (Refused refused) → (quote w.size parts ≤ most)
     × (first_answer (reason_of w parts) (instructions_of w parts) ≡ Some refused)
 refused_instruction w most parts refused e =
     grind (arith, common_steps, ⊎_elim, leb-true, either_first)

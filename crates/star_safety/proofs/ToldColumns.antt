@@ -57,8 +57,7 @@ at_numbers (k ∷ ks) (suc a) all = at_numbers ks a all.1
 
 share_numbers : (parts : Parts) (x : Context) (g : ℕ) (vs : List ℕ) (a : ℕ) → Reaches x
     → AreNumbers (put_share parts x g vs a).reach
-share_numbers parts x g vs a h =
-    at_numbers (put_known (group_at parts g) x.known vs) a
+share_numbers parts x g vs a h = at_numbers (put_known (group_at parts g) x.known vs) a
     (aligned_numbers (group_at parts g).aggregates _ (map x.known vs) none_numbers
     (mapped_numbers x.known vs h.known))
 
@@ -155,8 +154,7 @@ module _ (w : World) (parts : Parts)
 
   op_found : (pending : ℕ → Bool) (x : Context) (op : Op) → Reaches x
       → Found (op_reason w parts pending x op)
-  op_found pending x op h =
-      either_of Tells (kind_reason parts x op)
+  op_found pending x op h = either_of Tells (kind_reason parts x op)
       (option_or (source_reason pending x op) (range_reason w parts x op)) (faulty_found _)
       (either_of Tells (source_reason pending x op) (range_reason w parts x op)
       (source_found pending x op) (range_found x op h))
@@ -164,8 +162,7 @@ module _ (w : World) (parts : Parts)
   first_found : (c : Code) (pending : ℕ → Bool) (at : ℕ) (x : Context) → Reaches x
       → IfSome (first_reason w parts pending x at c) (λ refused. Tells refused.1)
   first_found Stop pending at x h = tt
-  first_found (Then op rest) pending at x h =
-      either_of (λ refused. Tells refused.1)
+  first_found (Then op rest) pending at x h = either_of (λ refused. Tells refused.1)
       (at_place at (op_reason w parts (open_with pending rest) x op))
       (first_reason w parts pending (after_op w parts x op) (at + 1) rest)
       (placed_found at _ (op_found (open_with pending rest) x op h))

@@ -75,8 +75,7 @@ safe_turns y add start inner rows may turn allowed one (suc k) j e s q h =
 -- before the first turn
 pub at_start : (y add : Tallies) (s : State) → AreTallied y s
     → AreTallied (plus_all y (times_all 0 add)) s
-at_start y add s q =
-    all_tallied_more y (plus_all y (times_all 0 add)) s
+at_start y add s q = all_tallied_more y (plus_all y (times_all 0 add)) s
     (λ g a. at_most_plus (y g a) (times 0 (add g a))) q
 
 -- a scan and what follows it

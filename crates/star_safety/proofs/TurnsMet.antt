@@ -11,11 +11,9 @@ module _ (w : World) (parts : Parts) where
   each_met : (c : Code) (round : List Enclosing) (x : Context) (at : ℕ)
       → Meets (quote w.size parts) x → turns_met w.size x.met c ≤ quote w.size parts
       → All (IsMetWithinQuote w parts) (standing w parts round x at c)
-  each_met Stop round x at m h =
-      All-cons (IsMetWithinQuote w parts) _ []
+  each_met Stop round x at m h = All-cons (IsMetWithinQuote w parts) _ []
       (record { in_scans = m.in_scans; outside = m.outside }) (All-nil (IsMetWithinQuote w parts))
-  each_met (Then op rest) round x at m h =
-      All-cons (IsMetWithinQuote w parts) _ _
+  each_met (Then op rest) round x at m h = All-cons (IsMetWithinQuote w parts) _ _
       (record { in_scans = m.in_scans; outside = m.outside })
       (each_met rest round (after_op w parts x op) (at + 1)
       (record { in_scans = m.in_scans; outside = m.outside }) h)
@@ -35,7 +33,6 @@ module _ (w : World) (parts : Parts) where
       (each_met rest round later (at + 1 + code_size body)
       (record { in_scans = m.in_scans; outside = m.outside }) (omega (arith, turns))))
 
-pub all_met : (w : World) (parts : Parts)
-    → All (IsMetWithinQuote w parts) (instructions_of w parts)
+pub all_met : (w : World) (parts : Parts) → All (IsMetWithinQuote w parts) (instructions_of w parts)
 all_met w parts = each_met w parts parts.body [] at_first 1
     (record { in_scans = λ e. absurd (cc); outside = λ e. refl }) (omega arith)

@@ -2,26 +2,23 @@
 //! the benchmark's thirteen queries takes over them.
 #![tactic(auto)]
 
-use star_cli::{Store, load_engine};
+use star_cli::{Store, load_engine, read_words};
 use star_common::{Out, Sink, numeral_value, write_whole};
 use star_engine::{Engine, EngineFault, Question, THIRTEEN, run_text};
 use star_service::{MEMORY_LINE, MEMORY_STATUS, print, print_fault};
 use star_verify::Verified;
 use std::alloc::{AllocError, Global};
+use std::io;
 use std::process::ExitCode;
 use std::rt::{Clock, Env};
 use std::time::Instant;
-use std::{env, io};
 
 const USAGE: &str = concat!(
     "usage: star_timing FOLDER RUNS\n",
-    "\n",
-    "Loads the tables of FOLDER once, and runs each of the benchmark's thirteen queries RUNS times, from 1\n",
+    "\nLoads the tables of FOLDER once, and runs each of the benchmark's thirteen queries RUNS times, from 1\n",
     "to 1000. Prints a line of each query, its best time and its median in seconds:\n",
-    "\n",
-    "  query NAME BEST MEDIAN\n",
-    "\n",
-    "A run is that of the query's verified program, and ends with its report in memory.\n",
+    "\n  query NAME BEST MEDIAN\n",
+    "\nA run is that of the query's verified program, and ends with its report in memory.\n",
 );
 
 /// Why no times are printed.
@@ -113,15 +110,6 @@ fn print_times<R: Clock + AllocGlobal, S: Sink, E: Sink>(
     }
 }
 
-// The arguments of the command line, without the program's own name.
-fn read_arguments<R: Env + AllocGlobal>(rt: &R) -> io::Result<Vec<String>> {
-    let mut arguments = Vec::new(rt.alloc());
-    for argument in env::args(rt)?.skip(1) {
-        arguments.push(argument)?;
-    }
-    Ok(arguments)
-}
-
 // The folder and the number of runs, if the arguments are these.
 fn asked(arguments: &[String]) -> Option<(&str, u64)> {
     let [folder, runs] = arguments else {
@@ -139,7 +127,7 @@ fn answer<R: Env + Store + Clock + AllocGlobal, S: Sink, E: Sink>(
     out: &mut S,
     err: &mut E,
 ) -> u8 {
-    let arguments = match read_arguments(rt) {
+    let arguments = match read_words(rt) {
         Ok(arguments) => arguments,
         Err(error) if error.kind() == io::ErrorKind::OutOfMemory => {
             print(err, MEMORY_LINE.as_bytes());

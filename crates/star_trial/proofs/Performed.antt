@@ -22,14 +22,12 @@ answer_sound database _ l r = tt
 module _ (database : Database) (parts : Parts) (registers : Registers) (run : Run) (s : State)
     (done : HasDone database parts run s) (t : ℕ) where
   pub sets : (effect : Effect) (value : Value) → effect ≡ GoesOn (with_entry registers t value) s
-      → IsSoundValue database value
-      → Sets database parts registers run t effect value
+      → IsSoundValue database value → Sets database parts registers run t effect value
   sets effect value does sound = record { s = s; does = does; done = done; sound = sound }
 
   made : (v : Value) (b : Bool) (result : Result Value Stop) → IsSoundValue database v
       → MatchOption (if b then Some v else None) (result ≡ Err (stop.Trap Overflow))
-      (λ value. result ≡ Ok value)
-      → IsValueMade database parts registers run t
+      (λ value. result ≡ Ok value) → IsValueMade database parts registers run t
       (unless_trap (unless b Overflow) (GoesOn (with_entry registers t v) s)) result
   made v true result sound is =
       subst (IsValueMade database parts registers run t _) (sym is) (sets _ v refl sound)
@@ -51,7 +49,6 @@ module _ (database : Database) (parts : Parts) (registers : Registers) (run : Ru
       → answer ≡ fitting (Number z)
       → MatchOption answer (result ≡ Err (stop.Trap Overflow)) (λ value. result ≡ Ok value)
       → IsValueMade database parts registers run t (sets_answer registers s t (Number z)) result
-  read_made z answer result shown is =
-      made (Number z) (fits_register (Number z)) result tt
+  read_made z answer result shown is = made (Number z) (fits_register (Number z)) result tt
       (subst (λ (a : Option Value).
       MatchOption a (result ≡ Err (stop.Trap Overflow)) (λ value. result ≡ Ok value)) shown is)

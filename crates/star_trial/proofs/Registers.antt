@@ -14,8 +14,7 @@ held_set_at xs t v r h = ⊎_elim
     ∙ get_or-set_same xs t (Some v) None h
     ∙ ap (λ b. if b then Some v else registers_view xs r) (sym p.0))
     (λ p. get_or-set_other xs t r (Some v) None p.1
-    ∙ ap (λ b. if b then Some v else registers_view xs r) (sym p.0))
-    (eqb_tells r t)
+    ∙ ap (λ b. if b then Some v else registers_view xs r) (sym p.0)) (eqb_tells r t)
 
 -- a register that is written
 pub held_set : (xs : List (Option Value)) (t : ℕ) (v : Value) → t < length xs

@@ -147,8 +147,7 @@ worked_more first second is =
     record {
       visits = second.visits;
       more = omega (arith, first.more, second.more);
-      work =
-          omega (arith, first.work, second.work, is);
+      work = omega (arith, first.work, second.work, is);
     }
 
 pub worked_act : {most : ℕ} {a b d : Run} {m k : ℕ} → HasWorked most a b m → d.visits ≡ b.visits
@@ -156,7 +155,6 @@ pub worked_act : {most : ℕ} {a b d : Run} {m k : ℕ} → HasWorked most a b m
 worked_act first same more is =
     record {
       visits = omega (arith, first.visits, same);
-      more =
-          omega (arith, first.more, same);
+      more = omega (arith, first.more, same);
       work = omega (arith, first.work, more, same, is);
     }

@@ -10,8 +10,7 @@ either_bit x y p q = grind arith
 
 pub either_set : (a b i : ℕ)
     → nat_eq (bit_at (bit_or a b) i) 1 ≡ nat_eq (bit_at a i) 1 || nat_eq (bit_at b i) 1
-either_set a b i =
-    ap (λ n. nat_eq n 1) (bit_at_or a b i)
+either_set a b i = ap (λ n. nat_eq n 1) (bit_at_or a b i)
     ∙ either_bit (bit_at a i) (bit_at b i) (bit_at-lt a i) (bit_at-lt b i)
 
 pub bit_alone : (k : ℕ) → k < 58 → 1 * 2 ^ k % 2 ^ 64 ≡ 2 ^ k

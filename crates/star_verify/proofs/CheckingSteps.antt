@@ -12,8 +12,7 @@ others steps = take (length steps - 1) (drop 1 steps)
 
 pub code_first : (steps : List Step) (step : Step) → 1 ≤ length steps → step ≡ get_or steps 0 step
     → code_of_steps steps ≡ before step (code_of_steps (others steps))
-code_first steps step some is =
-    sym (ap code_of_steps (first_and_others steps step some))
+code_first steps step some is = sym (ap code_of_steps (first_and_others steps step some))
     ∙ ap (λ s. before s (code_of_steps (others steps))) (sym is)
 
 pub size_first : (step : Step) (rest : Code)
@@ -68,8 +67,7 @@ module _ (w : World) (parts : Parts) (pending : ℕ → Bool) (x : Context) (at 
       × KeepsContext parts state (after_step w parts x s)) (sym is) (ap (at_place at) none, kept)
 
   pub scan_walked : (result : Result ℕ Refusal) (table : TableId) (r : ℕ) (body : Code)
-      → step ≡ Scan table r body
-      → AreStepsChecked result
+      → step ≡ Scan table r body → AreStepsChecked result
       (scan_first w parts (open_with pending (Each table r body rest)) x at table r body)
       (KeepsContext parts state (after_scan x (at_end w parts (in_scan w x table r) body)))
       → AreStepsChecked result (step_first w parts pending x at step rest)
@@ -104,8 +102,7 @@ module _ (given : GivenSteps) (state : VerifierState) (at : ℕ) (left : List St
   rest = code_of_steps (others left)
 
   pub one_walked : (state_then : VerifierState) (next : ℕ)
-      → IsStepped given state at step rest state_then
-      → next ≡ at + step_size step
+      → IsStepped given state at step rest state_then → next ≡ at + step_size step
       → IsSized given.input.parts.now state_then → AreFewAt state_then next
       → AreRemainingSteps given state_then next (others left)
   one_walked state_then next stepped number sized few =

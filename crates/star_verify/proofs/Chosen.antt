@@ -6,8 +6,7 @@ module _ {X Y : Type 0} (p : X → Bool) (f : X → Y) (xs : List X) (i : ℕ) (
   next : i < length xs → map f (filter p (drop i xs))
       ≡ map f (cond (p (get_or xs i d)) (get_or xs i d ∷ filter p (drop (i + 1) xs))
       (filter p (drop (i + 1) xs)))
-  next lt =
-      ap (λ ys. map f (filter p ys)) (drop-cons xs i d lt)
+  next lt = ap (λ ys. map f (filter p ys)) (drop-cons xs i d lt)
       ∙ ap (λ n. map f (filter p (get_or xs i d ∷ drop n xs))) (sym (add-one i))
 
   pub picked : i < length xs → p (get_or xs i d) ≡ true

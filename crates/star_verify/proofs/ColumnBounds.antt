@@ -6,8 +6,7 @@ module _ (w : World) (bounds : List Interval) (k : ℕ) (d : ColumnId) (new : In
   pub one_more : length bounds ≡ 58 → AreBoundsBefore w bounds k
       → range_of new ≡ w.bounds (get_or COLUMNS k d)
       → AreBoundsBefore w (slice_set bounds (index_of (get_or COLUMNS k d)) new) (k + 1)
-  one_more len are is c i before at =
-      go (nat_eq (index_of (get_or COLUMNS k d)) (index_of c)) refl
+  one_more len are is c i before at = go (nat_eq (index_of (get_or COLUMNS k d)) (index_of c)) refl
     where
       column : ColumnId
       column = get_or COLUMNS k d

@@ -4,13 +4,11 @@ use Rattle.star_verify.proofs.Common.{Beyond, IfOk, IsMade, Known, MatchResult, 
 use Rattle.star_safety.specs.Ranges as ranges
 
 pub made_as : (w : World) (result : Result Known Beyond) (k made : ranges.Known) → k ≡ made
-    → IfOk result (λ known. known_view known ≡ k)
-    → MatchResult result (λ _. overflow_of w k ≡ None)
+    → IfOk result (λ known. known_view known ≡ k) → MatchResult result (λ _. overflow_of w k ≡ None)
     (λ beyond. overflow_of w k ≡ Some (beyond_view w beyond))
     → IsMade w result made (overflow_of w made)
 made_as w (Ok known) k made e p q = (p ∙ e, subst (λ m. overflow_of w m ≡ None) e q)
-made_as w (Err beyond) k made e p q =
-    subst (λ m. overflow_of w m ≡ Some (beyond_view w beyond)) e q
+made_as w (Err beyond) k made e p q = subst (λ m. overflow_of w m ≡ Some (beyond_view w beyond)) e q
 
 -- ---- a read
 

@@ -9,14 +9,12 @@ module _ (w : World) (r : Range) (reach : ranges.Reach) where
   fitting fits = ap (λ b. refuses (not b) (Overflow r.low r.high (reached w reach)))
       ((fits_i64_fits r).1 fits)
 
-  pub leaving : (FitsI64 r → ⊥)
-      → overflow_of w (ranges.KnownNumber r reach None)
+  pub leaving : (FitsI64 r → ⊥) → overflow_of w (ranges.KnownNumber r reach None)
       ≡ Some (Overflow r.low r.high (reached w reach))
   leaving none = grind (arith, refuses, reached, fits_i64_fits)
 
 pub computed_is : (operation : ℤ → ℤ → ℤ) (b from to : Range)
-    (reach on_left on_right : ranges.Reach)
-    (left right : Option ranges.Known)
+    (reach on_left on_right : ranges.Reach) (left right : Option ranges.Known)
     → b ≡ corner_range operation from to → from ≡ ranges.range_at left → to ≡ ranges.range_at right
     → reach ≡ ranges.joined_reach on_left on_right
     → on_left ≡ ranges.reach_at left → on_right ≡ ranges.reach_at right

@@ -6,8 +6,7 @@ use Rattle.star_verify.specs.declared.refusal.Refusal.TheVariants as told
 
 pub same_quote : (w : World) (facts : Facts) → AreFacts w facts → (parts : Parts) (visits : ℕ)
     → visits ≡ quote (size_of facts.sizes) parts → visits ≡ quote w.size parts
-same_quote w facts are parts visits e =
-    e ∙ ap (λ size. quote size parts) (λ i t. are.sizes t i)
+same_quote w facts are parts visits e = e ∙ ap (λ size. quote size parts) (λ i t. are.sizes t i)
 
 -- of a program that is quoted `visits` visits, and whose parts a check holds
 module _ (w : World) (most : ℕ) (parts : Parts) (facts : Facts) (are : AreFacts w facts)

@@ -99,8 +99,7 @@ module _ (u : ℕ) (s : Shape) (has_shown has_hidden : Bool) (lists c : ℕ) (cs
 plain_more : (u : ℕ) (has_shown : Bool) (lists c : ℕ) (cs : List ℕ)
     → rows_behind u Plain has_shown false lists (c ∷ cs)
     ≡ rows_behind u Plain true false (lists * c) cs
-plain_more u has_shown lists c cs =
-    parted u Plain has_shown false lists c cs
+plain_more u has_shown lists c cs = parted u Plain has_shown false lists c cs
     ∙ (λ i. behind_shown u Plain has_shown false lists c cs (λ m. refl) i
     + sum_none (λ m. rows_of_rest u has_shown lists (None ∷ m))
     (λ m. grouping_goes_on Plain false (None ∷ m)) (λ m. refl) (masks cs) i)
@@ -110,8 +109,7 @@ plain_more u has_shown lists c cs =
 rollup_hidden : (u : ℕ) (has_shown : Bool) (lists c : ℕ) (cs : List ℕ)
     → rows_behind u Rollup has_shown true lists (c ∷ cs)
     ≡ rows_behind u Rollup has_shown true lists cs
-rollup_hidden u has_shown lists c cs =
-    parted u Rollup has_shown true lists c cs
+rollup_hidden u has_shown lists c cs = parted u Rollup has_shown true lists c cs
     ∙ (λ i. sum_none (λ m. rows_of_rest u has_shown lists (Some c ∷ m))
     (λ m. grouping_goes_on Rollup true (Some c ∷ m)) (λ m. refl) (masks cs) i
     + behind_hidden u Rollup has_shown true lists c cs (λ m. refl) i)
@@ -120,8 +118,7 @@ rollup_hidden u has_shown lists c cs =
 rollup_more : (u : ℕ) (has_shown : Bool) (lists c : ℕ) (cs : List ℕ)
     → rows_behind u Rollup has_shown false lists (c ∷ cs)
     ≡ rows_behind u Rollup true false (lists * c) cs + rows_behind u Rollup has_shown true lists cs
-rollup_more u has_shown lists c cs =
-    parted u Rollup has_shown false lists c cs
+rollup_more u has_shown lists c cs = parted u Rollup has_shown false lists c cs
     ∙ (λ i. behind_shown u Rollup has_shown false lists c cs (λ m. refl) i
     + behind_hidden u Rollup has_shown false lists c cs (λ m. refl) i)
 
@@ -129,8 +126,7 @@ rollup_more u has_shown lists c cs =
 cube_more : (u : ℕ) (has_shown has_hidden : Bool) (lists c : ℕ) (cs : List ℕ)
     → rows_behind u Cube has_shown has_hidden lists (c ∷ cs)
     ≡ rows_behind u Cube true has_hidden (lists * c) cs + rows_behind u Cube has_shown true lists cs
-cube_more u has_shown has_hidden lists c cs =
-    parted u Cube has_shown has_hidden lists c cs
+cube_more u has_shown has_hidden lists c cs = parted u Cube has_shown has_hidden lists c cs
     ∙ (λ i. behind_shown u Cube has_shown has_hidden lists c cs (goes has_hidden) i
     + behind_hidden u Cube has_shown has_hidden lists c cs (goes_hidden has_hidden) i)
   where
@@ -146,8 +142,7 @@ cube_more u has_shown has_hidden lists c cs =
 
 -- of each shape by what the next key may be
 pub one_more : (u : ℕ) (s : Shape) (has_shown has_hidden : Bool) (lists c : ℕ) (cs : List ℕ)
-    → MayHide s has_hidden
-    → rows_behind u s has_shown has_hidden lists (c ∷ cs)
+    → MayHide s has_hidden → rows_behind u s has_shown has_hidden lists (c ∷ cs)
     ≡ (if may_show s has_hidden then rows_behind u s true has_hidden (lists * c) cs else 0)
     + (if may_hide s then rows_behind u s has_shown true lists cs else 0)
 one_more u Plain has_shown false lists c cs may = plain_more u has_shown lists c cs ∙ omega arith

@@ -3,8 +3,7 @@ use Rattle.std.proofs.Common.{◌≡◌, ◌<◌, ◌≤◌, ◌+◌, ◌*◌, �
 use Rattle.star_verify.proofs.Common.{Code, Each, TableId, body_nested, met_within, rest_nested, scan_depth, turns_met}
 
 pub inner : (times size : ℕ) (table : TableId) (r : ℕ) (body rest left : Code)
-    → left ≡ Each table r body rest → size < 2 ^ 32
-    → times * (2 ^ 32) ^ scan_depth left ≤ 2 ^ 96
+    → left ≡ Each table r body rest → size < 2 ^ 32 → times * (2 ^ 32) ^ scan_depth left ≤ 2 ^ 96
     → times * size * (2 ^ 32) ^ scan_depth body ≤ 2 ^ 96
 inner times size table r body rest left code small deep =
     body_nested (2 ^ 32) (2 ^ 96) times size table r body rest small
@@ -22,8 +21,7 @@ often met depth deep = met_within (2 ^ 32) (2 ^ 96) met depth (omega arith) deep
 
 -- the turns of what is left, by those of a scan and its body
 pub scan_turns : (size_of : TableId → ℕ) (times size deeper : ℕ) (table : TableId) (r : ℕ)
-    (body rest left : Code)
-    → left ≡ Each table r body rest → size ≡ size_of table
+    (body rest left : Code) → left ≡ Each table r body rest → size ≡ size_of table
     → deeper ≡ turns_met size_of (times * size) body
     → turns_met size_of times left ≡ times * size + deeper + turns_met size_of times rest
 scan_turns size_of times size deeper table r body rest left code is below = grind arith

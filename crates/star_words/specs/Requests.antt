@@ -75,9 +75,6 @@ with_two command folder file =
     else (if bytes_eq command (codes "exec") then Some (exec folder file)
     else (if bytes_eq command (codes "quote") then Some (quote folder file) else None))
 
-abbrev pub trial_of : (folder file limit : Word) → Option Asked
-trial_of folder file limit = option_map (trial folder file) (limit_of limit)
-
 -- the number of a part: one from 1 to 1,000, or 0 for the whole
 abbrev pub part_within : Option ℕ → Option ℕ
 part_within None = None
@@ -88,7 +85,7 @@ part_of word = part_within (limit_of word)
 
 abbrev pub with_three : (command folder file last : Word) → Option Asked
 with_three command folder file last =
-    if bytes_eq command (codes "trial") then trial_of folder file last else None
+    if bytes_eq command (codes "trial") then option_map (trial folder file) (limit_of last) else None
 
 -- a command without options
 abbrev pub plain : (command : Word) → (operands : List Word) → Option Asked

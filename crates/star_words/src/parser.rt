@@ -14,26 +14,17 @@ fn word<'a>(alloc: Global, name: &'a str, help: &'a str) -> Arg<'a> {
 }
 
 fn folder_word<'a>(alloc: Global) -> Arg<'a> {
-    word(
-        alloc,
-        "FOLDER",
-        "A folder with date.tbl, customer.tbl, supplier.tbl, part.tbl, and lineorder.tbl or its parts",
-    )
-}
-
-fn file_word<'a>(alloc: Global, help: &'a str) -> Arg<'a> {
-    word(alloc, "FILE", help)
+    let help =
+        "A folder with date.tbl, customer.tbl, supplier.tbl, part.tbl, and lineorder.tbl or its parts";
+    word(alloc, "FOLDER", help)
 }
 
 // A negative number is taken for the value that is none, and not for an option.
 fn limit_word<'a>(alloc: Global) -> Arg<'a> {
-    word(
-        alloc,
-        "LIMIT",
-        "The largest number of rows to visit, from 0 to 1000000000000000",
-    )
-    .allow_negative_numbers(true)
-    .value_parser(value_parser!(i64).range(0..=MOST_VISITS as i64))
+    let help = "The largest number of rows to visit, from 0 to 1000000000000000";
+    word(alloc, "LIMIT", help)
+        .allow_negative_numbers(true)
+        .value_parser(value_parser!(i64).range(0..=MOST_VISITS as i64))
 }
 
 /// A command that has no words yet: the one that has commands of its own has none.
@@ -45,30 +36,36 @@ pub(crate) fn wordless<'a>(alloc: Global, help: Help) -> Result<Command<'a>, All
         .bin_name(help.called)
 }
 
-// Some words, as they are.
-fn file_words<'a>(alloc: Global) -> Arg<'a> {
-    Arg::new(alloc, "FILE")
-        .help(
-            "1 to 1000 files with the text of a program or of a query (docs/PROGRAMS.md, docs/QUERIES.md)",
-        )
+// From 1 to 1000 words, as they are.
+fn words<'a>(alloc: Global, name: &'a str, help: &'a str) -> Arg<'a> {
+    Arg::new(alloc, name)
+        .help(help)
         .required(true)
         .num_args(1..=1000)
         .action(ArgAction::Append)
 }
 
-fn quote_flag<'a>(alloc: Global) -> Arg<'a> {
-    Arg::new(alloc, "quote")
-        .long("quote")
-        .help("Prints how many rows each file visits and its report has at most, and runs none")
+fn flag<'a>(alloc: Global, name: &'a str, help: &'a str) -> Arg<'a> {
+    Arg::new(alloc, name)
+        .long(name)
+        .help(help)
         .action(ArgAction::SetTrue)
 }
 
+fn file_words<'a>(alloc: Global) -> Arg<'a> {
+    let help =
+        "1 to 1000 files with the text of a program or of a query (docs/PROGRAMS.md, docs/QUERIES.md)";
+    words(alloc, "FILE", help)
+}
+
+fn quote_flag<'a>(alloc: Global) -> Arg<'a> {
+    let help = "Prints how many rows each file visits and its report has at most, and runs none";
+    flag(alloc, "quote", help)
+}
+
 fn part_words<'a>(alloc: Global) -> Arg<'a> {
-    Arg::new(alloc, "PART")
-        .help("The number of a part of lineorder, from 1 to 1000, or 0 for lineorder.tbl")
-        .required(true)
-        .num_args(1..=1000)
-        .action(ArgAction::Append)
+    let help = "The number of a part of lineorder, from 1 to 1000, or 0 for lineorder.tbl";
+    words(alloc, "PART", help)
         .allow_negative_numbers(true)
         .value_parser(value_parser!(i64).range(0..=1000))
 }
@@ -82,18 +79,13 @@ fn target_option<'a>(alloc: Global) -> Arg<'a> {
 }
 
 fn partial_words<'a>(alloc: Global) -> Arg<'a> {
-    Arg::new(alloc, "PARTIAL")
-        .help("1 to 1000 files with the partials of the query, in any order")
-        .required(true)
-        .num_args(1..=1000)
-        .action(ArgAction::Append)
+    let help = "1 to 1000 files with the partials of the query, in any order";
+    words(alloc, "PARTIAL", help)
 }
 
 fn distinct_flag<'a>(alloc: Global) -> Arg<'a> {
-    Arg::new(alloc, "distinct")
-        .long("distinct")
-        .help("Merges partials whose keys overlap: no order line may be in two of them")
-        .action(ArgAction::SetTrue)
+    let help = "Merges partials whose keys overlap: no order line may be in two of them";
+    flag(alloc, "distinct", help)
 }
 
 /// What a command asks for.
@@ -122,11 +114,13 @@ pub(crate) fn asking<'a>(
     match asked {
         Asked::Nothing => Ok(start),
         Asked::Folder => start.arg(folder_word(alloc)),
-        Asked::File(file) => start.arg(file_word(alloc, file)),
-        Asked::FolderAndFile(file) => start.arg(folder_word(alloc))?.arg(file_word(alloc, file)),
+        Asked::File(file) => start.arg(word(alloc, "FILE", file)),
+        Asked::FolderAndFile(file) => start
+            .arg(folder_word(alloc))?
+            .arg(word(alloc, "FILE", file)),
         Asked::FolderFileAndLimit(file) => start
             .arg(folder_word(alloc))?
-            .arg(file_word(alloc, file))?
+            .arg(word(alloc, "FILE", file))?
             .arg(limit_word(alloc)),
         Asked::FoldersAndFiles => start
             .arg(folder_word(alloc))?
@@ -135,11 +129,11 @@ pub(crate) fn asking<'a>(
             .arg(quote_flag(alloc)),
         Asked::FolderFileAndParts(file) => start
             .arg(folder_word(alloc))?
-            .arg(file_word(alloc, file))?
+            .arg(word(alloc, "FILE", file))?
             .arg(part_words(alloc))?
             .arg(target_option(alloc)),
         Asked::FileAndPartials(file) => start
-            .arg(file_word(alloc, file))?
+            .arg(word(alloc, "FILE", file))?
             .arg(partial_words(alloc))?
             .arg(distinct_flag(alloc)),
     }

@@ -202,23 +202,18 @@ fn part_of(part: &str) -> Option<u16>
     }
 }
 
-fn trial_of<'a>(folder: &'a str, file: &'a str, limit: &str) -> Option<Request<'a>>
-    ensures { IsMade (spec.trial_of folder.now file.now limit.now) result }
-{
-    let limits = limits_of(limit)?;
-    Some(Request::Answer(Task::Trial {
-        folder,
-        file,
-        limits,
-    }))
-}
-
 fn with_three<'a>(command: &str, folder: &'a str, file: &'a str, last: &str) -> Option<Request<'a>>
     ensures { IsMade (spec.with_three command.now folder.now file.now last.now) result }
 {
-    match command {
-        "trial" => trial_of(folder, file, last),
-        _ => None,
+    if command == "trial" {
+        let limits = limits_of(last)?;
+        Some(Request::Answer(Task::Trial {
+            folder,
+            file,
+            limits,
+        }))
+    } else {
+        None
     }
 }
 

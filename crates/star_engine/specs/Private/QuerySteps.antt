@@ -14,16 +14,14 @@ pub record HasProgramLaws (most : ℕ) (database : Database) (query : List ℕ)
     (p : Plan) : Type 0 where
   pub accepted : FitsRows most database query
       ↔ IsAcceptedWithin database most (compiled p)
-  pub costly : most < fact_rows database
-      → first_refusal (world_of database) most (compiled p)
+  pub costly : most < fact_rows database → first_refusal (world_of database) most (compiled p)
       ≡ Some (TooCostly (fact_rows database))
   pub wide : fact_rows database ≤ most → ¬ FitsRows most database query
       → IsOverflow (first_refusal (world_of database) most (compiled p))
   pub quoted : quote_over database (compiled p) ≡ fact_rows database
   pub printed : (s : State) → run_of (world_of database) (compiled p) ≡ Ended s
       → PrintsTheReport database query p s
-  pub first : fact_rows database ≤ most
-      → first_refusal (world_of database) most (compiled p)
+  pub first : fact_rows database ≤ most → first_refusal (world_of database) most (compiled p)
       ≡ option_map Refused (turn_wide (bounds_in (rows_in database)) p)
   pub counted : (s : State) → run_of (world_of database) (compiled p) ≡ Ended s
       → (meant : IsPlanOf query p) → HasCounted (rows_in database) meant.tree p s

@@ -16,7 +16,6 @@ IsRunOfTexts is_program rows visits texts file run =
 
 -- why there is no such text
 abbrev pub IsRunErrorOfTexts : (is_program : Bool) → (rows visits : ℕ) → TableTexts
-    → (file : List ℕ)
-    → EngineFault → Type 0
+    → (file : List ℕ) → EngineFault → Type 0
 IsRunErrorOfTexts true rows visits texts file fault = IsRunError rows visits texts file fault
 IsRunErrorOfTexts false rows visits texts file fault = IsQueryRunError rows visits texts file fault

@@ -4,7 +4,7 @@ use Rattle.std.specs.{List.AllByRecursion}
 use Rattle.star_schema.specs.{Database.Database, declared.group.SortKey.SortKey, Groups.AreGroups, Groups.GroupRow as Row, Order.AreInOrder, Tables.Value}
 use Rattle.star_program.specs.{declared.group.GroupDecl.GroupDecl, declared.group.GroupKey.GroupKey, declared.key.KeyValue.KeyValue, declared.outcome.Cell.Cell, declared.program.Parts.Parts, declared.program.Show.Show, Faults.group_at, Keys.key_value_cmp, Outcome.AreReportRows}
 use Rattle.star_program.specs.{Outcome.decoded_row, Outcome.shown_cells, RowCells.cell_of, Puts.Update, World.World}
-use Rattle.star_group.specs.{declared.group_row.GroupRow.GroupRow, StoreRows.AreRows, StoreRows.row_view, Stores.Group, Stores.group_declared}
+use Rattle.star_group.specs.{StoreRows.AreRows, Stores.Group, Stores.group_declared}
 use Rattle.star_outcome.specs.SoundKeys.{AreSoundKeys, IsSoundKey}
 
 -- a key of a row: ALL, or as declared
@@ -19,18 +19,18 @@ AreDecodable database (declared ∷ rest) (k ∷ ks) =
 AreDecodable database _ _ = ⊥
 
 -- the cells of a row, one for each show line
-abbrev pub row_cells : World → GroupDecl → List Show → GroupRow → List Cell
-row_cells w d shows row = map (λ show. cell_of (decoded_row w d (row_view row)) show.column) shows
+abbrev pub row_cells : World → GroupDecl → List Show → Row KeyValue → List Cell
+row_cells w d shows row = map (λ show. cell_of (decoded_row w d row) show.column) shows
 
 -- the groups of some updates as a report has them, but with codes for texts
 pub record AreSortedGroups (d : Group) (sorts : List SortKey) (updates : List Update)
-    (rows : List GroupRow) : Type 0 where
-  pub groups : AreGroups key_value_cmp d.shape d.count d.aggregates updates (map row_view rows)
-  pub in_order : AreInOrder key_value_cmp sorts (map row_view rows)
+    (rows : List (Row KeyValue)) : Type 0 where
+  pub groups : AreGroups key_value_cmp d.shape d.count d.aggregates updates rows
+  pub in_order : AreInOrder key_value_cmp sorts rows
 
 -- the rows of the reported group with these updates, in any order
 pub record AreToReport (database : Database) (parts : Parts) (updates : List Update)
-    (rows : List GroupRow) : Type 0 where
+    (rows : List (Row KeyValue)) : Type 0 where
   pub are : AreRows (group_declared (group_at parts parts.report)) updates rows
   pub sound : AllByRecursion
       (λ update. AreSoundKeys database (group_at parts parts.report).keys update.keys) updates

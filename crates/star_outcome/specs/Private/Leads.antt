@@ -3,7 +3,7 @@ use Rattle.std.specs.Prelude.{ℕ, ℤ, pos, negsuc, ◌+ℤ◌, ◌-ℤ◌, Boo
 use Rattle.std.specs.{Int.int_min, Int.int_max, Ordering.int_cmp, Ordering.int_eq, Ordering.ordering_then, declared.cmp.Ordering.Ordering}
 use Rattle.star_schema.specs.{declared.group.GroupColumn.GroupColumn, declared.group.Direction.Direction, declared.group.Direction.TheVariants.Ascending, declared.group.Direction.TheVariants.Descending, declared.group.SortKey.SortKey, Groups.GroupRow as Row}
 use Rattle.star_program.specs.declared.key.KeyValue.{KeyValue}
-use Rattle.star_group.specs.{declared.group_row.GroupRow.GroupRow, StoreRows.row_at, StoreRows.row_view}
+use Rattle.star_group.specs.StoreRows.{row_at}
 use Rattle.star_outcome.specs.{Private.RowOrder.row_order, declared.outcome.leads.Led.Led}
 use Rattle.star_schema.specs.declared.group.GroupColumn.TheVariants as column
 use Rattle.star_program.specs.declared.key.KeyValue.TheVariants as key
@@ -67,13 +67,13 @@ next_lead (sort ∷ sorts) row =
 abbrev pub leads_cmp : Led → Led → Ordering
 leads_cmp a b = ordering_then (int_cmp a.lead b.lead) (int_cmp a.next b.next)
 
-abbrev pub led_cmp : List SortKey → List GroupRow → Led → Led → Ordering
+abbrev pub led_cmp : List SortKey → List (Row KeyValue) → Led → Led → Ordering
 led_cmp sorts rows a b = ordering_then (leads_cmp a b)
-    (row_order sorts (row_view (row_at rows a.number)) (row_view (row_at rows b.number)))
+    (row_order sorts (row_at rows a.number) (row_at rows b.number))
 
-abbrev pub led_at : List SortKey → List GroupRow → ℕ → Led
+abbrev pub led_at : List SortKey → List (Row KeyValue) → ℕ → Led
 led_at sorts rows number = record {
-  lead = first_lead sorts (row_view (row_at rows number));
-  next = next_lead sorts (row_view (row_at rows number));
+  lead = first_lead sorts (row_at rows number);
+  next = next_lead sorts (row_at rows number);
   number = number;
 }

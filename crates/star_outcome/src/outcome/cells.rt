@@ -3,7 +3,7 @@
 ghost use Rattle.std.specs.Prelude.{◌≡◌, ◌<◌, ◌++◌, IfOk, OnOk, All, length, map, true};
 ghost use Rattle.std.specs.{List.flat_map, Option.option_map};
 ghost use Rattle.star_schema.specs.{Schema.kind_of, Columns.column_dictionary};
-ghost use Rattle.star_group.specs.StoreRows.{row_at, row_view};
+ghost use Rattle.star_group.specs.StoreRows.{row_at};
 ghost use Rattle.star_program.specs.{Outcome.decoded, Outcome.decoded_row, RowCells.cell_of, ShowLines.has_column};
 ghost use Rattle.star_outcome.specs.Private.Decoded.{AreDecodable, IsDecodable, row_cells};
 ghost use Rattle.star_world.specs.WorldOf.{world_of};
@@ -78,7 +78,7 @@ fn cell(
     ensures { IfOk result
         (λ cell. cell
         ≡ cell_of (decoded_row (world_of catalogue.now) declared.now
-        (row_view (row_at rows.now number))) column) }
+        (row_at rows.now number)) column) }
 {
     match column {
         GroupColumn::Key(place) => key_cell(

@@ -2,7 +2,7 @@
 // that most comparisons of a sort read no row.
 
 ghost use Rattle.std.specs.{Prelude.◌≡◌, Prelude.IfOk, Prelude.length, Prelude.map, List.range_with_len};
-ghost use Rattle.star_group.specs.StoreRows.{row_at, row_view};
+ghost use Rattle.star_group.specs.StoreRows.{row_at};
 ghost use Rattle.star_outcome.specs.Private.Leads.{leads_cmp, led_at};
 ghost use Rattle.star_outcome.specs.Private.Leads as spec;
 
@@ -80,7 +80,7 @@ fn total_lead(total: Option<i128>) -> i64
 }
 
 fn column_lead(column: GroupColumn, rows: &GroupRows, number: usize) -> i64
-    ensures { result ≡ spec.column_lead column (row_view (row_at rows.now number)) }
+    ensures { result ≡ spec.column_lead column (row_at rows.now number) }
 {
     match column {
         GroupColumn::Key(place) => key_lead(rows.key(number, place as usize)),
@@ -107,7 +107,7 @@ fn directed(direction: Direction, lead: i64) -> i64
 
 // By the first sort key.
 fn first_lead(sorts: &[SortKey], rows: &GroupRows, number: usize) -> i64
-    ensures { result ≡ spec.first_lead sorts.now (row_view (row_at rows.now number)) }
+    ensures { result ≡ spec.first_lead sorts.now (row_at rows.now number) }
 {
     match sorts {
         [] => NULL,

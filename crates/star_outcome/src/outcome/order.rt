@@ -3,7 +3,7 @@
 ghost use Rattle.std.specs.Prelude.{◌≡◌, ◌≤◌, List, IfOk, length, map};
 ghost use Rattle.std.specs.{List.AllByRecursion};
 ghost use Rattle.star_schema.specs.Order.{key_cmp};
-ghost use Rattle.star_group.specs.{StoreRows.AreRows, StoreRows.row_at, StoreRows.row_view, Stores.Group};
+ghost use Rattle.star_group.specs.{StoreRows.AreRows, StoreRows.row_at, Stores.Group};
 ghost use Rattle.star_program.specs.{Keys.key_value_cmp, Puts.Update};
 ghost use Rattle.star_outcome.specs.{Private.Decoded.AreSortedGroups, Private.Leads.led_cmp, Private.RowOrder.column_order, Private.RowOrder.row_order, Private.RowOrder.sort_order};
 ghost use Rattle.star_outcome.specs.Private.RowOrder as spec;
@@ -42,7 +42,7 @@ fn compare_keys(a: Option<KeyValue>, b: Option<KeyValue>) -> Ordering
 // row: an aggregate is NULL in all rows of a group or in none.
 fn compare_at(column: GroupColumn, rows: &GroupRows, a: usize, b: usize) -> Ordering
     ensures { result ≡ column_order column
-        (row_view (row_at rows.now a)) (row_view (row_at rows.now b)) }
+        (row_at rows.now a) (row_at rows.now b) }
 {
     match column {
         GroupColumn::Key(place) => {
@@ -57,7 +57,7 @@ fn compare_at(column: GroupColumn, rows: &GroupRows, a: usize, b: usize) -> Orde
 
 fn compare_by(sort: SortKey, rows: &GroupRows, a: usize, b: usize) -> Ordering
     ensures { result ≡ sort_order sort
-        (row_view (row_at rows.now a)) (row_view (row_at rows.now b)) }
+        (row_at rows.now a) (row_at rows.now b) }
 {
     match sort.direction {
         Direction::Ascending => compare_at(sort.column, rows, a, b),
@@ -67,7 +67,7 @@ fn compare_by(sort: SortKey, rows: &GroupRows, a: usize, b: usize) -> Ordering
 
 fn compare_rows(sorts: &[SortKey], rows: &GroupRows, a: usize, b: usize) -> Ordering
     ensures { result ≡ row_order sorts.now
-        (row_view (row_at rows.now a)) (row_view (row_at rows.now b)) }
+        (row_at rows.now a) (row_at rows.now b) }
 {
     match sorts {
         [] => Ordering::Equal,

@@ -17,6 +17,12 @@ pub record IsFront (text : List ℕ) (count : ℕ) : Type 0 where
   pub plain : list_all is_plain (take count text) ≡ true
   pub end : (count ≡ length text) ⊎ ((count < length text) × (get_or text count 0 ≡ 124))
 
+-- a text is what a line has from a place on
+pub record IsEndOf (line text : List ℕ) : Type 0 where
+  pub at : ℕ
+  pub within : at ≤ length line
+  pub is : text ≡ drop at line
+
 -- the fields of a line from a place on: none if the place is after its end
 abbrev pub left_of : List ℕ → ℕ → List (List ℕ)
 left_of line at = if nat_le at (length line) then fields_of (drop at line) else []

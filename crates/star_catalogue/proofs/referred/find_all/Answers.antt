@@ -9,13 +9,13 @@ unfolding keys_of
 of-requires g c =
     let table = c.args.table.now in
     let fits : FitsSigned w64 c.at.result = search rules in
-    let key = (c.lend_keys-keys.ensures c.at.result c.in-Some.found).0
+    let key = (c.requires.keys c.at.result c.in-Some.found).0
     (sym (rw (to_z-of_z fits) at c.in-Some.ensures)) in
     omega (
       arith,
       slice_get_within (keys_of table.table table.rows) c.in-Some.found (c.at.result ∷ []) key,
       length-map table.rows (key_numbers (key_of table.table)),
-      c.requires,
+      c.requires.few,
     )
 
 pub returns-in-None : goal.returns-in-None
@@ -24,12 +24,12 @@ returns-in-None g c =
     absent_one (keys_of c.args.table.now.table c.args.table.now.rows) c.args.numbers.now
     c.loop-row.row c.at.result (rw c.view-lent.ensures at c.at.ensures)
     (λ row at. let bad = rw (to_z-of_z fits) at c.in-None.ensures
-    ∙ (c.lend_keys-keys.ensures c.at.result row).1 at in cc bad)
+    ∙ (c.requires.keys c.at.result row).1 at in cc bad)
 
 pub loop-row-preserved : goal.loop-row-preserved
 loop-row-preserved g c =
     let fits : FitsSigned w64 c.at.result = search rules in
-    let key = (c.lend_keys-keys.ensures c.at.result c.in-Some.found).0
+    let key = (c.requires.keys c.at.result c.in-Some.found).0
     (sym (rw (to_z-of_z fits) at c.in-Some.ensures)) in
     let number = g.W.RowWord.number in
     let pushed =

@@ -1,5 +1,5 @@
 use Rattle.std.proofs.Common.{refl}
-use Rattle.star_schema.specs.{Loadable.database_of, Most.most_rows, Most.most_visits}
+use Rattle.star_schema.specs.Most.{most_rows, most_visits}
 use Rattle.star_engine.specs.{Answered.change, QuoteTexts.IsQuoteError, QuoteTexts.IsQuoteTextOver, QuoteTexts.is_program_file, Trials.IsBoundedReport, Trials.IsTrialError, Trials.IsTrialErrorOver}
 use Rattle.star_engine.proofs.{Loaded.answered_over, RunTextLemmas.noted_of_texts, Trials.no_trial_over}
 use Rattle.star_cli.proofs.Giving.{answer_given, bench_given, benched, both_given, list_given, listed, nothing_given, quote_given, trial_given}
@@ -50,7 +50,7 @@ returns-in-Quote g c = λ texts loadable loaded task file asks of_tables.
     let out = change g.S.Sink.contents g.S.Sink.is_failed c.args.out.now c.quote.new.out in
     quote_given out (change g.N.Sink.contents g.N.Sink.is_failed c.args.notes.now c.args.notes.now) texts file c.whole-in-Quote.result task
     c.in-Quote.question c.quote.result (rw c.in-Quote.is at asks)
-    (λ is. answered_over most_rows texts (database_of texts) loadable refl out
+    (λ is. answered_over most_rows texts loadable out
     (λ database. IsQuoteTextOver database file) (λ database fault. ⊥)
     (IsQuoteError most_rows texts file) c.quote.result (λ fault loadable never. absurd never)
     (rw loaded at (c.quote.ensures (is_program_file file) file is))) c.whole-in-Quote.ensures refl
@@ -61,7 +61,7 @@ returns-in-Trial g c = λ texts loadable loaded task file asks of_tables.
     let visits = c.in-Trial.limits.visits in
     trial_given out (change g.N.Sink.contents g.N.Sink.is_failed c.args.notes.now c.args.notes.now) texts file c.whole-in-Trial.result task
     c.in-Trial.question c.in-Trial.limits c.trial.result (rw c.in-Trial.is at asks) of_tables
-    (λ is. answered_over most_rows texts (database_of texts) loadable refl out
+    (λ is. answered_over most_rows texts loadable out
     (λ database. IsBoundedReport database file visits)
     (λ database. IsTrialErrorOver database file visits) (IsTrialError most_rows texts file visits)
     c.trial.result (no_trial_over most_rows texts file visits)

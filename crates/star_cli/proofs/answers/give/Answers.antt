@@ -25,8 +25,7 @@ returns-in_err-engine g c = λ texts are of_tables.
     (given_up (change g.S.Sink.contents g.S.Sink.is_failed c.args.out.now c.args.out.now)
     (change g.N.Sink.contents g.N.Sink.is_failed c.args.notes.now c.args.notes.now) refl refl texts file
     c.in_err-engine.field-0.0 (IsLoadError most_rows texts)
-    (c.in_err-engine.ensures.loaded texts are)
-    (λ refusal never. never) c.args.task
+    (c.in_err-engine.ensures.loaded texts are) (λ refusal never. never) c.args.task
     (not_loaded c.args.task texts file c.in_ok-asked.asked (c.in_ok-asked.ensures of_tables)
     of_tables))
 

@@ -1,5 +1,4 @@
-use Rattle.std.proofs.Common.{inl, inr}
-use Rattle.std.proofs.lemmas.Result.{err_from_is_err_and}
+use Rattle.std.proofs.{lemmas.Result.err_from_is_err_and, Common.inl, Common.inr}
 use Rattle.star_cli.proofs.commands.ready.Goals as goal
 
 pub returns-clause-read : goal.returns-clause-read

@@ -17,8 +17,7 @@ returns-in-Ok g c =
     c.load_engine.new.err
     c.run_session_over.new.err c.in-Ok.ensures.silent.0 c.in-Ok.ensures.silent.1
     c.run_session_over.result
-    c.in-Ok.engine
-    (input_of (g.I.Read.remaining c.args.input.reader) c.args.input.is_terminal)
+    c.in-Ok.engine (input_of (g.I.Read.remaining c.args.input.reader) c.args.input.is_terminal)
     c.run_session_over.ensures)
 
 pub returns-in-Err : goal.returns-in-Err

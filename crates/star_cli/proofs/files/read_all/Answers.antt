@@ -5,8 +5,7 @@ use Rattle.star_cli.proofs.files.read_all.Goals as goal
 
 pub returns-clause-read : goal.returns-clause-read
 returns-clause-read g c =
-    all_read (g.R.Store.known c.args.rt.now) c.args.folder.now c.args.only
-    (record {
+    all_read (g.R.Store.known c.args.rt.now) c.args.folder.now c.args.only (record {
       date = c.in_ok-date.date;
       customer = c.in_ok-customer.customer;
       supplier = c.in_ok-supplier.supplier;
@@ -54,5 +53,4 @@ returns-in_err-lineorder-clause-unread g c = λ all.
       there known folder Customer c.in_ok-customer.customer.value c.in_ok-customer.ensures.read,
       there known folder Supplier c.in_ok-supplier.supplier.value c.in_ok-supplier.ensures.read,
       there known folder Part c.in_ok-part.part.value c.in_ok-part.ensures.read,
-    )
-    (c.in_err-lineorder.ensures.unread all))
+    ) (c.in_err-lineorder.ensures.unread all))

@@ -1,5 +1,4 @@
-use Rattle.std.proofs.Common.{Some}
-use Rattle.std.proofs.lemmas.Result.{IfOk-weaker}
+use Rattle.std.proofs.{Common.Some, lemmas.Result.IfOk-weaker}
 use Rattle.star_cli.specs.{Private.Reads.AreAllRead, ReadFolders.AreWidelyRead}
 use Rattle.star_cli.proofs.files.read_part_tables.Goals as goal
 

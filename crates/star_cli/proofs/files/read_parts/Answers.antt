@@ -1,5 +1,4 @@
-use Rattle.std.proofs.Common.{◌≡◌, None}
-use Rattle.std.proofs.lemmas.Result.{IfOk-weaker}
+use Rattle.std.proofs.{lemmas.Result.IfOk-weaker, Common.◌≡◌, Common.None}
 use Rattle.star_schema.specs.declared.table.TableId.TheVariants.{Lineorder}
 use Rattle.star_cli.specs.{Private.Reads.IsLineorderRead, Private.Reads.IsReadIn, ReadFolders.HasReadSome}
 use Rattle.star_cli.proofs.files.read_parts.Goals as goal

@@ -1,5 +1,4 @@
-use Rattle.std.proofs.Common.{None, refl}
-use Rattle.std.proofs.lemmas.Result.{IfOk-weaker}
+use Rattle.std.proofs.{lemmas.Result.IfOk-weaker, Common.None, Common.refl}
 use Rattle.star_cli.specs.{Private.Reads.AreAllRead, ReadFolders.AreReadIn}
 use Rattle.star_cli.proofs.files.read_tables.Goals as goal
 

@@ -14,5 +14,4 @@ returns-in_ok-lineorder-in-Some g c =
     let (texts, text, is) = read_next _ _ widest c.in_ok-lineorder-in-Some.ensures in
     widest_next _ (with_lineorder_text texts text) widest c.with_lineorder.result
     (c.with_lineorder.ensures.loadable texts text is)
-    (c.with_lineorder.ensures.loaded texts text is)
-    (c.with_lineorder.ensures.refused texts text is)
+    (c.with_lineorder.ensures.loaded texts text is) (c.with_lineorder.ensures.refused texts text is)

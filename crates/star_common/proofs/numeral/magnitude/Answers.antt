@@ -1,5 +1,5 @@
 -- Each digit fits.
-use Rattle.std.proofs.Common.{◌≡◌, ◌∙◌, get_or, length, arith, sym, true}
+use Rattle.std.proofs.Common.{◌≡◌, ◌∙◌, get_or, arith, sym, true}
 use Rattle.std.specs.Char.{is_ascii_digit}
 use Rattle.star_common.proofs.NumeralLemmas.{below_power, digit_bounds, digits_more, all_more, room}
 use Rattle.star_common.proofs.numeral.magnitude.Goals as goal
@@ -42,6 +42,4 @@ loop-digit-preserved c =
     }
 
 pub returns-clause-bound : goal.returns-clause-bound
-returns-clause-bound c =
-    below_power c.loop-digit.digit-index
-    (length c.args.digits.now) c.loop-digit.magnitude c.loop-digit.invariant.small (omega arith)
+returns-clause-bound c = grind (arith, below_power)

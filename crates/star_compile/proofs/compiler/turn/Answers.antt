@@ -14,8 +14,7 @@ pub keys-requires : goal.keys-requires
 keys-requires c =
     let room =
     room_for_keys (plan_view c.args.tree.now) c.new-emitter.result c.conjuncts.new.self
-    (search rules)
-    (search rules) c.requires.room in
+    (search rules) (search rules) c.requires.room in
     record { room = search rules }
 
 pub values-requires : goal.values-requires

@@ -10,6 +10,5 @@ invariant-loop-place l =
     HasColumns Key l.tree.keys.items l.place l.columns.items (columns_at Key 0 l.tree.keys.items)
 
 abbrev pub invariant-loop-place-2 : goal.invariant-loop-place-2
-invariant-loop-place-2 l =
-    HasColumns Aggregate l.tree.aggregates.items l.place l.columns.items
+invariant-loop-place-2 l = HasColumns Aggregate l.tree.aggregates.items l.place l.columns.items
     (plain_plan (plan_view l.tree)).items

@@ -10,6 +10,5 @@ returns c =
     section_written most c.args.catalogue.now query c.in_ok-question.question.program
     (c.each_query_has_laws.ensures most (query_text query)) c.in_ok-question.ensures
     c.in_ok-found.found.fits c.in_ok-found.found.text.items c.extend_from_slice.new.self.items
-    c.in_ok-found.ensures
-    (c.in_ok-extend_from_slice.ensures.items
+    c.in_ok-found.ensures (c.in_ok-extend_from_slice.ensures.items
     ∙ (λ i. c.in_ok-text.ensures i ++ c.as_slice.ensures.value i))

@@ -41,6 +41,5 @@ returns g c = λ is_program file read.
     noted_of_texts is_program c.args.limits.rows c.args.limits.visits (texts_view c.args.texts.now)
     file (change g.S.Sink.contents g.S.Sink.is_failed c.args.out.now c.answer.new.out)
     (change g.N.Sink.contents g.N.Sink.is_failed c.args.notes.now c.answer.new.notes)
-    c.answer.result c.in_ok-engine.ensures.loadable
-    (rw c.in_ok-engine.ensures.loaded at
+    c.answer.result c.in_ok-engine.ensures.loadable (rw c.in_ok-engine.ensures.loaded at
     (c.answer.ensures is_program file (rw c.in_ok-question.was at read)))

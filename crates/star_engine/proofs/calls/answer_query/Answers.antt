@@ -1,8 +1,7 @@
+use Rattle.std.specs.Prelude.{false}
 use Rattle.star_catalogue.specs.Load.{texts_view}
 use Rattle.star_engine.specs.{Answered.change, Queries.IsQueryQuote, Queries.IsQueryRun, Queries.IsQueryRunError, Queries.IsReportOf}
-use Rattle.std.specs.Prelude.{false}
-use Rattle.star_engine.proofs.ByClauses.{has_reported, has_written_run, is_run_broken_off, is_run_refused, is_run_unwritten}
-use Rattle.star_engine.proofs.{Reported.query_report}
+use Rattle.star_engine.proofs.ByClauses.{run_by_clauses}
 use Rattle.star_engine.proofs.calls.answer_query.Goals as goal
 
 pub returns : goal.returns
@@ -10,17 +9,12 @@ returns g c =
     let texts = texts_view c.args.texts.now in
     let rows = c.args.limits.rows in
     let visits = c.args.limits.visits in
-    let file = c.args.query.now in
-    let out = change g.S.Sink.contents g.S.Sink.is_failed c.args.out.now c.answer.new.out in
-    let notes = change g.N.Sink.contents g.N.Sink.is_failed c.args.notes.now c.answer.new.notes in
-    let of_quote = IsQueryQuote rows texts file in
-    let of_run = IsQueryRun rows visits texts file in
-    let of_fault = IsQueryRunError rows visits texts file in
-    let is = c.answer.ensures false file c.query.ensures in record {
-      reported = has_reported out notes of_quote of_run of_fault c.answer.result
-          (IsReportOf rows texts file) (query_report rows visits texts file) is;
-      noted = has_written_run out notes of_quote of_run of_fault c.answer.result is;
-      broken = is_run_broken_off out notes of_quote of_run of_fault c.answer.result is;
-      refused = is_run_refused out notes of_quote of_run of_fault c.answer.result is;
-      memory = is_run_unwritten out notes of_quote of_run of_fault c.answer.result is;
-    }
+    let query = c.args.query.now in
+    let (p, n, b, r, m) = run_by_clauses
+    (change g.S.Sink.contents g.S.Sink.is_failed c.args.out.now c.answer.new.out)
+    (change g.N.Sink.contents g.N.Sink.is_failed c.args.notes.now c.answer.new.notes)
+    (IsQueryQuote rows texts query) (IsQueryRun rows visits texts query)
+    (IsQueryRunError rows visits texts query) (IsReportOf rows texts query)
+    (λ run told. record { loadable = told.loadable; holds = told.holds.reported })
+    c.answer.result (c.answer.ensures false query c.query-question.ensures) in
+    record { reported = p; noted = n; broken = b; refused = r; memory = m }

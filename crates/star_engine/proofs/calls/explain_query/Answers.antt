@@ -1,7 +1,7 @@
 use Rattle.std.proofs.Common.{◌∙◌}
 use Rattle.star_compile_laws.specs.Compiled.{compiled}
 use Rattle.star_engine.specs.{Answered.change, Queries.IsExplained, Queries.IsQueryError}
-use Rattle.star_engine.proofs.{Answering.written, ByClauses.has_written, ByClauses.is_broken_off, ByClauses.is_refused, ByClauses.is_untouched, ProgramTexts.program_text_some}
+use Rattle.star_engine.proofs.{ByClauses.by_clauses, ByClauses.written, Executing.program_text_some}
 use Rattle.star_engine.proofs.calls.explain_query.Goals as goal
 
 pub write_text-requires : goal.write_text-requires
@@ -13,13 +13,9 @@ pub returns : goal.returns
 returns g c =
     let query = c.args.query.now in
     let sink = change g.S.Sink.contents g.S.Sink.is_failed c.args.out.now c.write_text.new.out in
-    let of_text = IsExplained query in
-    let of_fault = IsQueryError query in
-    let is = written sink c.as_slice.result.now of_text of_fault c.write_text.result
+    let (w, b, r, m) = by_clauses sink (IsExplained query) (IsQueryError query) c.write_text.result
+    (written sink c.as_slice.result.now (IsExplained query) (IsQueryError query)
+    c.write_text.result
     (rw c.as_slice.ensures.value (c.in_ok-text.ensures query c.in_ok-question.ensures))
-    c.write_text.ensures in record {
-      written = has_written sink of_text of_fault c.write_text.result is;
-      broken = is_broken_off sink of_text of_fault c.write_text.result is;
-      refused = is_refused sink of_text of_fault c.write_text.result is;
-      memory = is_untouched sink of_text of_fault c.write_text.result is;
-    }
+    c.write_text.ensures) in
+    record { written = w; broken = b; refused = r; memory = m }

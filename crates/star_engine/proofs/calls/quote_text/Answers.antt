@@ -1,8 +1,9 @@
-use Rattle.std.proofs.{Common.refl, lemmas.Result.err_from_is_err_and}
-use Rattle.star_schema.specs.Loadable.{database_of}
+use Rattle.std.proofs.Common.{◌∙◌, Err, ap, refl}
+use Rattle.std.proofs.{lemmas.Result.err_from_is_err_and}
 use Rattle.star_catalogue.specs.Load.{texts_view}
-use Rattle.star_engine.specs.{Answered.IsAnswered, Answered.change, Loads.IsLoadError, QuoteTexts.IsQuoteError, QuoteTexts.IsQuoteText, QuoteTexts.IsQuoteTextOver, QuoteTexts.is_program_file}
-use Rattle.star_engine.proofs.{QueryFaults.or_memory, RunTextLemmas.unquoted_tables, Answering.stopped, ByClauses.has_written, ByClauses.is_broken_off, ByClauses.is_refused, ByClauses.is_untouched, Loaded.answered_over}
+use Rattle.star_engine.specs.QuoteTexts.{IsQuoteError, IsQuoteText, IsQuoteTextOver, is_program_file}
+use Rattle.star_engine.specs.{Answered.change, Loads.IsLoadError}
+use Rattle.star_engine.proofs.{ByClauses.stopped_by_clauses, Loaded.over_by_clauses, QueryFaults.or_memory, RunTextLemmas.unquoted_tables}
 use Rattle.star_engine.proofs.calls.quote_text.Goals as goal
 
 pub returns-in_err-engine : goal.returns-in_err-engine
@@ -12,34 +13,24 @@ returns-in_err-engine g c =
     let file = c.args.file.now in
     let from = c.from_residual-in_err-engine in
     let p = err_from_is_err_and from.result from.ensures.1 in
-    let sink = change g.S.Sink.contents g.S.Sink.is_failed c.args.out.now c.args.out.now in
-    let of_text = IsQuoteText rows texts file in
-    let of_fault = IsQuoteError rows texts file in
-    let is : IsAnswered sink of_text of_fault from.result = rw (p.1, p.2)
-    (stopped (Unit {0}) sink of_text of_fault c.in_err-engine.field-0.0 refl
-    (or_memory (IsLoadError rows texts) of_fault c.in_err-engine.field-0.0
+    let (w, b, r, m) = stopped_by_clauses
+    (change g.S.Sink.contents g.S.Sink.is_failed c.args.out.now c.args.out.now)
+    (IsQuoteText rows texts file) (IsQuoteError rows texts file) c.in_err-engine.field-0.0
+    from.result (p.1 ∙ ap Err p.2) refl
+    (or_memory (IsLoadError rows texts) (IsQuoteError rows texts file) c.in_err-engine.field-0.0
     (unquoted_tables (is_program_file file) rows texts file c.in_ok-question.question.program
-    c.in_ok-question.ensures) c.in_err-engine.ensures.refused)) in record {
-      written = has_written sink of_text of_fault from.result is;
-      broken = is_broken_off sink of_text of_fault from.result is;
-      refused = is_refused sink of_text of_fault from.result is;
-      memory = is_untouched sink of_text of_fault from.result is;
-    }
+    c.in_ok-question.ensures) c.in_err-engine.ensures.refused) in
+    record { written = w; broken = b; refused = r; memory = m }
 
 pub returns : goal.returns
 returns g c =
     let texts = texts_view c.args.texts.now in
     let rows = c.args.limits.rows in
     let file = c.args.file.now in
-    let sink = change g.S.Sink.contents g.S.Sink.is_failed c.args.out.now c.quote.new.out in
-    let of_text = IsQuoteText rows texts file in
-    let of_fault = IsQuoteError rows texts file in
-    let is = answered_over rows texts (database_of texts) c.in_ok-engine.ensures.loadable refl sink
-    (λ database. IsQuoteTextOver database file) (λ database fault. ⊥) of_fault c.quote.result
-    (λ fault loadable never. absurd never)
-    (rw c.in_ok-engine.ensures.loaded at (c.quote.ensures (is_program_file file) file c.in_ok-question.ensures)) in record {
-      written = has_written sink of_text of_fault c.quote.result is;
-      broken = is_broken_off sink of_text of_fault c.quote.result is;
-      refused = is_refused sink of_text of_fault c.quote.result is;
-      memory = is_untouched sink of_text of_fault c.quote.result is;
-    }
+    let (w, b, r, m) = over_by_clauses rows texts c.in_ok-engine.ensures.loadable
+    (change g.S.Sink.contents g.S.Sink.is_failed c.args.out.now c.quote.new.out)
+    (λ database. IsQuoteTextOver database file) (λ database fault. ⊥)
+    (IsQuoteError rows texts file) c.quote.result (λ fault loadable never. absurd never)
+    (rw c.in_ok-engine.ensures.loaded at
+    (c.quote.ensures (is_program_file file) file c.in_ok-question.ensures)) in
+    record { written = w; broken = b; refused = r; memory = m }

@@ -23,8 +23,7 @@ returns c = λ most query p meant.
       accepted = (
         λ fits. let both = admitted.0 (free.0 (same.0 (own.0 fits))) in
             record { admissible = both.0; cheap = both.1 },
-        λ accepted. own.1
-            (same.1 (free.1 (admitted.1 (accepted.admissible, accepted.cheap)))),
+        λ accepted. own.1 (same.1 (free.1 (admitted.1 (accepted.admissible, accepted.cheap)))),
       );
       ran = ran_plain database query p meant c.law.ensures.rows
           (c.sound_rows_have_a_world.ensures database c.law.ensures.sound);

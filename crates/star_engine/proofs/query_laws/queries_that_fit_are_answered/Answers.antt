@@ -1,11 +1,14 @@
 -- From the laws of compiled programs and of admission, for the plans of texts.
-use Rattle.std.proofs.Common.{◌≡◌, true, arith}
-use Rattle.star_schema.specs.Database.{rows_in}
-use Rattle.star_safety.specs.{Laws.IsAccepted, Quote.quote}
+use Rattle.std.proofs.Common.{◌≡◌, ◌≤◌, ℕ, List, true, arith, subst}
+use Rattle.star_schema.specs.Database.{Database, rows_in}
+use Rattle.star_plan.specs.Meaning.{Plan}
+use Rattle.star_program.specs.Run.{End, Ended, Trapped, Limited, EndsWith}
+use Rattle.star_program.specs.{Effects.State}
+use Rattle.star_safety.specs.{Laws.EndsWithin, Laws.IsAccepted, Quote.quote}
 use Rattle.star_world.specs.WorldOf.{world_of}
 use Rattle.star_compile_laws.specs.Compiled.{compiled}
-use Rattle.star_engine.specs.Queries.{fact_rows}
-use Rattle.star_engine.proofs.{FittingTexts.text_fits, PlansOfQueries.plan_sound, PlansOfQueries.plan_spelled, PlansOfQueries.plan_within, QueryRuns.ends_reported}
+use Rattle.star_engine.specs.{Queries.fact_rows, QueryRuns.HasReported, QueryRuns.PrintsTheReport}
+use Rattle.star_engine.proofs.{FittingTexts.text_fits, PlansOfQueries.plan_sound, PlansOfQueries.plan_spelled, PlansOfQueries.plan_within}
 use Rattle.star_engine.proofs.query_laws.queries_that_fit_are_answered.Goals as goal
 
 pub returns-clause-accepted : goal.returns-clause-accepted
@@ -42,6 +45,17 @@ returns-clause-first c = λ most database query p meant.
     c.compiled_programs_are_accepted_where_they_fit_the_tables.ensures.first database most p
     (plan_sound query p meant)
 
+-- a run that ends within a quote has reported, where the quote is the number of rows and each end
+-- prints the report
+ends_reported : (database : Database) (query : List ℕ) (p : Plan) (quoted : ℕ) (end : End)
+    → quoted ≡ fact_rows database
+    → ((s : State) → end ≡ Ended s → PrintsTheReport database query p s)
+    → EndsWithin quoted end → EndsWith end (HasReported database query p)
+ends_reported database query p quoted (Ended s) same prints within =
+    record { visits = subst (λ n. s.visits ≤ n) same within; printed = prints s (λ i. Ended s) }
+ends_reported database query p quoted (Trapped at trap) same prints within = absurd within
+ends_reported database query p quoted Limited same prints within = absurd within
+
 pub returns-clause-answered : goal.returns-clause-answered
 returns-clause-answered c = λ most database query p loaded meant fits small.
     let w = world_of database in
@@ -58,5 +72,4 @@ returns-clause-answered c = λ most database query p loaded meant fits small.
     ends_reported database query p (quote w.size (compiled p)) _ quoted
     (λ s ended outcome told. c.compiled_programs_report_their_queries.ensures database query
     meant.tree p loaded.sound loaded.rows meant.means meant.named meant.resolved (λ visits. true) s
-    outcome ended told)
-    (c.admissible_programs_never_trap.ensures.ends w (compiled p) accepted)
+    outcome ended told) (c.admissible_programs_never_trap.ensures.ends w (compiled p) accepted)

@@ -5,8 +5,7 @@ use Rattle.star_engine.proofs.reading.read_all.Given as goal
 
 abbrev pub invariant-loop : goal.invariant-loop
 invariant-loop g l =
-    (vec_len l.bytes ≤ l.limit)
-    × (l.counter ≤ vec_len l.bytes)
+    (vec_len l.bytes ≤ l.limit) × (l.counter ≤ vec_len l.bytes)
     × (vec_len l.bytes ≤ came_of l.input)
     × (reads_of l.input ≤ reads_of l.initial.input + l.counter)
     × (has_failed l.input ≡ has_failed l.initial.input)

@@ -1,6 +1,4 @@
-use Rattle.std.proofs.Common.{◌≡◌, ◌<◌, length, get_or, take, sym, arith, length-set, slice_get}
-use Rattle.std.proofs.{lemmas.List.take_all, lemmas.List.Elements.All-same}
-use Rattle.star_flat.specs.declared.ordered.Numbered.{Numbered}
+use Rattle.std.proofs.{Common.◌≡◌, Common.◌<◌, Common.length, Common.get_or, Common.arith, Common.length-set, lemmas.List.take_all}
 use Rattle.star_flat.proofs.{CodesKept.lead_more, CodesKept.number_within, Enumerated.nothing}
 use Rattle.star_flat.proofs.coding.code_ordered.Goals as goal
 
@@ -23,9 +21,4 @@ loop-place-preserved c =
     }
 
 pub returns-clause-codes : goal.returns-clause-codes
-returns-clause-codes c =
-    let ordered = c.args.ordered.now in
-    All-same
-    (λ (e : Numbered). slice_get c.loop-place.put (get_or c.loop-place.codes.items e.number 0)
-    ≡ slice_get c.args.texts.now e.number) ordered (take c.loop-place.place ordered)
-    (sym (take_all c.loop-place.place ordered c.loop-place-test.false)) c.loop-place.invariant.lead
+returns-clause-codes c = grind (arith, take_all)

@@ -1,6 +1,6 @@
-use Rattle.std.proofs.Common.{◌≡◌, ◌∙◌, ◌+◌, get_or, take, sym, arith, true≢false}
-use Rattle.star_flat.specs.{Private.Codes.different, Private.Order.numbered_texts, Private.Order.text_at}
-use Rattle.star_flat.proofs.{CodesKept.code_here, CodesKept.put_again, CodesKept.put_new, CodesKept.some_put, Enumerated.nothing, Pushed.pushed_before, coding.put_next.Goals.then-not-repeats+in_ok-put_text, coding.put_next.Goals.else-not-repeats}
+use Rattle.std.proofs.Common.{◌≡◌, ◌∙◌, ◌+◌, take, sym, arith, true≢false}
+use Rattle.star_flat.specs.{Private.Codes.different, Private.Order.numbered_texts}
+use Rattle.star_flat.proofs.{CodesKept.code_here, CodesKept.put_again, CodesKept.put_new, CodesKept.some_put, Pushed.pushed_before, coding.put_next.Goals.then-not-repeats+in_ok-put_text, coding.put_next.Goals.else-not-repeats}
 use Rattle.star_flat.proofs.coding.put_next.Goals as goal
 
 pub returns-clause-put : goal.returns-clause-put
@@ -46,13 +46,7 @@ overflow_sub-result c =
 
 pub returns-clause-kept : goal.returns-clause-kept
 returns-clause-kept c code text at =
-    elim c.if-not-repeats.branch [
-      | then-not-repeats+in_ok-put_text w ↦
-          rw (w.put-is, w.in_ok-put_text.ensures.ok)
-          (pushed_before c.args.put.now
-          (text_at c.args.texts.now (get_or c.args.ordered.now c.args.place nothing)) code text at)
-      | else-not-repeats w ↦ rw w.put-is (λ i. at i)
-    ]
+    grind (arith, then-not-repeats+in_ok-put_text, pushed_before, else-not-repeats)
 
 pub returns-clause-code : goal.returns-clause-code
 returns-clause-code c =

@@ -1,6 +1,5 @@
 use Rattle.std.proofs.Common.{◌≡◌, ◌≤◌, ◌+◌, ◌%◌, ◌^◌, ◌∙◌, ℕ, zero, suc, Bool, List, [], ◌∷◌, ap, ap₂, arith, cond, eqb, inl, inr, length, map, map-id, not, refl, sym, take, w8}
-use Rattle.std.proofs.{lemmas.Bool.cases_Bool, lemmas.Bool.eqb-true, lemmas.List.Sums.prefix_len-le-length, lemmas.List.length-take-le, lemmas.List.take-take}
-use Rattle.std.proofs.lemmas.Simd.{leading_from_mask_l, length-zip2, mask_l-mod, tops_compared, trailing_mask_l}
+use Rattle.std.proofs.{lemmas.Bool.cases_Bool, lemmas.Bool.eqb-true, lemmas.List.Sums.prefix_len-le-length, lemmas.List.length-take-le, lemmas.List.take-take, lemmas.Simd.leading_from_mask_l, lemmas.Simd.length-zip2, lemmas.Simd.mask_l-mod, lemmas.Simd.tops_compared, lemmas.Simd.trailing_mask_l}
 use Rattle.std.specs.List.{prefix_len}
 use lib.Count.{count_trailing_zeros}
 use lib.Lanes.{mask_l, top, zip2}
@@ -41,8 +40,7 @@ module _ (bytes text : List ℕ) (long : length bytes ≡ 16) (room : 16 ≤ len
       ∙ ap mask_l (sym (map-id lanes))
 
   same : (count : ℕ) → count ≤ prefix_len (λ d. not d) lanes → take count bytes ≡ take count text
-  same count within =
-      agree bytes (take 16 text) count both within
+  same count within = agree bytes (take 16 text) count both within
       ∙ take-take count 16 text
       (omega (arith, within, all, prefix_len-le-length (λ d. not d) lanes))
 

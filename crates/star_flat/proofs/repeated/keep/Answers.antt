@@ -1,5 +1,4 @@
-use Rattle.std.proofs.Common.{◌++◌, ◌∷◌, [], take, ap, sym, ◌∙◌}
-use Rattle.std.proofs.{lemmas.List.length-map, lemmas.List.take-map, Math.Seq.take-append_seam}
+use Rattle.std.proofs.{Common.◌++◌, Common.◌∷◌, Common.[], Common.take, Common.ap, Common.sym, Common.◌∙◌, lemmas.List.length-map, lemmas.List.take-map, Math.Seq.take-append_seam}
 use Rattle.std.specs.Int.RustNames.{unsigned_abs}
 use Rattle.star_flat.specs.Repeated.{places_in}
 use Rattle.star_flat.proofs.repeated.keep.Goals as goal

@@ -1,11 +1,9 @@
+use Rattle.std.proofs.Common.{arith}
 use Rattle.star_flat.proofs.RepeatedLemmas.{places_coded, places_read, texts_of_coded}
 use Rattle.star_flat.proofs.repeated.keep_different.Goals as goal
 
 pub renumbered-requires : goal.renumbered-requires
-renumbered-requires c =
-    rw c.as_slice.ensures.value
-    (places_read _ _ _ _ c.requires.repeated c.in_ok-different.ensures.repeated
-    c.in_ok-different.ensures.texts)
+renumbered-requires c = grind (arith, places_read)
 
 pub returns-clause-texts : goal.returns-clause-texts
 returns-clause-texts c =

@@ -1,4 +1,4 @@
-use Rattle.std.proofs.Common.{◌≡◌, ◌<◌, ◌-◌, ℕ, List, zero, suc, Some, sym, length, arith, refl, slice_get, ◌∙◌}
+use Rattle.std.proofs.Common.{◌≡◌, ◌<◌, ◌-◌, ℕ, List, zero, suc, Some, length, arith, refl, slice_get, ◌∙◌}
 use Rattle.std.proofs.lemmas.Option.{get_or_from_slice_get, slice_get_within}
 use Rattle.star_flat.specs.Private.Cut.{text_start}
 use Rattle.star_flat.proofs.CutLemmas.{start_after}
@@ -12,22 +12,13 @@ first es (suc p) e = absurd (omega (arith, e))
 later : (es : List ℕ) (p e : ℕ) → 0 < p → p - 1 < length es → slice_get es (p - 1) ≡ Some e
     → e ≡ text_start 0 es p
 later es zero e h within at = absurd (omega arith)
-later es (suc p) e h within at =
-    let back : suc p - 1 ≡ p = omega arith in
-    let there : slice_get es p ≡ Some e = rw back at at in
-    sym (get_or_from_slice_get es p e 0 there)
-    ∙ sym (start_after 0 es p (slice_get_within es p e there))
+later es (suc p) e h within at = grind (arith, get_or_from_slice_get, start_after, slice_get_within)
 
 pub returns-then-place-eq0-clause-start : goal.returns-then-place-eq0-clause-start
-returns-then-place-eq0-clause-start c =
-    first c.args.ends.now c.args.place c.if-place-eq0.true
+returns-then-place-eq0-clause-start c = grind (arith, first)
 
 pub returns-then-place-eq0-clause-end : goal.returns-then-place-eq0-clause-end
 returns-then-place-eq0-clause-end c = rw c.if-place-eq0.true c.get.ensures
 
 pub returns-else-place-eq0-clause-start : goal.returns-else-place-eq0-clause-start
-returns-else-place-eq0-clause-start c =
-    later c.args.ends.now c.args.place c.bounds_at.result.0 (omega arith)
-    (slice_get_within c.args.ends.now (c.args.place - 1) c.bounds_at.result.0
-    c.bounds_at.ensures.start)
-    c.bounds_at.ensures.start
+returns-else-place-eq0-clause-start c = grind (arith, later, slice_get_within)

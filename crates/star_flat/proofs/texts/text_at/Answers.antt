@@ -1,5 +1,4 @@
-use Rattle.std.proofs.Common.{◌≡◌, ◌≤◌, sym, ap, ◌∙◌, length, arith, slice_range, Some, get_or}
-use Rattle.std.proofs.{lemmas.Option.get_or_from_slice_get, lemmas.Option.slice_get_within}
+use Rattle.std.proofs.{Common.◌≡◌, Common.◌≤◌, Common.sym, Common.ap, Common.◌∙◌, Common.length, Common.arith, Common.slice_range, Common.Some, Common.get_or, lemmas.Option.get_or_from_slice_get, lemmas.Option.slice_get_within}
 use Rattle.star_flat.specs.Private.Cut.{text_start}
 use Rattle.star_flat.proofs.{CutLemmas.text_there, CutLemmas.begins_before, CutLemmas.ends_within, texts.text_at.Goals.After-range_at-start}
 use Rattle.star_flat.proofs.texts.text_at.Goals as goal
@@ -9,14 +8,7 @@ ends : (c : After-range_at-start)
     → (get_or c.args.ends.now c.args.place 0 ≡ c.range_at-start.result.1)
     × (text_start 0 c.args.ends.now c.args.place ≤ c.range_at-start.result.1)
     × (c.range_at-start.result.1 ≤ length c.args.bytes.now)
-ends c =
-    let es = c.args.ends.now in
-    let there = c.range_at-start.ensures.end in
-    let within = slice_get_within es c.args.place c.range_at-start.result.1 there in
-    let same = get_or_from_slice_get es c.args.place c.range_at-start.result.1 0 there in
-    let after = begins_before 0 es (length c.args.bytes.now) c.args.place c.requires.cut within in
-    let below = ends_within 0 es (length c.args.bytes.now) c.args.place c.requires.cut within in
-    (same, omega arith, omega arith)
+ends c = grind (arith, slice_get_within, get_or_from_slice_get, begins_before, ends_within)
 
 pub slice_bounds-result-count : goal.slice_bounds-result-count
 slice_bounds-result-count c =

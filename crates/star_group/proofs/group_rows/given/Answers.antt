@@ -4,8 +4,7 @@ use Rattle.star_group.proofs.{Contents.if_ok, ListedRows.row_wide}
 use Rattle.star_group.proofs.group_rows.given.Goals as goal
 
 pub nothing_given-requires-clause-none : goal.nothing_given-requires-clause-none
-nothing_given-requires-clause-none c =
-    eqb-true (length (listed_entries c.args.rows)) 0
+nothing_given-requires-clause-none c = eqb-true (length (listed_entries c.args.rows)) 0
     (and_parts _ _ (sym c.is_bare.ensures ∙ c.if-is_bare.true)).0
 
 pub returns-then-is_bare : goal.returns-then-is_bare

@@ -34,8 +34,7 @@ loop-index-preserved c =
       merges = merges_more (map key_view own) i (key_view (get_or own i [])) (key_within own i h)
           (key_here own i h) c.args.aggregates.now c.args.more.now c.requires.distinct
           (row_found (entries_of c.args.rows.now)) (entries_of c.loop-index.rows)
-          c.loop-index.invariant.merges
-          (entries_of c.merge_one.new.rows) c.merge_one.ensures.rows;
+          c.loop-index.invariant.merges (entries_of c.merge_one.new.rows) c.merge_one.ensures.rows;
       space = c.merge_one.ensures.space (length own - (i + 1))
           (subst (HasSpace c.loop-index.rows) left c.loop-index.invariant.space);
       widths = record {

@@ -8,5 +8,4 @@ pub returns-clause-least : goal.returns-clause-least
 returns-clause-least c =
     let a = c.args.self.now in
     least_same _ _ (multiple_range c.args.n (range_of a))
-    (range_same _ _ (search rules) (search rules))
-    (least_multiples c.args.n (range_of a) a.ordered)
+    (range_same _ _ (search rules) (search rules)) (least_multiples c.args.n (range_of a) a.ordered)

@@ -24,11 +24,7 @@ returns-clause-fits c =
     (λ yes. (subst (FitsSigned w128) ends.0 low, subst (FitsSigned w128) ends.1 high), λ fits. refl)
 
 pub returns-clause-corners : goal.returns-clause-corners
-returns-clause-corners c =
-    let a = c.args.self.now in
-    let b = c.args.others.now in
-    let ends = sum_ends (wide_range_of a) (wide_range_of b) a.ordered b.ordered in
-    range_same _ _ (search (rules, ends)) (search (rules, ends))
+returns-clause-corners c = search (rules, sum_ends, range_same)
 
 pub returns-in_err-low-clause-fits : goal.returns-in_err-low-clause-fits
 returns-in_err-low-clause-fits c = search rules

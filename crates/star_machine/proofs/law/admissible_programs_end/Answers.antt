@@ -26,8 +26,7 @@ returns c = λ database parts visits result sound limits admissible cheap most i
     (record {
       loaded = c.sound_rows_are_loaded.ensures database sound;
       limits = limits;
-      admissible =
-          admissible;
+      admissible = admissible;
       cheap = omega (arith, cheap, most);
     })
     cheap)

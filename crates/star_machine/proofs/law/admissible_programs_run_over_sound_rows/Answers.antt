@@ -7,8 +7,7 @@ use Rattle.star_machine.specs.Accepted.{IsAcceptedOver}
 use Rattle.star_machine.proofs.law.admissible_programs_run_over_sound_rows.Goals as goal
 
 accepted : (database : Database) (parts : Parts) → IsLoaded (world_of database)
-    → IsAcceptedOver database parts
-    → IsAccepted (world_of database) parts
+    → IsAcceptedOver database parts → IsAccepted (world_of database) parts
 accepted database parts loaded h =
     record { loaded = loaded; limits = h.limits; admissible = h.admissible; cheap = h.cheap }
 

@@ -9,8 +9,7 @@ use Rattle.star_outcome.proofs.{Reported.are_reported, Reported.decodable_by_num
 use Rattle.star_outcome.proofs.outcome.reported_rows.Goals as goal
 
 pub sorted_numbers-requires-clause-few : goal.sorted_numbers-requires-clause-few
-sorted_numbers-requires-clause-few c =
-    rw (c.as_slice-count.ensures, c.group_at-declared.ensures)
+sorted_numbers-requires-clause-few c = rw (c.as_slice-count.ensures, c.group_at-declared.ensures)
     (few_keys c.args.parts.now c.requires.limits c.requires.shown)
 
 pub sorted_numbers-requires-clause-are : goal.sorted_numbers-requires-clause-are
@@ -37,8 +36,7 @@ cell_rows-requires-clause-keys c =
     (c.in_ok-numbers.ensures (group_declared d) given.0 given.1.are)))
 
 pub cell_rows-requires-clause-columns : goal.cell_rows-requires-clause-columns
-cell_rows-requires-clause-columns c =
-    rw (c.group_at-declared.ensures, c.as_slice-shows.ensures)
+cell_rows-requires-clause-columns c = rw (c.group_at-declared.ensures, c.as_slice-shows.ensures)
     (shows_are_there c.args.parts.now c.requires.shown)
 
 pub returns : goal.returns

@@ -31,8 +31,7 @@ returns c =
           (registers_view c.perform.new.registers)
           c.perform.new.run effect c.perform.result)
           (acts m.parts.now c.args.inside c.args.registers.now c.args.op.now
-          (world_of m.catalogue.now) s c.in_ok-check.ensures)
-          (c.perform.ensures.does s done);
+          (world_of m.catalogue.now) s c.in_ok-check.ensures) (c.perform.ensures.does s done);
       sound = c.perform.ensures.sound;
       len = c.perform.ensures.len;
       work = c.perform.ensures.work;

@@ -12,8 +12,7 @@ returns-in-Find-clause-does c = λ s target done.
     subst (λ o. IsValueMade m.catalogue.now m.parts.now (registers_view c.args.registers.now)
     c.look_up.new.run target
     (assigns (world_of m.catalogue.now) m.parts.now (registers_view c.args.registers.now) s
-    target o) c.look_up.result)
-    (sym c.in-Find.is) (c.look_up.ensures.does s target done)
+    target o) c.look_up.result) (sym c.in-Find.is) (c.look_up.ensures.does s target done)
 
 pub returns-in-Binary-clause-does : goal.returns-in-Binary-clause-does
 returns-in-Binary-clause-does c = λ s target done.
@@ -37,8 +36,7 @@ returns-in-Read-clause-does c = λ s target done.
     (s.updates_of c.in-Read.group) in
     subst (λ o. IsValueMade m.catalogue.now m.parts.now registers c.args.run.now target
     (assigns (world_of m.catalogue.now) m.parts.now registers s target o)
-    c.answered-in-Read.result)
-    (sym c.in-Read.is)
+    c.answered-in-Read.result) (sym c.in-Read.is)
     (read_made m.catalogue.now m.parts.now registers c.args.run.now s done target
     (unwrap_or so_far c.in-Read.default) c.read.result c.answered-in-Read.result
     (c.read.ensures m.parts.now s.updates_of done.stores

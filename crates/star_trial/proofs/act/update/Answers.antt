@@ -17,8 +17,7 @@ returns-in-Ok c =
     (group_at m.parts.now c.args.group).aggregates (updates_of c.args.group)
     (update_of d registers ks vs) ≡ false))
     c.group_at.result.now _ c.as_slice.result.now _ c.as_slice-2.result.now _
-    c.group_at.ensures c.as_slice.ensures c.as_slice-2.ensures
-    (c.in-Ok.ensures m.parts.now) in
+    c.group_at.ensures c.as_slice.ensures c.as_slice-2.ensures (c.in-Ok.ensures m.parts.now) in
     record {
       does = λ s done.
           let now = put s.updates_of done.stores in

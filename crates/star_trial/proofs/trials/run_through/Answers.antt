@@ -48,5 +48,4 @@ returns c =
     subst (λ registers. Finishes c.args.catalogue.now c.args.parts.now c.walk.new.run
     (meaning (world_of c.args.catalogue.now) c.args.parts.now
     (λ visits. nat_lt visits c.args.most) c.args.parts.now.body 1 false registers empty_state))
-    nothing
-    (c.in_ok-walk.ensures.ends empty_state (c.in_ok-run.ensures c.args.catalogue.now))
+    nothing (c.in_ok-walk.ensures.ends empty_state (c.in_ok-run.ensures c.args.catalogue.now))

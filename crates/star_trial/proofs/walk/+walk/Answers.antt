@@ -70,8 +70,7 @@ turns-returns-in_err-turn-clause-ends t c = λ s h.
     (length (rows_in c.args.machine.now.catalogue.now c.args.scanned.now.table)) c.loop-row.row
     (λ row. means_at c.args.machine.now c.args.scanned.now
     (registers_view c.args.scanned.now.before.now) (Row c.args.scanned.now.table row)) at.0 _
-    c.in_err-turn.field-0.0
-    (omega (arith, c.loop-row-test.true, c.rows-row-end.ensures))
+    c.in_err-turn.field-0.0 (omega (arith, c.loop-row-test.true, c.rows-row-end.ensures))
     (c.in_err-turn.ensures.ends at.0 at.1) at.2)
 
 pub turns-loop-row-preserved : goal.turns-loop-row-preserved

@@ -9,6 +9,5 @@ with-requires-clause-few c =
     (c.requires.room c.tally_at-tally.result).room
 
 pub with-requires-clause-bounded : goal.with-requires-clause-bounded
-with-requires-clause-bounded c =
-    subst IsBounded (c.tally_at-tally.ensures c.tally_at-tally.result)
+with-requires-clause-bounded c = subst IsBounded (c.tally_at-tally.ensures c.tally_at-tally.result)
     (c.requires.room c.tally_at-tally.result).bounded

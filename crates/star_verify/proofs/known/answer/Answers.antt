@@ -14,8 +14,7 @@ returns-in-Add-clause-overflow c = λ w.
     c.add.ensures.corners c.range_at-from.ensures c.range_at-to.ensures c.joined-reach.ensures
     c.reach_at.ensures c.reach_at-2.ensures
     ∙ ap (λ o. answer_known o (option_map known_view c.args.left)
-    (option_map known_view c.args.right)) (sym c.in-Add.is))
-    (c.computed.ensures.overflow w)
+    (option_map known_view c.args.right)) (sym c.in-Add.is)) (c.computed.ensures.overflow w)
 
 pub returns-in-Sub-clause-overflow : goal.returns-in-Sub-clause-overflow
 returns-in-Sub-clause-overflow c = λ w.
@@ -28,8 +27,7 @@ returns-in-Sub-clause-overflow c = λ w.
     c.sub.ensures.corners c.range_at-from.ensures c.range_at-to.ensures c.joined-reach.ensures
     c.reach_at.ensures c.reach_at-2.ensures
     ∙ ap (λ o. answer_known o (option_map known_view c.args.left)
-    (option_map known_view c.args.right)) (sym c.in-Sub.is))
-    (c.computed-in-Sub.ensures.overflow w)
+    (option_map known_view c.args.right)) (sym c.in-Sub.is)) (c.computed-in-Sub.ensures.overflow w)
 
 pub returns-in-Mul-clause-overflow : goal.returns-in-Mul-clause-overflow
 returns-in-Mul-clause-overflow c = λ w.
@@ -42,5 +40,4 @@ returns-in-Mul-clause-overflow c = λ w.
     c.mul.ensures.corners c.range_at-from.ensures c.range_at-to.ensures c.joined-reach.ensures
     c.reach_at.ensures c.reach_at-2.ensures
     ∙ ap (λ o. answer_known o (option_map known_view c.args.left)
-    (option_map known_view c.args.right)) (sym c.in-Mul.is))
-    (c.computed-in-Mul.ensures.overflow w)
+    (option_map known_view c.args.right)) (sym c.in-Mul.is)) (c.computed-in-Mul.ensures.overflow w)

@@ -6,5 +6,4 @@ pub returns : goal.returns
 returns c =
     subst (λ (kinds : Kinds).
     Answers c.check.result (fault_of c.args.parts.now c.args.inside c.args.again kinds
-    c.args.op.now))
-    (same_kinds c.args.registers.now) c.check.ensures
+    c.args.op.now)) (same_kinds c.args.registers.now) c.check.ensures

@@ -16,8 +16,7 @@ invariant_of-result c =
     (sym c.deref.ensures.value) checked.3) in (
       record {
         admissible = accepted.0;
-        cheap =
-            omega (arith, accepted.1, c.args.limits.visits_in_range);
+        cheap = omega (arith, accepted.1, c.args.limits.visits_in_range);
       },
       checked.1,
       subst (λ p. c.most_rows-most_rows.result ≡ most_report_rows w p) same

@@ -8,6 +8,5 @@ abbrev pub decreases-condition : goal.decreases-condition
 decreases-condition l = 2 * comparisons_of (row_condition_view l.condition.now) + 1
 
 abbrev pub decreases-connective : goal.decreases-connective
-decreases-connective l =
-    2 * comparisons_of (row_condition_view l.left.now)
+decreases-connective l = 2 * comparisons_of (row_condition_view l.left.now)
     + 2 * comparisons_of (row_condition_view l.right.now)

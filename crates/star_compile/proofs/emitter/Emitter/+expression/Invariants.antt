@@ -8,6 +8,5 @@ abbrev pub decreases-expression : goal.decreases-expression
 decreases-expression l = 2 * operands_of (column_expression_view l.expression.now) + 1
 
 abbrev pub decreases-arithmetic : goal.decreases-arithmetic
-decreases-arithmetic l =
-    2 * operands_of (column_expression_view l.left.now)
+decreases-arithmetic l = 2 * operands_of (column_expression_view l.left.now)
     + 2 * operands_of (column_expression_view l.right.now)

@@ -30,8 +30,7 @@ write-requires-3 c =
     let from = rw c.in_ok-start_of.ensures at c.in_ok-from.ensures.written in
     let below = rw c.in_ok-end_of.ensures at c.in_ok-below.ensures.written in
     record {
-      room =
-          room_for_second (λ n. write (Within c.args.value c.in_ok-from.from n)) below
+      room = room_for_second (λ n. write (Within c.args.value c.in_ok-from.from n)) below
           (room_for_second
           (λ m. beside (end_behind c.args.column (literal_value_view c.args.upto.now))
           (Within c.args.value m))
@@ -46,8 +45,7 @@ returns c =
     then_if_ok c.write-3.result c.write-3.new.self
     (λ n. write (Within c.args.value c.in_ok-from.from n)) below c.write-3.ensures.written in
     record {
-      written =
-          then_if_ok c.write-3.result c.write-3.new.self
+      written = then_if_ok c.write-3.result c.write-3.new.self
           (λ m. beside (end_behind c.args.column (literal_value_view c.args.upto.now))
           (Within c.args.value m))
           from rest;

@@ -7,8 +7,7 @@ use Rattle.star_compile.proofs.emitter.Emitter.keys.Goals as goal
 
 pub column-requires : goal.column-requires
 column-requires c = record {
-  room =
-      room_for_key c.args.joins.now c.args.columns.now c.loop-column.registers.items
+  room = room_for_key c.args.joins.now c.args.columns.now c.loop-column.registers.items
       (drop_more c.args.columns.now c.loop-column.column-index DDatekey c.loop-column-test.true)
       c.loop-column.invariant c.requires.room;
 }
@@ -18,8 +17,7 @@ returns c =
     let joins = c.args.joins.now in
     let columns = c.args.columns.now in
     record {
-      written =
-          all_written (keys_after joins) (keys_code joins) (keys_behind joins) columns
+      written = all_written (keys_after joins) (keys_code joins) (keys_behind joins) columns
           (drop c.loop-column.column-index columns) c.loop-column.registers.items
           c.loop-column.invariant (λ env k. refl)
           (drop_of_length-le columns c.loop-column-test.false);

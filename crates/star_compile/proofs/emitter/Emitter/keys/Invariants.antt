@@ -5,6 +5,5 @@ use Rattle.star_compile.proofs.Emits.{Follows}
 use Rattle.star_compile.proofs.emitter.Emitter.keys.Given as goal
 
 abbrev pub invariant-loop-column : goal.invariant-loop-column
-invariant-loop-column l =
-    Follows l.fn.self l.self (keys_after l.joins l.columns [])
+invariant-loop-column l = Follows l.fn.self l.self (keys_after l.joins l.columns [])
     (keys_after l.joins (drop l.column-index l.columns) l.registers.items)

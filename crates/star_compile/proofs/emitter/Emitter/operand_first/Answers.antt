@@ -5,15 +5,13 @@ use Rattle.star_compile.proofs.emitter.Emitter.operand_first.Goals as goal
 
 pub write-requires-2 : goal.write-requires-2
 write-requires-2 c = record {
-  room =
-      room_for_second (λ n. write (Binary c.args.operator n c.args.value))
+  room = room_for_second (λ n. write (Binary c.args.operator n c.args.value))
       c.in_ok-bound.ensures.written c.requires.room;
 }
 
 pub returns : goal.returns
 returns c = record {
-  written =
-      then_if_ok c.write-2.result c.write-2.new.self
+  written = then_if_ok c.write-2.result c.write-2.new.self
       (λ n. write (Binary c.args.operator n c.args.value))
       c.in_ok-bound.ensures.written c.write-2.ensures.written;
 }

@@ -11,8 +11,7 @@ value-requires c =
     let aggregates = c.args.aggregates.now in
     let at = c.loop-aggregate.aggregate-index in
     record {
-      room =
-          room_for_value c.args.joins.now (measures_view aggregates)
+      room = room_for_value c.args.joins.now (measures_view aggregates)
           c.loop-aggregate.registers.items
           (ap measures_view (drop_more aggregates at c.aggregate-item.result
           c.loop-aggregate-test.true)
@@ -26,8 +25,7 @@ returns c =
     let joins = c.args.joins.now in
     let aggregates = c.args.aggregates.now in
     record {
-      written =
-          all_written (values_after joins) (values_code joins) (values_behind joins)
+      written = all_written (values_after joins) (values_code joins) (values_behind joins)
           (measures_view aggregates)
           (measures_view (drop c.loop-aggregate.aggregate-index aggregates))
           c.loop-aggregate.registers.items c.loop-aggregate.invariant (λ env k. refl)

@@ -8,7 +8,6 @@ pub returns : goal.returns
 returns c =
     let made = c.assign.ensures in
     record {
-      written =
-          assigned_if_ok c.assign.result c.args.self.now c.assign.new.self c.args.operation
+      written = assigned_if_ok c.assign.result c.args.self.now c.assign.new.self c.args.operation
           made.register made.pushed made.next made.loaded made.found;
     }

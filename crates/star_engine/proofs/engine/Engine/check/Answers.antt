@@ -1,12 +1,13 @@
-use Rattle.std.proofs.Common.{◌∙◌}
+use Rattle.std.proofs.Common.{◌∙◌, arith}
 use Rattle.star_schema.specs.Database.{rows_in}
 use Rattle.star_engine.specs.{Answered.change, Listing.IsListingOver}
-use Rattle.star_engine.proofs.{Answering.written, ListingLemmas.listing_some}
+use Rattle.star_engine.proofs.{ByClauses.written, Executing.listing_some, FactLemmas.facts_listed}
 use Rattle.star_engine.proofs.engine.Engine.check.Goals as goal
 
 pub write_text-requires : goal.write_text-requires
 write_text-requires g c =
-    rw (c.as_bytes.ensures.value ∙ c.in_ok-text.ensures)
+    rw (c.as_bytes.ensures.value ∙ c.in_ok-text.ensures
+    ∙ facts_listed c.self.inside.catalogue c.of-facts.result c.of-facts.ensures (omega arith))
     (listing_some (rows_in c.self.inside.catalogue))
 
 pub returns : goal.returns
@@ -14,4 +15,6 @@ returns g c =
     rw (← c.self.view_is) (written
     (change g.S.Sink.contents g.S.Sink.is_failed c.args.out.now c.write_text.new.out)
     c.as_bytes.result.now (IsListingOver c.self.inside.catalogue) (λ fault. ⊥) c.write_text.result
-    (rw c.as_bytes.ensures.value c.in_ok-text.ensures) c.write_text.ensures)
+    (c.as_bytes.ensures.value ∙ c.in_ok-text.ensures
+    ∙ facts_listed c.self.inside.catalogue c.of-facts.result c.of-facts.ensures (omega arith))
+    c.write_text.ensures)

@@ -1,6 +1,6 @@
 use Rattle.std.proofs.Common.{◌∙◌}
 use Rattle.star_engine.specs.{Answered.change, Executions.quote_over, QuoteTexts.IsQuoteOfKindOver}
-use Rattle.star_engine.proofs.{Answering.written, Executing.quote_some, RunTextLemmas.quoted}
+use Rattle.star_engine.proofs.{ByClauses.written, Executing.quote_some, RunTextLemmas.quoted}
 use Rattle.star_engine.proofs.engine.Engine.quote.Goals as goal
 
 pub write_text-requires : goal.write_text-requires
@@ -15,7 +15,6 @@ returns g c = λ is_program file asks.
     rw (← c.self.view_is) (written
     (change g.S.Sink.contents g.S.Sink.is_failed c.args.out.now c.write_text.new.out)
     c.as_bytes.result.now (IsQuoteOfKindOver is_program database file) (λ fault. ⊥)
-    c.write_text.result
-    (quoted most database file c.args.question.now.program
+    c.write_text.result (quoted most database file c.args.question.now.program
     (c.each_query_has_laws.ensures most file) is_program asks c.as_bytes.result.now
     (c.as_bytes.ensures.value ∙ c.in_ok-note.ensures)) c.write_text.ensures)

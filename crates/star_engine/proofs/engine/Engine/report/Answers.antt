@@ -8,10 +8,8 @@ returns c = λ is_program file asks.
     let database = c.self.inside.catalogue in
     let program = c.args.question.program in
     let laws = c.each_query_has_laws.ensures most file in
-    rw (← c.self.view_is)
-    (matched_as (λ t. IsProgramRun database most program (run_text_of t))
+    rw (← c.self.view_is) (matched_as (λ t. IsProgramRun database most program (run_text_of t))
     (λ t. IsRunOfKind is_program most database file (run_text_of t))
     (IsNotVerified database most program) (IsForecastErrorOfKind is_program most database file)
-    c.run_checked.result
-    (λ t. ran most database file program laws is_program asks (run_text_of t))
+    c.run_checked.result (λ t. ran most database file program laws is_program asks (run_text_of t))
     (forecast_error most database file program laws is_program asks) c.run_checked.ensures)

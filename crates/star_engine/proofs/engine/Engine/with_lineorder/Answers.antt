@@ -1,5 +1,5 @@
-use Rattle.std.proofs.{Common.subst, Common.sym, Common.ap, lemmas.Result.err_from_is_err_and}
-use Rattle.std.proofs.Common.{◌≡◌}
+use Rattle.std.proofs.Common.{◌≡◌, subst, sym, ap}
+use Rattle.std.proofs.{lemmas.Result.err_from_is_err_and}
 use Rattle.std.specs.Prelude.{IfErr}
 use Rattle.star_schema.specs.{Database.Database, Loadable.IsLoadable}
 use Rattle.star_catalogue.specs.Pieces.{IsReadNextTo, with_lineorder_text}
@@ -26,8 +26,7 @@ returns-in_err-loaded-clause-refused c = λ texts text.
 pub invariant_of-result : goal.invariant_of-result
 invariant_of-result c =
     let (texts, text, is) = c.requires in
-    let own = subst
-    (λ (l : Loaded). IsReadNextTo l.database c.args.reader.value l.rows texts text)
+    let own = subst (λ (l : Loaded). IsReadNextTo l.database c.args.reader.value l.rows texts text)
     (sym c.self.view_is) is in
     let loaded = c.in_ok-loaded.ensures _ texts text own in
     ∣ (with_lineorder_text texts text, loaded.0, loaded.1) ∣₁

@@ -1,13 +1,9 @@
-use Rattle.std.proofs.Common.{◌≡◌, ◌≤◌, ◌<◌, ◌^◌, ◌-◌, ◌++◌, ◌∷◌, [], Result, Ok, Err, sym, ap, ◌∙◌, subst, length, arith}
+use Rattle.std.proofs.Common.{◌≡◌, ◌≤◌, ◌<◌, ◌^◌, ◌-◌, ◌++◌, ◌∷◌, [], sym, ap, ◌∙◌, subst, length, arith}
 use Rattle.std.proofs.{lemmas.List.length-map, lemmas.List.length_push, lemmas.List.Elements.All-push}
-use Rattle.std.specs.{Int.RustNames.unsigned_abs, List.All, Result.OnErr}
+use Rattle.std.specs.{Int.RustNames.unsigned_abs, List.All}
 use Rattle.star_flat.specs.{Private.Ends.ends_of, Repeated.places_in}
 use Rattle.star_flat.proofs.{EndsLemmas.end_pushed, EndsLemmas.from_upto, EndsLemmas.same_ends, ends.Ends.push.Goals.After-start_for}
 use Rattle.star_flat.proofs.ends.Ends.push.Goals as goal
-
-OnErr-any : {X E P : Type 0} (r : Result X E) → P → OnErr r P
-OnErr-any (Ok x) p = tt
-OnErr-any (Err e) p = p
 
 counted : (c : After-start_for) → c.len-count.result ≡ length (places_in c.self.inside.offsets)
 counted c = c.len-count.ensures ∙ sym (length-map c.self.inside.offsets unsigned_abs)
@@ -16,21 +12,13 @@ counted c = c.len-count.ensures ∙ sym (length-map c.self.inside.offsets unsign
 stay : (c : After-start_for)
     → ends_of c.start_for.new.starts.items (places_in c.self.inside.offsets)
     ≡ ends_of c.self.inside.starts.items (places_in c.self.inside.offsets)
-stay c = same_ends c.start_for.new.starts.items c.self.inside.starts.items
-    (places_in c.self.inside.offsets)
-    (λ place h. c.start_for.ensures.same place (omega (arith, h, counted c)))
+stay c = grind (arith, same_ends, counted)
 
 pub invariant_of-self : goal.invariant_of-self
-invariant_of-self c =
-    let at = (goal.at.invariant_of-self c).After-start_for in (
-      omega (arith, c.start_for.ensures.room, c.len-count.ensures),
-      subst (All (λ e. e < 2 ^ 64)) (sym (stay at)) c.self.invariant.1,
-    )
+invariant_of-self c = grind (arith, stay)
 
 pub returns-in_err-from-clause-err : goal.returns-in_err-from-clause-err
-returns-in_err-from-clause-err c =
-    OnErr-any c.from_residual.result
-    (stay (goal.at.returns-in_err-from-clause-err c).After-start_for ∙ c.self.view_is)
+returns-in_err-from-clause-err c = grind (arith, stay)
 
 pub overflow_sub-end : goal.overflow_sub-end
 overflow_sub-end c =
@@ -40,19 +28,10 @@ overflow_sub-end c =
     (rw (counted (goal.at.overflow_sub-end c).After-start_for) at c.in_ok-from.ensures.kept)
 
 pub invariant_of-self-in_err-push_place : goal.invariant_of-self-in_err-push_place
-invariant_of-self-in_err-push_place c =
-    let at = (goal.at.invariant_of-self-in_err-push_place c).After-start_for in
-    rw c.in_err-push_place.ensures.err (
-      omega (arith, c.start_for.ensures.room, c.len-count.ensures),
-      subst (All (λ e. e < 2 ^ 64)) (sym (stay at)) c.self.invariant.1,
-    )
+invariant_of-self-in_err-push_place c = grind (arith, stay)
 
 pub returns-in_err-push_place-clause-err : goal.returns-in_err-push_place-clause-err
-returns-in_err-push_place-clause-err c =
-    OnErr-any c.from_residual-in_err-push_place.result
-    (ap (λ rows. ends_of c.start_for.new.starts.items (places_in rows))
-    c.in_err-push_place.ensures.err
-    ∙ stay (goal.at.returns-in_err-push_place-clause-err c).After-start_for ∙ c.self.view_is)
+returns-in_err-push_place-clause-err c = grind (arith, stay)
 
 -- the ends that there are now
 now : (c : goal.In_ok-push_place)

@@ -1,5 +1,5 @@
-use Rattle.std.proofs.Common.{◌++◌, ◌∷◌, [], ap, take, ◌∙◌}
-use Rattle.star_flat.specs.Repeated.{places_in, texts_at_places}
+use Rattle.std.proofs.Common.{◌++◌, ◌∷◌, take, ◌∙◌, arith}
+use Rattle.star_flat.specs.Repeated.{places_in}
 use Rattle.star_flat.proofs.RepeatedLemmas.{again, either, on_ok, text_again}
 use Rattle.star_flat.proofs.repeated.RepeatedTexts.push_front.Goals as goal
 
@@ -16,11 +16,4 @@ invariant_of-self c =
     (λ same. (rw same c.self.invariant.0, c.self.invariant.1))
 
 pub returns-in-Some-clause-ok : goal.returns-in-Some-clause-ok
-returns-in-Some-clause-ok c =
-    let ts = c.self.inside.kept in
-    let ps = places_in c.self.inside.rows in
-    let there = c.in-Some.ensures ts c.self.invariant.1 in
-    on_ok c.push_place.result c.push_place.ensures.ok
-    (λ pushed. ap (texts_at_places ts) pushed
-    ∙ text_again ts ps c.self.invariant.0 c.in-Some.place (take c.args.count c.args.text.now) there
-    ∙ ap (λ all. all ++ take c.args.count c.args.text.now ∷ []) c.self.view_is)
+returns-in-Some-clause-ok c = grind (arith, on_ok, text_again)

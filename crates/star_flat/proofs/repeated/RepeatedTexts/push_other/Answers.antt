@@ -1,5 +1,5 @@
-use Rattle.std.proofs.Common.{◌++◌, ◌∷◌, [], ap, ◌∙◌}
-use Rattle.star_flat.specs.Repeated.{places_in, texts_at_places}
+use Rattle.std.proofs.Common.{◌++◌, ◌∷◌, ◌∙◌, arith}
+use Rattle.star_flat.specs.Repeated.{places_in}
 use Rattle.star_flat.proofs.RepeatedLemmas.{again, either, on_ok, text_again}
 use Rattle.star_flat.proofs.repeated.RepeatedTexts.push_other.Goals as goal
 
@@ -10,17 +10,10 @@ invariant_of-self c =
     let met = c.remember.ensures ts c.self.invariant.1 c.in-Some.ensures in
     either c.push_place.result c.push_place.ensures.ok c.push_place.ensures.err
     (λ pushed. (
-      rw pushed
-          (again ts ps c.self.invariant.0 c.in-Some.place c.args.text.now c.in-Some.ensures),
+      rw pushed (again ts ps c.self.invariant.0 c.in-Some.place c.args.text.now c.in-Some.ensures),
       met,
     ))
     (λ same. (rw same c.self.invariant.0, met))
 
 pub returns-in-Some-clause-ok : goal.returns-in-Some-clause-ok
-returns-in-Some-clause-ok c =
-    let ts = c.self.inside.kept in
-    let ps = places_in c.self.inside.rows in
-    on_ok c.push_place.result c.push_place.ensures.ok
-    (λ pushed. ap (texts_at_places ts) pushed
-    ∙ text_again ts ps c.self.invariant.0 c.in-Some.place c.args.text.now c.in-Some.ensures
-    ∙ ap (λ all. all ++ c.args.text.now ∷ []) c.self.view_is)
+returns-in-Some-clause-ok c = grind (arith, on_ok, text_again)

@@ -24,8 +24,7 @@ loop-row-preserved c =
     let row = c.loop-row.row in
     let first : get_or c.args.at.now row 0 ≡ 0 =
     omega (arith, c.requires.within row c.loop-row-test.true) in
-    let back = to_z-of_z w128 c.taken_in-all.result
-    (record { sfits = c.taken_in-all.type_inv }) in
+    let back = to_z-of_z w128 c.taken_in-all.result (record { sfits = c.taken_in-all.type_inv }) in
     rw add-one
     ((λ i. slice_set (c.loop-row.invariant i) (first i)
     (taking c.args.aggregate c.args.vector.now row

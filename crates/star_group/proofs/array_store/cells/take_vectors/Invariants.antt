@@ -7,8 +7,7 @@ abbrev pub invariant-loop-number : goal.invariant-loop-number
 invariant-loop-number l = record {
   taken : TakenBelow l.aggregates l.places (batch_vectors l.batch) l.at l.fn.cells l.cells l.number;
   narrow : (a : ℕ) → a < l.number → HasNarrow l.batch a;
-  numbers : (row : ℕ) → row < l.batch.rows
-      → drop l.number (put_in l.batch row).values
+  numbers : (row : ℕ) → row < l.batch.rows → drop l.number (put_in l.batch row).values
       ≡ aligned (pos 1) (drop l.number l.aggregates) (map (word_in l.batch.vectors.now row) l.left);
   count : length l.left ≡ value_count (drop l.number l.aggregates);
   vectors : All (λ r. r * 1024 + 1024 ≤ length l.batch.vectors.now) l.left;

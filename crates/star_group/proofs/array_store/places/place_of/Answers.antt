@@ -11,8 +11,7 @@ above-place-requires c =
 
 pub loop-index-init : goal.loop-index-init
 loop-index-init c = record {
-  behind =
-      sym (none_left c.args.spans.now c.args.keys.now c.requires.same);
+  behind = sym (none_left c.args.spans.now c.args.keys.now c.requires.same);
   within = omega arith;
 }
 

@@ -5,8 +5,7 @@ abbrev pub invariant-loop-place : goal.invariant-loop-place
 invariant-loop-place l = record {
   below : l.place ≤ l.key_count;
   varied : (keys : List KeyValue) → length keys ≡ l.key_count
-      → map key_view l.fn.row_keys.items ≡ padded 6 keys ∷ []
-      → map key_view l.row_keys.items
+      → map key_view l.fn.row_keys.items ≡ padded 6 keys ∷ [] → map key_view l.row_keys.items
       ≡ filter (is_row_key l.shape l.key_count) (keys_from l.place l.key_count keys);
 }
 

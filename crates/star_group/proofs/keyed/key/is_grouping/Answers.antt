@@ -17,7 +17,6 @@ returns-in-Rollup c =
     ≡ is_grouping Rollup (map key_value_view (take c.args.key_count c.args.parts.now)) =
     search rules in
     subst (λ shape. c.are_shown_first.result
-    ≡ is_grouping shape (take c.args.key_count (key_view c.args.parts.now)))
-    (sym c.in-Rollup.is)
+    ≡ is_grouping shape (take c.args.key_count (key_view c.args.parts.now))) (sym c.in-Rollup.is)
     (shown ∙ ap (is_grouping Rollup)
     (sym (take-map key_value_view c.args.key_count c.args.parts.now)))

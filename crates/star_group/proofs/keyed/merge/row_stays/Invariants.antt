@@ -2,7 +2,6 @@ use Rattle.star_group.proofs.Common.{◌≡◌, ℕ, ◌<◌, [], false, slice_i
 use Rattle.star_group.proofs.keyed.merge.row_stays.Given as goal
 
 abbrev pub invariant-loop-place : goal.invariant-loop-place
-invariant-loop-place l =
-    (place : ℕ) → place < l.place
+invariant-loop-place l = (place : ℕ) → place < l.place
     → leaves (slice_index_or l.aggregates place Count)
     (merged_at l.aggregates (unwrap_or (option_copied l.held) []) l.more place) ≡ false

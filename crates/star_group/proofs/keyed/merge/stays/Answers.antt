@@ -18,8 +18,7 @@ unfolding is_i128
 sum_stays None y = ap is_i128 (nothing_before y) ∙ not_twice (is_i128 y)
 sum_stays (Some x) y = not_twice (is_i128 (x +ℤ y))
 
-count_stays : (before : Option ℤ) (more : ℤ)
-    → is_i64 (unwrap_or before (pos 0) +ℤ more)
+count_stays : (before : Option ℤ) (more : ℤ) → is_i64 (unwrap_or before (pos 0) +ℤ more)
     ≡ not (leaves Count (merged Count before (Some more)))
 unfolding is_i64
 count_stays None y = ap is_i64 (nothing_before y) ∙ not_twice (is_i64 y)

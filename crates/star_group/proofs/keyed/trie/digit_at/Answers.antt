@@ -9,8 +9,7 @@ returns-then-depth-lt32-clause-digit c =
     c.if-depth-lt32.true c.turn_at.ensures.turn
 
 pub returns-else-depth-lt32-clause-digit : goal.returns-else-depth-lt32-clause-digit
-returns-else-depth-lt32-clause-digit c =
-    c.key_digit.ensures.digit
+returns-else-depth-lt32-clause-digit c = c.key_digit.ensures.digit
     ∙ digit_of_part (length c.args.key.now) c.args.key.now c.args.depth
     (λ low. omega (arith, low, c.if-depth-lt32.false))
 

@@ -28,19 +28,15 @@ put-requires-clause-room g c =
     let numbers = ap (λ gs. take (length gs) c.numbers_in-numbers.result) c.as_slice.ensures
     ∙ c.numbers_in-numbers.ensures in
     let same : put_in b row ≡ record {
-      keys =
-          take (length b.keys.now) c.keys_in-keys.result;
-      values =
-          take (length c.as_slice.result.now) c.numbers_in-numbers.result;
+      keys = take (length b.keys.now) c.keys_in-keys.result;
+      values = take (length c.as_slice.result.now) c.numbers_in-numbers.result;
     } =
     (λ i. record { keys = sym c.keys_in-keys.ensures i; values = sym numbers i }) in (
       puts_after (put_in b) room.0 row,
       c.loop-row.invariant.has room.0 room.1,
       subst (λ d. HasRoom d (record {
-        keys =
-            take (length b.keys.now) c.keys_in-keys.result;
-        values =
-            take (length c.as_slice.result.now) c.numbers_in-numbers.result;
+        keys = take (length b.keys.now) c.keys_in-keys.result;
+        values = take (length c.as_slice.result.now) c.numbers_in-numbers.result;
       }
           ∷ puts_after (put_in b) room.0 row)) (sym c.loop-row.invariant.group)
           (subst (λ u. HasRoom (g.Self.GroupStore.group c.args.self.now)
@@ -48,8 +44,7 @@ put-requires-clause-room g c =
     )
 
 pub returns-in_err-put-clause-refused : goal.returns-in_err-put-clause-refused
-returns-in_err-put-clause-refused g c =
-    err_any c.from_residual.result
+returns-in_err-put-clause-refused g c = err_any c.from_residual.result
     (λ puts has. (
       c.loop-row.row,
       c.loop-row-test.true,

@@ -1,7 +1,7 @@
 use Rattle.std.proofs.{Common.length, Common.ap, Common.◌∙◌, lemmas.List.length-map}
 use Rattle.star_program.specs.{Outcome.decoded_row, RowCells.cell_of, Rows.cut}
 use Rattle.star_program.proofs.Rows.{cut_rows, length-rows}
-use Rattle.star_group.specs.StoreRows.{row_at, row_view}
+use Rattle.star_group.specs.StoreRows.{row_at}
 use Rattle.star_outcome.specs.Private.Decoded.{row_cells}
 use Rattle.star_world.specs.WorldOf.{world_of}
 use Rattle.star_outcome.proofs.outcome.cells.cell_rows.Goals as goal
@@ -14,7 +14,7 @@ from_cells-requires c =
     ap length c.in_ok-cells.ensures
     ∙ length-rows (length shows) (λ number. row_cells w d shows (row_at c.args.rows.now number))
     (λ number. length-map shows
-    (λ show. cell_of (decoded_row w d (row_view (row_at c.args.rows.now number))) show.column))
+    (λ show. cell_of (decoded_row w d (row_at c.args.rows.now number)) show.column))
     c.args.numbers.now
 
 pub returns : goal.returns
@@ -26,5 +26,5 @@ returns c =
     ∙ ap (cut (length shows) (length c.args.numbers.now)) c.in_ok-cells.ensures
     ∙ cut_rows (length shows) (λ number. row_cells w d shows (row_at c.args.rows.now number))
     (λ number. length-map shows
-    (λ show. cell_of (decoded_row w d (row_view (row_at c.args.rows.now number))) show.column))
+    (λ show. cell_of (decoded_row w d (row_at c.args.rows.now number)) show.column))
     c.args.numbers.now

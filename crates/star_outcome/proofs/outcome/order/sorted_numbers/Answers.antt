@@ -1,11 +1,12 @@
 use Rattle.std.proofs.Common.{ap, length, map, rules, subst, sym, ◌∙◌, ◌≡◌}
-use Rattle.std.proofs.{lemmas.List.Sorted.IsPermutation-map, lemmas.Simd.map-map}
+use Rattle.std.proofs.{lemmas.Simd.map-map}
 use Rattle.std.specs.{Prelude.IsPermutation, List.AllByRecursion, List.Contains, List.range_with_len, List.Sorted.IsSortedBy, Ordering.is_lt}
 use Rattle.star_group.proofs.Contents.{if_ok}
-use Rattle.star_group.specs.{declared.group_row.GroupRow.GroupRow, StoreRows.row_at, StoreRows.row_view}
-use Rattle.star_program.specs.{Keys.key_value_cmp, Puts.Update}
-use Rattle.star_outcome.specs.{declared.outcome.leads.Led.Led, Private.Decoded.AreSortedGroups, Private.Leads.led_at, Private.Leads.led_cmp}
-use Rattle.star_outcome.proofs.{GroupRows.groups_alike, GroupRows.groups_moved, GroupRows.rows_apart, LedRows.led_total, LedRows.rows_ascend, LedRows.rows_moved, RowOrders.AreAlike, SortedRows.shown_cmp, SortedRows.sorted_by_answers, SortedRows.sorted_rows}
+use Rattle.star_schema.specs.Groups.{GroupRow as Row}
+use Rattle.star_group.specs.StoreRows.{row_at}
+use Rattle.star_program.specs.{declared.key.KeyValue.KeyValue, Keys.key_value_cmp, Puts.Update}
+use Rattle.star_outcome.specs.{declared.outcome.leads.Led.Led, Private.Decoded.AreSortedGroups, Private.Leads.led_at, Private.Leads.led_cmp, Private.RowOrder.row_order}
+use Rattle.star_outcome.proofs.{GroupRows.groups_alike, GroupRows.groups_moved, GroupRows.rows_apart, LedRows.led_total, LedRows.rows_ascend, LedRows.rows_moved, RowOrders.AreAlike, SortedRows.sorted_by_answers, SortedRows.sorted_rows}
 use Rattle.star_outcome.proofs.outcome.order.sorted_numbers.Goals as goal
 
 pub returns : goal.returns
@@ -22,10 +23,10 @@ returns c =
     let updates = c.requires.are.1 in
     let fit = subst (λ n. AllByRecursion (λ (u : Update). length u.keys ≡ n) updates)
     (sym c.requires.are.2) c.requires.are.4 in
-    let alike = subst (λ n. (a b : GroupRow) → Contains rows a → Contains rows b
-    → AreAlike n (row_view a) (row_view b)) c.requires.are.2 (groups_alike d updates rows fit c.requires.are.3.groups)
+    let alike = subst (λ n. (a b : Row KeyValue) → Contains rows a → Contains rows b
+    → AreAlike n a b) c.requires.are.2 (groups_alike d updates rows fit c.requires.are.3.groups)
     in
-    let ordered = subst (λ cs. IsSortedBy (λ a b. is_lt (shown_cmp cs a b)) sorted)
+    let ordered = subst (λ cs. IsSortedBy (λ a b. is_lt (row_order cs a b)) sorted)
     (c.as_slice-columns.ensures.value ∙ c.in_ok-columns.ensures) (rows_ascend columns rows all moved up) in
     if_ok _ _ c.numbers_of.result
     (λ numbers is d' updates' are.
@@ -33,9 +34,8 @@ returns c =
     ap (map (row_at rows)) (is ∙ ap (λ leds. map (λ (led : Led). led.number) leds)
     c.as_slice.ensures.value) ∙ map-map (row_at rows) (λ (led : Led). led.number) all in
     subst (AreSortedGroups d' c.args.sorts.now updates') (sym same) (record {
-      groups = groups_moved key_value_cmp d'.shape d'.count d'.aggregates updates' (map row_view rows)
-          (map row_view sorted) (IsPermutation-map row_view rows sorted
-          (rows_moved columns rows all moved)) are.groups;
+      groups = groups_moved key_value_cmp d'.shape d'.count d'.aggregates updates' rows
+          sorted (rows_moved columns rows all moved) are.groups;
       in_order = sorted_rows c.args.sorts.now c.args.count rows sorted
           (rows_apart d updates rows c.requires.are.3) alike (rows_moved columns rows all moved) ordered;
     }))

@@ -12,7 +12,6 @@ loop-column-preserved c =
     )
 
 pub returns : goal.returns
-returns c =
-    all_facts (world_of c.args.catalogue.now) c.sizes.result c.loop-column.bounds
+returns c = all_facts (world_of c.args.catalogue.now) c.sizes.result c.loop-column.bounds
     c.loop-column.column-index
     c.sizes.ensures c.loop-column-test.false c.loop-column.invariant.1

@@ -17,8 +17,7 @@ returns-in-Err-make-clause-checked c = λ w x pending facts keeps placed marked.
     (c.in-Ok.ensures x pending c.args.target (ap known_in c.deref.ensures.value ∙ keeps.known)
     marked)
     (c.in-Err-make.ensures w x c.args.target facts
-    (ap known_in c.deref-in-Ok.ensures.value ∙ keeps.known) shares)))
-    (c.overflow.ensures w facts)
+    (ap known_in c.deref-in-Ok.ensures.value ∙ keeps.known) shares))) (c.overflow.ensures w facts)
 
 pub returns-in-Ok-make-clause-checked : goal.returns-in-Ok-make-clause-checked
 returns-in-Ok-make-clause-checked c = λ w x pending facts keeps placed marked.

@@ -1,0 +1,53 @@
+use Rattle.std.proofs.Common.{◌∙◌, ◌<◌, ◌^◌, ap, length, subst, sym}
+use Rattle.std.specs.List.{All}
+use Rattle.std.proofs.lemmas.List.{map-id}
+use Rattle.star_column.specs.Private.Words.{numbers_in}
+use Rattle.star_column.proofs.words.Words.gather_through.Goals as goal
+
+pub gather_by-requires-clause-narrow : goal.gather_by-requires-clause-narrow
+gather_by-requires-clause-narrow c =
+    subst (All (λ key. key < 2 ^ 32))
+    (ap numbers_in c.in-Bits8.is ∙ sym c.as_slice.ensures.value
+    ∙ sym (map-id c.as_slice.result.now)) c.requires.narrow
+
+pub gather_by-requires-clause-keys : goal.gather_by-requires-clause-keys
+gather_by-requires-clause-keys c =
+    subst (All (λ key. key < length (numbers_in c.args.self.now)))
+    (ap numbers_in c.in-Bits8.is ∙ sym c.as_slice.ensures.value
+    ∙ sym (map-id c.as_slice.result.now)) c.requires.keys
+
+pub gather_by-requires-in-Bits16-clause-narrow : goal.gather_by-requires-in-Bits16-clause-narrow
+gather_by-requires-in-Bits16-clause-narrow c =
+    subst (All (λ key. key < 2 ^ 32))
+    (ap numbers_in c.in-Bits16.is ∙ sym c.as_slice-in-Bits16.ensures.value
+    ∙ sym (map-id c.as_slice-in-Bits16.result.now)) c.requires.narrow
+
+pub gather_by-requires-in-Bits16-clause-keys : goal.gather_by-requires-in-Bits16-clause-keys
+gather_by-requires-in-Bits16-clause-keys c =
+    subst (All (λ key. key < length (numbers_in c.args.self.now)))
+    (ap numbers_in c.in-Bits16.is ∙ sym c.as_slice-in-Bits16.ensures.value
+    ∙ sym (map-id c.as_slice-in-Bits16.result.now)) c.requires.keys
+
+pub gather_by-requires-in-Bits32-clause-narrow : goal.gather_by-requires-in-Bits32-clause-narrow
+gather_by-requires-in-Bits32-clause-narrow c =
+    subst (All (λ key. key < 2 ^ 32))
+    (ap numbers_in c.in-Bits32.is ∙ sym c.as_slice-in-Bits32.ensures.value
+    ∙ sym (map-id c.as_slice-in-Bits32.result.now)) c.requires.narrow
+
+pub gather_by-requires-in-Bits32-clause-keys : goal.gather_by-requires-in-Bits32-clause-keys
+gather_by-requires-in-Bits32-clause-keys c =
+    subst (All (λ key. key < length (numbers_in c.args.self.now)))
+    (ap numbers_in c.in-Bits32.is ∙ sym c.as_slice-in-Bits32.ensures.value
+    ∙ sym (map-id c.as_slice-in-Bits32.result.now)) c.requires.keys
+
+pub gather_by-requires-in-Bits64-clause-narrow : goal.gather_by-requires-in-Bits64-clause-narrow
+gather_by-requires-in-Bits64-clause-narrow c =
+    subst (All (λ key. key < 2 ^ 32))
+    (ap numbers_in c.in-Bits64.is ∙ sym c.as_slice-in-Bits64.ensures.value
+    ∙ sym (map-id c.as_slice-in-Bits64.result.now)) c.requires.narrow
+
+pub gather_by-requires-in-Bits64-clause-keys : goal.gather_by-requires-in-Bits64-clause-keys
+gather_by-requires-in-Bits64-clause-keys c =
+    subst (All (λ key. key < length (numbers_in c.args.self.now)))
+    (ap numbers_in c.in-Bits64.is ∙ sym c.as_slice-in-Bits64.ensures.value
+    ∙ sym (map-id c.as_slice-in-Bits64.result.now)) c.requires.keys
