@@ -88,65 +88,61 @@ fn distinct_flag<'a>(alloc: Global) -> Arg<'a> {
     flag(alloc, "distinct", help)
 }
 
-/// What a command asks for.
+/// One or more arguments of a command.
 #[derive(Clone, Copy)]
-pub(crate) enum Asked {
-    Nothing,
+pub(crate) enum Argument {
     Folder,
-    /// A file, with its help, here and below.
+    /// A file, with its help.
     File(&'static str),
-    FolderAndFile(&'static str),
-    FolderFileAndLimit(&'static str),
-    /// A folder, a folder for reports, and files.
-    FoldersAndFiles,
-    FolderFileAndParts(&'static str),
-    /// A file, and partials.
-    FileAndPartials(&'static str),
+    Limit,
+    /// A folder for reports.
+    Target,
+    Files,
+    Quote,
+    Parts,
+    To,
+    Partials,
+    Distinct,
 }
 
-/// Makes a command that asks for what `asked` says.
-pub(crate) fn asking<'a>(
-    alloc: Global,
-    help: Help,
-    asked: Asked,
-) -> Result<Command<'a>, AllocError> {
-    let start = wordless(alloc, help)?;
-    match asked {
-        Asked::Nothing => Ok(start),
-        Asked::Folder => start.arg(folder_word(alloc)),
-        Asked::File(file) => start.arg(word(alloc, "FILE", file)),
-        Asked::FolderAndFile(file) => start
-            .arg(folder_word(alloc))?
-            .arg(word(alloc, "FILE", file)),
-        Asked::FolderFileAndLimit(file) => start
-            .arg(folder_word(alloc))?
-            .arg(word(alloc, "FILE", file))?
-            .arg(limit_word(alloc)),
-        Asked::FoldersAndFiles => start
-            .arg(folder_word(alloc))?
-            .arg(word(alloc, "TARGET", "An existing folder for the reports"))?
-            .arg(file_words(alloc))?
-            .arg(quote_flag(alloc)),
-        Asked::FolderFileAndParts(file) => start
-            .arg(folder_word(alloc))?
-            .arg(word(alloc, "FILE", file))?
-            .arg(part_words(alloc))?
-            .arg(target_option(alloc)),
-        Asked::FileAndPartials(file) => start
-            .arg(word(alloc, "FILE", file))?
-            .arg(partial_words(alloc))?
-            .arg(distinct_flag(alloc)),
+impl Argument {
+    fn arg<'a>(self, alloc: Global) -> Arg<'a> {
+        match self {
+            Argument::Folder => folder_word(alloc),
+            Argument::File(help) => word(alloc, "FILE", help),
+            Argument::Limit => limit_word(alloc),
+            Argument::Target => word(alloc, "TARGET", "An existing folder for the reports"),
+            Argument::Files => file_words(alloc),
+            Argument::Quote => quote_flag(alloc),
+            Argument::Parts => part_words(alloc),
+            Argument::To => target_option(alloc),
+            Argument::Partials => partial_words(alloc),
+            Argument::Distinct => distinct_flag(alloc),
+        }
     }
 }
 
-/// Makes these commands; each with its help and its request.
+/// A command's help and its arguments.
+pub(crate) type Asked<'c> = (Help, &'c [Argument]);
+
+/// Makes a command with its arguments.
+pub(crate) fn asking<'a>(alloc: Global, asked: &Asked<'_>) -> Result<Command<'a>, AllocError> {
+    let (help, arguments) = *asked;
+    let mut command = wordless(alloc, help)?;
+    for argument in arguments {
+        command = command.arg(argument.arg(alloc))?;
+    }
+    Ok(command)
+}
+
+/// Makes these commands.
 pub(crate) fn asking_all<'a>(
     alloc: Global,
-    commands: &[(Help, Asked)],
+    commands: &[Asked<'_>],
 ) -> Result<Vec<Command<'a>>, AllocError> {
     let mut made = Vec::new(alloc);
-    for (help, asked) in commands {
-        made.push(asking(alloc, *help, *asked)?)?;
+    for asked in commands {
+        made.push(asking(alloc, asked)?)?;
     }
     Ok(made)
 }

@@ -8,6 +8,9 @@ use crate::help::{
     BENCH, CHECK, EITHER_FILE, EXEC, EXPLAIN, FAULTS, Help, PROGRAM_FILE, QUERY, QUERY_FILE, QUOTE,
     REPORTS, SESSION, STAR, TABLES, TRIAL,
 };
+use crate::parser::Argument::{
+    Distinct, File, Files, Folder, Limit, Partials, Parts, Quote, Target, To,
+};
 use crate::parser::{Asked, asking, asking_all, wordless};
 use crate::partials::{MERGE, PARTIAL};
 use clap::Command;
@@ -15,20 +18,20 @@ use std::alloc::{AllocError, Global};
 use std::convert::AsStr;
 
 // The commands, in the order in which help lists them.
-const COMMANDS: [(Help, Asked); 13] = [
-    (CHECK, Asked::Folder),
-    (BENCH, Asked::Folder),
-    (QUERY, Asked::FolderAndFile(QUERY_FILE)),
-    (EXPLAIN, Asked::File(QUERY_FILE)),
-    (EXEC, Asked::FolderAndFile(PROGRAM_FILE)),
-    (QUOTE, Asked::FolderAndFile(EITHER_FILE)),
-    (TRIAL, Asked::FolderFileAndLimit(PROGRAM_FILE)),
-    (SESSION, Asked::Folder),
-    (REPORTS, Asked::FoldersAndFiles),
-    (PARTIAL, Asked::FolderFileAndParts(QUERY_FILE)),
-    (MERGE, Asked::FileAndPartials(QUERY_FILE)),
-    (TABLES, Asked::Nothing),
-    (FAULTS, Asked::Nothing),
+const COMMANDS: [Asked<'static>; 13] = [
+    (CHECK, &[Folder]),
+    (BENCH, &[Folder]),
+    (QUERY, &[Folder, File(QUERY_FILE)]),
+    (EXPLAIN, &[File(QUERY_FILE)]),
+    (EXEC, &[Folder, File(PROGRAM_FILE)]),
+    (QUOTE, &[Folder, File(EITHER_FILE)]),
+    (TRIAL, &[Folder, File(PROGRAM_FILE), Limit]),
+    (SESSION, &[Folder]),
+    (REPORTS, &[Folder, Target, Files, Quote]),
+    (PARTIAL, &[Folder, File(QUERY_FILE), Parts, To]),
+    (MERGE, &[File(QUERY_FILE), Partials, Distinct]),
+    (TABLES, &[]),
+    (FAULTS, &[]),
 ];
 
 // Apart from the chain of calls, in which its clause, over all fields of a command, is dear to prove.
@@ -37,16 +40,20 @@ fn versioned<'a>(star: Command<'a>) -> Command<'a> {
 }
 
 // The program with its commands.
-fn star_command<'a>(alloc: Global) -> Result<Command<'a>, AllocError> {
-    let commands = asking_all(alloc, &COMMANDS)?;
-    versioned(wordless(alloc, STAR)?).subcommands(commands)
+fn star_command<'a>(alloc: Global, commands: &[Asked<'_>]) -> Result<Command<'a>, AllocError> {
+    let star = versioned(wordless(alloc, STAR)?);
+    star.subcommands(asking_all(alloc, commands)?)
 }
 
 // The command of this name, if it has arguments.
-fn command_named<'a>(alloc: Global, name: &str) -> Result<Option<Command<'a>>, AllocError> {
-    for (help, asked) in &COMMANDS {
-        if help.name == name && !matches!(asked, Asked::Nothing) {
-            return Ok(Some(asking(alloc, *help, *asked)?));
+fn command_named<'a>(
+    alloc: Global,
+    commands: &[Asked<'_>],
+    name: &str,
+) -> Result<Option<Command<'a>>, AllocError> {
+    for asked in commands {
+        if asked.0.name == name && !asked.1.is_empty() {
+            return Ok(Some(asking(alloc, asked)?));
         }
     }
     Ok(None)
@@ -59,23 +66,39 @@ fn parse<'a, S: AsStr>(command: Command<'a>, words: &'a [S]) -> Result<(), Words
     Ok(())
 }
 
+// Parses arguments by the parser of the whole program.
+fn parse_by_star<'a, S: AsStr>(
+    alloc: Global,
+    commands: &[Asked<'_>],
+    words: &'a [S],
+) -> Result<(), WordsFault>
+    ensures { IfErr result IsParsersFault }
+{
+    parse(star_command(alloc, commands)?, words)
+}
+
 // Parses arguments by the parser of the command that they name.
-fn check(alloc: Global, words: &[String]) -> Result<(), WordsFault>
+fn check_by(alloc: Global, commands: &[Asked<'_>], words: &[String]) -> Result<(), WordsFault>
     ensures { IfErr result IsParsersFault }
 {
     if let [command, rest @ ..] = words {
+        let name = command.as_str();
         // A topic of help has no more to say than help does.
-        if command.as_str() == "tables" && rest.is_empty() {
-            return parse(star_command(alloc)?, &["help", "tables"]);
+        if rest.is_empty() && (name == "tables" || name == "faults") {
+            return parse_by_star(alloc, commands, &["help", name]);
         }
-        if command.as_str() == "faults" && rest.is_empty() {
-            return parse(star_command(alloc)?, &["help", "faults"]);
-        }
-        if let Some(parser) = command_named(alloc, command.as_str())? {
+        if let Some(parser) = command_named(alloc, commands, name)? {
             return parse(parser, rest);
         }
     }
-    parse(star_command(alloc)?, words)
+    parse_by_star(alloc, commands, words)
+}
+
+// Apart from its caller: a proof that has the table has all of its texts.
+fn check(alloc: Global, words: &[String]) -> Result<(), WordsFault>
+    ensures { IfErr result IsParsersFault }
+{
+    check_by(alloc, &COMMANDS, words)
 }
 
 /// Parses the arguments of a command line. Returns the parser's error, if there is one: help or the
