@@ -177,7 +177,10 @@ def keys_of(promise: str) -> set[Key]:
     """Returns what a public function's clauses cite, or those of one name: CRATE.FUNCTION[.CLAUSE]."""
     crate, *wanted = promise.split(".")
     clauses = (it for file in (CRATES / crate / "src").rglob("*.rt") for it in clauses_in(file))
-    return set().union(*(keys for function, name, keys in clauses if wanted in ([function], [function, name])))
+    cited = [keys for function, name, keys in clauses if wanted in ([function], [function, name])]
+    if not cited:
+        raise ValueError(f"{promise} is no clause of a public function")
+    return set().union(*cited)
 
 
 def private_citations(definitions: Definitions) -> Iterator[str]:
