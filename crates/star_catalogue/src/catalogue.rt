@@ -22,10 +22,15 @@ use std::alloc::Global;
 use std::marker::Model;
 
 /// Five sound tables. A contract sees the rows of each. No look-up allocates.
-#[derive(Drop)]
 pub struct Catalogue {
     tables: Box<Tables>,
     referred: Box<Referred>,
+}
+
+impl Drop for Catalogue {
+    fn drop(self) {
+        let Self { tables, referred } = self;
+    }
 }
 
 impl Model for Catalogue {
@@ -99,7 +104,10 @@ impl Catalogue {
             IfErr result (λ fault. UnlessMemory LoadFault.OutOfMemory fault
             ((load_fault most all ≡ Some fault) × ¬ IsLoadable most all)) }
     {
-        let Catalogue { tables, .. } = self;
+        let Self {
+            tables,
+            referred: _referred,
+        } = self;
         let loaded = Box::into_inner(tables).with_lineorder(alloc, reader)?;
         Catalogue::of_tables(alloc, loaded)
     }

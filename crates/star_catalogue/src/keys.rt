@@ -41,12 +41,20 @@ fn places_of<K: Copy + Ord + Drop>(
 }
 
 /// The rows of a table by key.
-#[derive(Drop)]
 pub enum KeyIndex {
     /// Keys of one number.
     Dimension(DimensionKeys),
     /// Keys of two numbers, which are never looked up.
     Pairs,
+}
+
+impl Drop for KeyIndex {
+    fn drop(self) {
+        match self {
+            Self::Dimension(_held) => {}
+            Self::Pairs => {}
+        }
+    }
 }
 
 impl KeyIndex {

@@ -19,12 +19,22 @@ use std::marker::Model;
 
 /// A table in memory, by columns, with an index of its keys. A contract sees which table it is, and
 /// the list of its rows.
-#[derive(Drop)]
 pub struct LoadedTable {
     table: TableId,
     rows: u32,
     columns: Vec<Column>,
     keys: KeyIndex,
+}
+
+impl Drop for LoadedTable {
+    fn drop(self) {
+        let Self {
+            table,
+            rows,
+            columns,
+            keys,
+        } = self;
+    }
 }
 
 impl Model for LoadedTable {

@@ -14,7 +14,6 @@ use std::alloc::{AllocError, Global};
 use std::fmt;
 
 /// Why a command ended without its whole answer.
-#[derive(Drop)]
 pub(crate) enum Failure<'a> {
     /// The words ask for nothing that can be done, or for help or the version.
     Words(WordsFault),
@@ -35,6 +34,22 @@ pub(crate) enum Failure<'a> {
     Unwritten(u64),
     /// Memory was refused.
     OutOfMemory,
+}
+
+impl Drop for Failure<'_> {
+    fn drop(self) {
+        match self {
+            Self::Words(_held) => {}
+            Self::File(_held) => {}
+            Self::Part(_held) => {}
+            Self::Unnamed(_held) => {}
+            Self::NamedTwice(_held) => {}
+            Self::OfFile(_part_0, _part_1) => {}
+            Self::Unstored(_part_0, _part_1) => {}
+            Self::Unwritten(_held) => {}
+            Self::OutOfMemory => {}
+        }
+    }
 }
 
 impl<'a> From<AllocError> for Failure<'a> {

@@ -24,7 +24,6 @@ use std::fmt;
 const PARTIAL_STATUS: u8 = 8;
 
 /// Why partials were not made or merged.
-#[derive(Drop)]
 enum Undone<'a> {
     Failure(Failure<'a>),
     Fault(EngineFault),
@@ -34,6 +33,20 @@ enum Undone<'a> {
         fault: PartialFault,
         other: Option<&'a str>,
     },
+}
+
+impl Drop for Undone<'_> {
+    fn drop(self) {
+        match self {
+            Self::Failure(_held) => {}
+            Self::Fault(_held) => {}
+            Self::Partial {
+                name: _name,
+                fault: _fault,
+                other: _other,
+            } => {}
+        }
+    }
 }
 
 impl<'a> From<Failure<'a>> for Undone<'a> {

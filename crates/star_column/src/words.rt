@@ -208,12 +208,22 @@ impl OffsetWord for u32 {
 }
 
 /// Numbers in words of one width.
-#[derive(Drop)]
 pub enum Words {
     Bits8(Vec<u8>),
     Bits16(Vec<u16>),
     Bits32(Vec<u32>),
     Bits64(Vec<u64>),
+}
+
+impl Drop for Words {
+    fn drop(self) {
+        match self {
+            Self::Bits8(_held) => {}
+            Self::Bits16(_held) => {}
+            Self::Bits32(_held) => {}
+            Self::Bits64(_held) => {}
+        }
+    }
 }
 
 impl Words {

@@ -28,10 +28,15 @@ use std::marker::Model;
 /// The rows of five loaded tables, and the limits of their queries. A contract sees the rows of
 /// each table, the limit on rows of the load, and the limit on visits. No call changes an engine;
 /// equal calls return equal results.
-#[derive(Drop)]
 pub struct Engine {
     catalogue: Catalogue,
     limits: Limits,
+}
+
+impl Drop for Engine {
+    fn drop(self) {
+        let Self { catalogue, limits } = self;
+    }
 }
 
 impl Model for Engine {

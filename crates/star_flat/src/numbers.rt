@@ -9,10 +9,15 @@ use std::marker::Model;
 
 /// A list of numbers of 64 bits, which a contract sees as the list of them. They are kept in words
 /// of the least of 8, 16, 32 and 64 bits in which each that was put fits, with its sign.
-#[derive(Drop)]
 pub struct FlatNumbers {
     alloc: Global,
     words: SignedWords,
+}
+
+impl Drop for FlatNumbers {
+    fn drop(self) {
+        let Self { alloc, words } = self;
+    }
 }
 
 impl Model for FlatNumbers {
@@ -84,12 +89,16 @@ impl FlatNumbers {
     pub fn into_words(self) -> SignedWords
         ensures { numbers_in result ≡ self }
     {
-        self.words
+        let Self {
+            alloc: _alloc,
+            words,
+        } = self;
+        words
     }
 
     /// Lets the numbers go, as `release` does.
     pub fn release(self) {
-        self.words.release();
+        self.into_words().release();
     }
 
     /// Keeps only the first `count` numbers.

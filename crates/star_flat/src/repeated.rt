@@ -20,7 +20,6 @@ const MANY: usize = 32_768;
 /// A list of texts, which a contract sees as the list of their bytes. A text that equals one that
 /// was put lately is not kept again: for each text there is the place of an equal one among those
 /// that are kept. If many are kept that may repeat, they are compacted: of equal ones one stays.
-#[derive(Drop)]
 pub struct RepeatedTexts {
     alloc: Global,
     kept: FlatTexts,
@@ -32,6 +31,19 @@ pub struct RepeatedTexts {
     met: [Met; REMEMBERED],
     // How many texts are kept before they are compacted next. Any number is valid here.
     most: usize,
+}
+
+impl Drop for RepeatedTexts {
+    fn drop(self) {
+        let Self {
+            alloc,
+            kept,
+            rows,
+            recent,
+            met,
+            most,
+        } = self;
+    }
 }
 
 impl Model for RepeatedTexts {
@@ -176,8 +188,16 @@ impl RepeatedTexts {
 
     /// Lets the texts go, as `release` does.
     pub fn release(self) {
-        self.kept.release();
-        self.rows.release();
+        let Self {
+            alloc: _alloc,
+            kept,
+            rows,
+            recent: _recent,
+            met: _met,
+            most: _most,
+        } = self;
+        kept.release();
+        rows.release();
     }
 
     /// Puts a text at the end that is not remembered by value, or changes nothing if memory is

@@ -17,12 +17,22 @@ use star_query::Query;
 use std::alloc::Global;
 
 /// A query whose partials are merged. It is read before any partial.
-#[derive(Drop)]
 pub struct Merger {
     pub(crate) query: Vec<u8>,
     pub(crate) plan: Plan,
     pub(crate) program: Program,
     columns: Vec<PartialColumn>,
+}
+
+impl Drop for Merger {
+    fn drop(self) {
+        let Self {
+            query,
+            plan,
+            program,
+            columns,
+        } = self;
+    }
 }
 
 impl Merger {

@@ -22,7 +22,6 @@ pub struct Aggregate {
 
 /// The content of a plan: which rows of lineorder are joined and selected, how they are grouped,
 /// what is computed over each group, and which items are shown in which order.
-#[derive(Drop)]
 pub struct PlanTree {
     pub joins: Vec<Join>,
     /// All of these hold of a selected row.
@@ -34,4 +33,18 @@ pub struct PlanTree {
     /// The items that are shown of a group, in the order of SELECT.
     pub items: Vec<GroupColumn>,
     pub sorts: Vec<SortKey>,
+}
+
+impl Drop for PlanTree {
+    fn drop(self) {
+        let Self {
+            joins,
+            conjuncts,
+            shape,
+            keys,
+            aggregates,
+            items,
+            sorts,
+        } = self;
+    }
 }

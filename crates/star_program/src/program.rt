@@ -58,7 +58,6 @@ pub type Sorts = Items<SortKey>;
 
 /// The parts of a program: the number of its registers, its groups, its instructions, and which
 /// group it reports and how.
-#[derive(Drop)]
 pub struct Parts {
     pub registers: u16,
     pub groups: Groups,
@@ -66,6 +65,19 @@ pub struct Parts {
     pub report: u16,
     pub shows: Shows,
     pub sorts: Sorts,
+}
+
+impl Drop for Parts {
+    fn drop(self) {
+        let Self {
+            registers,
+            groups,
+            body,
+            report,
+            shows,
+            sorts,
+        } = self;
+    }
 }
 
 /// A program: parts within the limits, seen in contracts as these parts.

@@ -64,11 +64,20 @@ pub enum Measure<C> {
 }
 
 /// An aggregate, with the place of its function's word and its name, if it is given one.
-#[derive(Drop)]
 pub struct Aggregate {
     pub measure: Measure<Name>,
     pub place: usize,
     pub name: Option<Name>,
+}
+
+impl Drop for Aggregate {
+    fn drop(self) {
+        let Self {
+            measure,
+            place,
+            name,
+        } = self;
+    }
 }
 
 /// One item of SELECT.
@@ -93,11 +102,22 @@ pub struct SortKey {
 }
 
 /// A query.
-#[derive(Drop)]
 pub struct Tree {
     pub items: Vec<Item>,
     pub tables: Vec<Name>,
     pub condition: Option<Condition<Test>>,
     pub grouping: Grouping,
     pub keys: Vec<SortKey>,
+}
+
+impl Drop for Tree {
+    fn drop(self) {
+        let Self {
+            items,
+            tables,
+            condition,
+            grouping,
+            keys,
+        } = self;
+    }
 }

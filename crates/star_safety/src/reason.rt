@@ -22,7 +22,6 @@ pub type ReachedColumns = Items<Reached>;
 // The bounds of an overflow are two plain numbers: an `Interval` would need a proof that its low
 // end is at most its high end.
 /// Why an instruction is refused.
-#[derive(Drop)]
 pub enum Reason {
     /// A fault by its position, its registers or their kinds.
     Faulty(Fault),
@@ -39,6 +38,21 @@ pub enum Reason {
         /// The columns that it is computed from.
         columns: ReachedColumns,
     },
+}
+
+impl Drop for Reason {
+    fn drop(self) {
+        match self {
+            Self::Faulty(_held) => {}
+            Self::NotAForeignKey => {}
+            Self::OpenGroup => {}
+            Self::Overflow {
+                low: _low,
+                high: _high,
+                columns: _columns,
+            } => {}
+        }
+    }
 }
 
 impl fmt::Display for Reached {

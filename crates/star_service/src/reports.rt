@@ -138,8 +138,10 @@ fn report_of(alloc: Global, engine: &Engine, file: &[u8]) -> Result<RunOutput, E
         IsFileRunOver engine.now.visits engine.now.database file.now (run_text_of printed))
         (OrMemory (IsForecastErrorOver engine.now.visits engine.now.database file.now)) }
 {
-    let question = Question::of_file(alloc, file)?;
-    engine.report(alloc, question)
+    match Question::of_file(alloc, file) {
+        Ok(question) => engine.report(alloc, question),
+        Err(fault) => Err(fault),
+    }
 }
 
 // The line of its forecast.
@@ -148,8 +150,10 @@ fn forecast_of(alloc: Global, engine: &Engine, file: &[u8]) -> Result<String, En
         IsForecastOver engine.now.visits engine.now.database file.now (string_bytes line))
         (OrMemory (IsForecastErrorOver engine.now.visits engine.now.database file.now)) }
 {
-    let question = Question::of_file(alloc, file)?;
-    engine.forecast(alloc, question)
+    match Question::of_file(alloc, file) {
+        Ok(question) => engine.forecast(alloc, question),
+        Err(fault) => Err(fault),
+    }
 }
 
 // Answers a file over loaded tables: keeps its report under its name, and prints a line of it. The

@@ -22,7 +22,6 @@ pub struct OpenScan {
 
 /// The part of a program that has been read. `scans` are the open scans, outermost first, and
 /// `body` the steps after the line of the innermost.
-#[derive(Drop)]
 pub struct Draft {
     pub registers: u16,
     pub groups: Groups,
@@ -31,6 +30,20 @@ pub struct Draft {
     pub report: u16,
     pub shows: Shows,
     pub sorts: Sorts,
+}
+
+impl Drop for Draft {
+    fn drop(self) {
+        let Self {
+            registers,
+            groups,
+            scans,
+            body,
+            report,
+            shows,
+            sorts,
+        } = self;
+    }
 }
 
 impl Draft {
@@ -107,13 +120,22 @@ impl Draft {
     pub(crate) fn finish(self) -> Parts
         ensures { result ≡ spec.finished self }
     {
+        let Self {
+            registers,
+            groups,
+            scans: _scans,
+            body,
+            report,
+            shows,
+            sorts,
+        } = self;
         Parts {
-            registers: self.registers,
-            groups: self.groups,
-            body: self.body,
-            report: self.report,
-            shows: self.shows,
-            sorts: self.sorts,
+            registers,
+            groups,
+            body,
+            report,
+            shows,
+            sorts,
         }
     }
 }

@@ -3,8 +3,8 @@ use Rattle.star_schema.specs.{declared.table.TableId.TheVariants.Lineorder, Data
 use Rattle.star_reader.specs.Columns.{Table}
 use Rattle.star_catalogue.proofs.tables.Tables.with_lineorder.Goals as goal
 
-pub invariant_of-result : goal.invariant_of-result
-invariant_of-result c =
+pub invariant_of-self : goal.invariant_of-self
+invariant_of-self c =
     let (most, text, read) = c.requires in
     record {
       date = c.self.invariant.date;
