@@ -7,3 +7,4 @@ pub mod Nulls
 pub mod Steps
 pub mod PlainReports
 pub mod Hulls
+pub mod FlatCells

@@ -1,3 +1,4 @@
 -- Definitions that only contracts of private functions cite.
 pub mod Adding
 pub mod RowOrder
+pub mod Flat

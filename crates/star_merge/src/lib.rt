@@ -3,6 +3,7 @@
 
 mod bounds;
 mod fault;
+mod flat;
 mod group;
 mod groupings;
 pub mod law;
@@ -12,4 +13,5 @@ mod totals;
 
 pub use bounds::join_bounds;
 pub use fault::MergeFault;
+pub use flat::FlatRows;
 pub use merging::merge_rows;

@@ -8,6 +8,7 @@ ghost use Rattle.star_merge.specs.{Cells.group_of, Cells.key_of, Cells.total_of,
 ghost use Rattle.star_merge_laws.specs.Regrouping.{all_added, added};
 
 use crate::fault::MergeFault;
+use crate::flat::FlatRows;
 use crate::group::Group;
 use crate::groupings::{is_grouping, push_groupings};
 use crate::sums::{add_up, sort_groups};
@@ -29,7 +30,7 @@ pub(crate) struct Merging {
 }
 
 // The fewest groups that are merged before the end.
-const FEWEST: usize = 65_536;
+const FEWEST: usize = 16_384;
 
 // Keys that are all hidden.
 fn hidden_keys(alloc: Global, count: usize) -> Result<Vec<KeptCell>, AllocError>
@@ -205,13 +206,14 @@ impl Merging {
     }
 
     // Adds plain groups.
-    fn with_rows(self, alloc: Global, rows: &CellRows) -> Result<Merging, MergeFault>
+    fn with_rows(self, alloc: Global, rows: &FlatRows) -> Result<Merging, MergeFault>
         ensures { (s : Shape) (count : ℕ) (gs : List Aggregate) (told : List (GroupRow Value))
             → HasMerged s count gs told self
             → IfOk result (HasMerged s count gs (told ++ map (group_of count) rows.now)) }
     {
         let mut more = self;
-        push_rows(alloc, more.shape, more.count, rows, &mut more.groups)?;
+        let rows = rows.unpacked(alloc)?;
+        push_rows(alloc, more.shape, more.count, &rows, &mut more.groups)?;
         more.compacted(alloc)
     }
 
@@ -232,7 +234,7 @@ impl Merging {
             ..
         } = self;
         let mut sums = add_up(alloc, &aggregates, groups)?;
-        sort_groups(&mut sums, sorts);
+        sort_groups(&mut sums, sorts)?;
         Ok(cell_rows(alloc, &sums, items)?)
     }
 }
@@ -249,7 +251,7 @@ pub fn merge_rows(
     aggregates: Vec<Aggregate>,
     sorts: &[SortKey],
     items: &[GroupColumn],
-    reports: &[&CellRows],
+    reports: &[&FlatRows],
 ) -> Result<CellRows, MergeFault>
     ensures { (groups : List (GroupRow Value))
         → groups ≡ flat_map (λ rows. map (group_of count) rows.now) reports.now

@@ -11,14 +11,17 @@ use crate::fault::{MergeFault, push};
 use crate::group::{Group, compare_groups};
 use crate::totals::{merge_totals, totals_over_none};
 use star_schema::{Aggregate, SortKey};
-use std::alloc::Global;
+use std::alloc::{AllocError, Global};
 
-// Sorts groups by the sort keys, and then by all their keys.
-pub(crate) fn sort_groups(groups: &mut Vec<Group>, sorts: &[SortKey])
+// Sorts groups by the sort keys, and then by all their keys. The sort makes use of groups that are in
+// order already, as those of each partial.
+pub(crate) fn sort_groups(groups: &mut Vec<Group>, sorts: &[SortKey]) -> Result<(), AllocError>
     ensures moved { IsPermutation groups.old.items groups.new.items }
-    ensures sorted { IsSortedBy (λ a b. is_lt (row_order sorts.now a b)) groups.new.items }
+    ensures sorted { OnOk result
+        (IsSortedBy (λ a b. is_lt (row_order sorts.now a b)) groups.new.items) }
 {
-    groups.sort_unstable_by(|a, b| compare_groups(sorts, a, b));
+    groups.sort_by(|a, b| compare_groups(sorts, a, b))?;
+    Ok(())
 }
 
 // A group with these totals merged in.
@@ -90,6 +93,6 @@ pub(crate) fn add_up(
         (λ sums. AreSums value_cmp aggregates.now groups.items sums.items) }
 {
     let mut sorted = groups;
-    sort_groups(&mut sorted, &[]);
+    sort_groups(&mut sorted, &[])?;
     merge_neighbours(alloc, aggregates, sorted)
 }

@@ -8,8 +8,9 @@ use Rattle.star_interval.specs.{Range.Range, Interval.range_of, declared.Interva
 use Rattle.star_schema.specs.{declared.column.ColumnId.ColumnId, declared.table.TableId.TableId, declared.table.TableId.TheVariants.Date, declared.table.TableId.TheVariants.Customer, declared.table.TableId.TheVariants.Supplier, declared.table.TableId.TheVariants.Part, declared.table.TableId.TheVariants.Lineorder, Database.Database, Database.rows_in, Schema.index_of, Sizes.size_of}
 use Rattle.star_schema.proofs.Same.{index_within}
 use Rattle.star_plan.specs.Meaning.{Row}
-use Rattle.star_partial.specs.Contents.{Contents, bounds_at, contents_of, range_if}
-use Rattle.star_partial.specs.declared.partial.Partial.{Partial}
+use Rattle.star_partial.specs.Contents.{Contents, bounds_at, range_if}
+use Rattle.star_merger.specs.Partials.{contents_of}
+use Rattle.star_merger.specs.declared.partial.Partial.{Partial}
 use Rattle.star_merge_laws.specs.{Facts.AreFactsOf, Facts.Facts, Facts.hull_of_rows, Facts.joined_facts, Parts.with_lineorder, Tables.all_of}
 use Rattle.star_verify.specs.{Facts.AreFacts}
 use Rattle.star_verify.specs.declared.facts.Facts.{Facts as Known}

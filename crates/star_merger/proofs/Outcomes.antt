@@ -6,8 +6,9 @@ use Rattle.star_schema.specs.declared.group.GroupColumn.{GroupColumn}
 use Rattle.star_plan.specs.Meaning.{Plan}
 use Rattle.star_query_meaning.specs.Answers.{shown_name}
 use Rattle.star_compile_laws.specs.Compiled.{plan_show}
-use Rattle.star_partial.specs.Contents.{Contents, contents_of}
-use Rattle.star_partial.specs.declared.partial.Partial.{Partial}
+use Rattle.star_partial.specs.Contents.{Contents}
+use Rattle.star_merger.specs.Partials.{contents_of}
+use Rattle.star_merger.specs.declared.partial.Partial.{Partial}
 use Rattle.star_merger.specs.declared.fault.PartialsFault.{PartialsFault}
 use Rattle.star_merger.specs.{Private.Outcomes.IsUnmerged, Private.Shown.IsUsable}
 use Rattle.star_engine.specs.declared.fault.EngineFault.TheVariants as engine

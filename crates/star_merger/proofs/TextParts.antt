@@ -6,8 +6,9 @@ use Rattle.std.specs.List.{All}
 use Rattle.star_schema.specs.declared.table.TableId.TheVariants.{Date, Customer, Supplier, Part, Lineorder}
 use Rattle.star_schema.specs.{declared.column.ColumnId.ColumnId, declared.table.TableId.TableId, Bounds.greatest, Bounds.least, Bounds.numbers_of, Columns.bounds_in, Database.Database, Database.TableTexts, Database.rows_in, Loadable.HasDistinctKeys, Loadable.IsLoadable, Loadable.database_of, Loadable.keys_of, Records.records_in, Schema.table_of, Tables.rows_of, Tables.row_of}
 use Rattle.star_plan.specs.Meaning.{Row}
-use Rattle.star_partial.specs.Contents.{Contents, contents_of}
-use Rattle.star_partial.specs.declared.partial.Partial.{Partial}
+use Rattle.star_partial.specs.Contents.{Contents}
+use Rattle.star_merger.specs.Partials.{contents_of}
+use Rattle.star_merger.specs.declared.partial.Partial.{Partial}
 use Rattle.star_catalogue.specs.Pieces.{with_lineorder_text}
 use Rattle.star_merge_laws.specs.{Parts.AreDisjoint, Parts.IsLoadablePart, Parts.LineorderPart, Parts.are_disjoint, Parts.whole_text, Parts.with_lineorder, Tables.all_of}
 use Rattle.star_merge_laws.proofs.LoadableParts.{IsBeside, all_second, keys_joined, loadable_joined, pairs_head, pairs_second, pairs_tail, parts_loadable, records_joined, rows_beside, rows_joined}

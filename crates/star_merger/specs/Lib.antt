@@ -1,5 +1,6 @@
 pub mod FaultTexts
 pub mod Texts
+pub mod Partials
 pub mod Columns
 pub mod Spelled
 pub mod TextShares

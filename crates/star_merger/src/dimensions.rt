@@ -3,11 +3,12 @@
 ghost use Rattle.std.specs.Prelude.{◌≡◌, All, ℕ, List, None, true};
 ghost use Rattle.star_schema.specs.Database.{Database};
 ghost use Rattle.star_interval.specs.Interval.{range_of};
-ghost use Rattle.star_partial.specs.{Contents.bounds_at, Contents.contents_of};
+ghost use Rattle.star_partial.specs.{Contents.bounds_at};
+ghost use Rattle.star_merger.specs.Partials.{contents_of};
 ghost use Rattle.star_merger.specs.Private.Checked.{HasDimensions};
 
+use crate::partial::Partial;
 use star_interval::Interval;
-use star_partial::Partial;
 use star_schema::{COLUMNS, ColumnId, TABLES, TableId, is_table, table_of};
 
 pub(crate) fn bounds_of(bounds: &[Interval; 58], column: ColumnId) -> Interval

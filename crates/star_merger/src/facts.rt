@@ -3,19 +3,20 @@
 ghost use Rattle.std.specs.Prelude.{◌≡◌, ◌++◌, ◌∷◌, All, ℕ, List, MatchResult, map};
 ghost use Rattle.star_schema.specs.{Database.Database, Sizes.size_of};
 ghost use Rattle.star_plan.specs.Meaning.{Row};
-ghost use Rattle.star_partial.specs.{Contents.bounds_at, Contents.contents_of};
+ghost use Rattle.star_partial.specs.Contents.{bounds_at};
 ghost use Rattle.star_merge_laws.specs.Parts.{with_lineorder};
 ghost use Rattle.star_merger.specs.{Merged.spans_of, Private.Checked.AreChecked, Private.Checked.AreFactsIf, Private.Checked.AreFactsWithin, Private.Checked.HasDimensions, Private.Checked.IsUnchecked};
 ghost use Rattle.star_merger.specs.{Private.Shares.Share, Private.Shares.contents_of_shares, Private.Shares.whole_of, Private.Shown.HasFacts, Private.Shown.HasOwnFacts};
+ghost use Rattle.star_merger.specs.Partials.{contents_of};
 
 use crate::dimensions::other_dimensions;
 use crate::fault::{PartialFault, PartialsFault, fault_at};
+use crate::partial::Partial;
 use crate::reading::dimensions_line;
 use crate::spans::check_spans;
 use star_engine::{EngineFault, LoadFault};
 use star_merge::join_bounds;
 use star_merge_laws::parts::facts_are_made_of_those_of_parts;
-use star_partial::Partial;
 use star_schema::{Limits, Sizes, TableId};
 use star_verify::Facts;
 

@@ -11,6 +11,7 @@ mod merger;
 mod merges;
 mod order;
 mod outcome;
+mod partial;
 mod pieces;
 mod printing;
 mod reading;
@@ -20,5 +21,5 @@ mod writing;
 
 pub use fault::{PartialFault, PartialsFault};
 pub use merger::Merger;
+pub use partial::Partial;
 pub use printing::{partial_text, write_partial};
-pub use star_partial::Partial;

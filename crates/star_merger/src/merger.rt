@@ -1,16 +1,17 @@
 // A query whose partials are merged.
 
 ghost use Rattle.std.specs.Prelude.{◌≡◌, ℕ, IfOk, List, MatchResult};
-ghost use Rattle.star_partial.specs.{Contents.Contents, Contents.contents_of, Text.partial_text};
+ghost use Rattle.star_partial.specs.{Contents.Contents, Text.partial_text};
+ghost use Rattle.star_merger.specs.Partials.{contents_of};
 ghost use Rattle.star_engine.specs.{Answered.OrMemory, Queries.IsQueryError};
 ghost use Rattle.star_merger.specs.{Columns.column_kinds, Columns.column_names, Mergers.IsMergerOf, Spelled.IsSpelled};
 
 use crate::columns::{PartialColumn, columns_of};
 use crate::fault::PartialFault;
+use crate::partial::Partial;
 use crate::reading::read_partial;
 use star_compile::compile;
 use star_engine::EngineFault;
-use star_partial::Partial;
 use star_plan::{Plan, plan};
 use star_program::Program;
 use star_query::Query;

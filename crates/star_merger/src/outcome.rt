@@ -4,17 +4,17 @@ ghost use Rattle.std.specs.Prelude.{◌≡◌, ◌++◌, ◌∷◌, [], ℕ, All
 ghost use Rattle.std.specs.{List.flat_map};
 ghost use Rattle.star_schema.specs.{Groups.GroupRow, Tables.Value};
 ghost use Rattle.star_plan.specs.Meaning.{Plan, aggregate_of};
-ghost use Rattle.star_partial.specs.Contents.{contents_of};
 ghost use Rattle.star_compile_laws.specs.Compiled.{compiled};
 ghost use Rattle.star_merge.specs.{Cells.group_of, Merged.AreOfShape, Merged.IsMergedRows};
 ghost use Rattle.star_merger.specs.{Mergers.IsMergerOf, Private.Outcomes.IsMergedOutcome, Private.Outcomes.IsUnmerged, Private.Outcomes.all_shown, Private.Shown.IsUsable, Private.Shown.counted, Private.Shown.lookups_in, Private.Shown.rows_shown, Private.Shown.updates_in};
+ghost use Rattle.star_merger.specs.Partials.{contents_of};
 
 use crate::fault::{PartialFault, PartialsFault, fault_at};
 use crate::merger::Merger;
+use crate::partial::Partial;
 use crate::reading::dimensions_line;
 use star_engine::EngineFault;
-use star_merge::{MergeFault, merge_rows};
-use star_partial::Partial;
+use star_merge::{FlatRows, MergeFault, merge_rows};
 use star_program::{CellRows, Items, Name, Outcome, Program, Show};
 use star_schema::Aggregate;
 use std::alloc::{AllocError, Global};
@@ -24,7 +24,7 @@ fn push_report<'p>(
     partial: &'p Partial,
     place: usize,
     line: usize,
-    reports: &mut Vec<&'p CellRows>,
+    reports: &mut Vec<&'p FlatRows>,
 ) -> Result<(), PartialsFault>
     ensures shown { OnOk result (map (λ rows. rows.now) reports.new.items
         ≡ map (λ rows. rows.now) reports.old.items ++ rows_shown partial.now.run) }
@@ -46,7 +46,7 @@ fn push_reports<'p>(
     partials: &'p [Partial],
     place: usize,
     line: usize,
-    reports: &mut Vec<&'p CellRows>,
+    reports: &mut Vec<&'p FlatRows>,
 ) -> Result<(), PartialsFault>
     ensures shown { OnOk result (map (λ rows. rows.now) reports.new.items
         ≡ map (λ rows. rows.now) reports.old.items ++ all_shown (map contents_of partials.now)) }
@@ -129,7 +129,7 @@ fn aggregates_of(alloc: Global, program: &Program) -> Result<Vec<Aggregate>, All
 fn merged_rows(
     alloc: Global,
     merger: &Merger,
-    reports: &[&CellRows],
+    reports: &[&FlatRows],
 ) -> Result<CellRows, MergeFault>
     ensures { (query : List ℕ) (is : IsMergerOf query merger.now) (groups : List (GroupRow Value))
         → groups ≡ flat_map (λ rows. map (group_of (length is.p.keys)) rows.now) reports.now

@@ -4,9 +4,11 @@ ghost use Rattle.std.specs.Prelude.{◌≡◌, ◌+◌, OnOk, length};
 
 use crate::columns::PartialColumn;
 use crate::fields::{FieldFault, Fields};
+use crate::partial::{Partial, Run};
 use star_interval::Interval;
-use star_partial::{LineKey, Partial, Span};
-use star_program::{CellRows, Items, KeptCell, Name, Outcome};
+use star_merge::FlatRows;
+use star_partial::{LineKey, Span};
+use star_program::{Items, KeptCell, Name};
 use star_schema::{ColumnId, Kind, Sizes, TABLES, TableId, column_at, kind_of, width};
 use std::alloc::Global;
 
@@ -155,7 +157,7 @@ fn read_rows(
     fields: &mut Fields<'_>,
     columns: &[PartialColumn],
     count: usize,
-) -> Result<CellRows, FieldFault> {
+) -> Result<FlatRows, FieldFault> {
     let mut cells = Vec::new(alloc);
     for _ in 0..count {
         if fields.rest.is_empty() {
@@ -163,7 +165,7 @@ fn read_rows(
         }
         read_row(alloc, fields, columns, &mut cells)?;
     }
-    Ok(CellRows::from_cells(columns.len(), count, cells))
+    Ok(FlatRows::of_cells(alloc, columns.len(), count, &cells)?)
 }
 
 // Reads the outcome of the plain program, and the line before its rows.
@@ -171,7 +173,7 @@ fn read_outcome(
     alloc: Global,
     fields: &mut Fields<'_>,
     columns: &[PartialColumn],
-) -> Result<Outcome, FieldFault> {
+) -> Result<Run, FieldFault> {
     let (visits, lookups, updates) = read_counts(fields)?;
     fields.skip(b"rows ")?;
     let Ok(count) = usize::try_from(fields.count(b'\n')?) else {
@@ -179,7 +181,7 @@ fn read_outcome(
     };
     let names = read_names(alloc, fields, columns)?;
     let rows = read_rows(alloc, fields, columns, count)?;
-    Ok(Outcome {
+    Ok(Run {
         names,
         rows,
         visits,
@@ -192,7 +194,7 @@ fn read_run(
     alloc: Global,
     fields: &mut Fields<'_>,
     columns: &[PartialColumn],
-) -> Result<Option<Outcome>, FieldFault> {
+) -> Result<Option<Run>, FieldFault> {
     if fields.skip(b"refused\n").is_ok() {
         Ok(None)
     } else {

@@ -1,16 +1,17 @@
 // The text of a partial, read.
 
-ghost use Rattle.std.specs.Prelude.{◌≡◌, IfOk};
-ghost use Rattle.star_partial.specs.{Contents.contents_of, Text.partial_text};
-ghost use Rattle.star_merger.specs.{Columns.column_kinds, Columns.column_names, Spelled.IsSpelled};
+ghost use Rattle.std.specs.Prelude.{◌≡◌, IfOk, OnOk};
+ghost use Rattle.star_partial.specs.Text.{partial_text};
+ghost use Rattle.star_merger.specs.{Columns.column_kinds, Columns.column_names, Partials.contents_of, Spelled.IsSpelled};
 
 use crate::columns::PartialColumn;
 use crate::fault::PartialFault;
 use crate::fields::{FieldFault, Fields};
 use crate::order::first_misplaced;
+use crate::partial::Partial;
 use crate::pieces::read_contents;
 use crate::spelled::is_spelled;
-use star_partial::{ColumnKind, Partial};
+use star_partial::{ColumnKind, Partial as Whole};
 use std::alloc::{AllocError, Global};
 
 // Returns the number of the line, from 1, that has the byte at a place.
@@ -63,7 +64,7 @@ fn keys_in(columns: &[PartialColumn]) -> usize {
 }
 
 // Returns the line of the first row that does not come after the row before it.
-fn misplaced_line(text: &[u8], columns: &[PartialColumn], partial: &Partial) -> Option<usize> {
+fn misplaced_line(text: &[u8], columns: &[PartialColumn], partial: &Whole) -> Option<usize> {
     let Some(outcome) = &partial.run else {
         return None;
     };
@@ -95,6 +96,17 @@ fn read_text(
     }
 }
 
+// Fails if a text is not the one that was written again.
+fn compare(text: &[u8], written: &[u8]) -> Result<(), PartialFault>
+    ensures { OnOk result (text.now ≡ written.now) }
+{
+    if written != text {
+        let line = line_at(text, common_bytes(text, written));
+        return Err(PartialFault::BadLine { line });
+    }
+    Ok(())
+}
+
 /// Reads the text of a partial of a query, whose report has these columns. It is exactly the text
 /// that `to_text` returns for the partial.
 ///
@@ -112,16 +124,14 @@ pub(crate) fn read_partial(
 {
     let head = head_of(alloc, query)?;
     let partial = read_text(alloc, &head, columns, text)?;
-    let written = partial.to_text(alloc, query)?;
-    if written.as_slice() != text {
-        let line = line_at(text, common_bytes(text, &written));
-        return Err(PartialFault::BadLine { line });
-    }
-    if !is_spelled(&partial, columns) {
+    let whole = partial.unpacked(alloc)?;
+    let written = whole.to_text(alloc, query)?;
+    compare(text, &written)?;
+    if !is_spelled(&whole, columns) {
         let line = line_at(text, text.len());
         return Err(PartialFault::BadLine { line });
     }
-    match misplaced_line(text, columns, &partial) {
+    match misplaced_line(text, columns, &whole) {
         Some(line) => Err(PartialFault::BadOrder { line }),
         None => Ok(partial),
     }

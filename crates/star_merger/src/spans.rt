@@ -1,13 +1,14 @@
 // Spans of keys.
 
 ghost use Rattle.std.specs.Prelude.{◌≡◌, ◌<◌, ℕ, MatchOption, MatchResult, None, false, length, map, slice_index_or, true};
-ghost use Rattle.star_partial.specs.Contents.{contents_of};
+ghost use Rattle.star_merger.specs.Partials.{contents_of};
 ghost use Rattle.star_merge_laws.specs.Parts.{are_disjoint, key_list_cmp};
 ghost use Rattle.star_engine.specs.Partials.{line_numbers, span_view};
 ghost use Rattle.star_merger.specs.{Merged.DoOverlap, Merged.IsOverlap, Merged.spans_of, Private.Checked.AreDisjointSpans};
 
 use crate::fault::{PartialFault, PartialsFault};
-use star_partial::{LineKey, Partial, Span};
+use crate::partial::Partial;
+use star_partial::{LineKey, Span};
 use std::cmp::Ordering;
 
 #[tactic(auto, using(star_engine::proofs::SpanLemmas::then_equal))]

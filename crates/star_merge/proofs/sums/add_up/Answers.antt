@@ -13,5 +13,5 @@ returns c =
     (λ merged. reverse merged.items ≡ together value_cmp gs sorted)
     (λ sums. AreSums value_cmp gs c.args.groups.items sums.items)
     (λ merged joined. sums_of_moved gs c.args.groups.items sorted merged.items
-    c.sort_groups.ensures.moved c.sort_groups.ensures.sorted joined)
+    c.sort_groups.ensures.moved c.in_ok-sort_groups.ensures.sorted joined)
     c.merge_neighbours.ensures

@@ -7,4 +7,4 @@ use Rattle.star_merge.proofs.sums.sort_groups.Goals as goal
 pub returns-clause-sorted : goal.returns-clause-sorted
 returns-clause-sorted c =
     sorted_by_answers (row_order c.args.sorts.now) (row_total c.args.sorts.now)
-    c.sort_unstable_by.new.self.items c.sort_unstable_by.ensures.sorted (λ a r f' k. search rules)
+    c.sort_by.new.self.items c.in_ok-sort_by.ensures.sorted (λ a r f' k. search rules)

@@ -1,6 +1,6 @@
 use Rattle.std.proofs.Common.{arith, subst, sym}
-use Rattle.star_partial.specs.Contents.{contents_of}
-use Rattle.star_partial.specs.declared.partial.Partial.{Partial}
+use Rattle.star_merger.specs.Partials.{contents_of}
+use Rattle.star_merger.specs.declared.partial.Partial.{Partial}
 use Rattle.star_merger.specs.Private.Checked.{HasDimensions}
 use Rattle.star_merger.proofs.dimensions.other_dimensions.Goals as goal
 

@@ -1,5 +1,5 @@
 use Rattle.std.proofs.Common.{◌∷◌, None, map}
-use Rattle.star_partial.specs.Contents.{contents_of}
+use Rattle.star_merger.specs.Partials.{contents_of}
 use Rattle.star_merge_laws.specs.Tables.{all_of}
 use Rattle.star_merger.specs.{Private.Checked.AreFactsIf, Private.Shares.share_rows, Private.Shares.whole_of}
 use Rattle.star_merger.proofs.JoinedFacts.{first_facts, many_more, next_facts, none_mapped, some_mapped}

@@ -1,5 +1,5 @@
 use Rattle.std.proofs.Common.{◌≡◌, List, map, refl, ℕ}
-use Rattle.star_partial.specs.Contents.{contents_of}
+use Rattle.star_merger.specs.Partials.{contents_of}
 use Rattle.star_engine.specs.{Answered.change, WithNotes.RunText}
 use Rattle.star_engine.proofs.NotedAs.{noted_as}
 use Rattle.star_merger.specs.{Private.Outcomes.IsUnmerged, Private.Written.IsMergedTelling, Private.Written.run_text_of}

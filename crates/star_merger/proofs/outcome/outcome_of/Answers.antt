@@ -1,6 +1,6 @@
 use Rattle.std.proofs.Common.{◌∙◌, ◌++◌, ap, length, map, refl, sym}
 use Rattle.std.specs.{List.flat_map}
-use Rattle.star_partial.specs.Contents.{contents_of}
+use Rattle.star_merger.specs.Partials.{contents_of}
 use Rattle.star_merge.specs.Cells.{group_of}
 use Rattle.star_merger.specs.Private.Outcomes.{all_shown, groups_of}
 use Rattle.star_merger.proofs.Outcomes.{mapped, names_shown}

@@ -1,6 +1,6 @@
 use Rattle.std.proofs.Common.{[]}
 use Rattle.std.proofs.lemmas.List.Elements.{All-head}
-use Rattle.star_partial.specs.Contents.{contents_of}
+use Rattle.star_merger.specs.Partials.{contents_of}
 use Rattle.star_merger.specs.Private.Shown.{IsUsable}
 use Rattle.star_merger.proofs.outcome.push_report.Goals as goal
 

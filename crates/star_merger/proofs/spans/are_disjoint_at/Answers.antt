@@ -1,7 +1,8 @@
 use Rattle.std.proofs.Common.{◌≡◌, ◌∙◌, ◌<◌, ℕ, List, None, ap, length, map, slice_index_or, sym, arith}
 use Rattle.std.proofs.lemmas.List.{get_or-map, length-map}
-use Rattle.star_partial.specs.Contents.{Contents, contents_of}
-use Rattle.star_partial.specs.declared.partial.Partial.{Partial}
+use Rattle.star_partial.specs.Contents.{Contents}
+use Rattle.star_merger.specs.Partials.{contents_of}
+use Rattle.star_merger.specs.declared.partial.Partial.{Partial}
 use Rattle.star_merge_laws.specs.Parts.{are_disjoint}
 use Rattle.star_engine.specs.Partials.{span_view}
 use Rattle.star_merger.specs.Merged.{spans_of}

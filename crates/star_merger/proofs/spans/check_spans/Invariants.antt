@@ -1,5 +1,5 @@
 use Rattle.std.proofs.Common.{◌≡◌, ◌<◌, ℕ, None, map, slice_index_or, true}
-use Rattle.star_partial.specs.Contents.{contents_of}
+use Rattle.star_merger.specs.Partials.{contents_of}
 use Rattle.star_merge_laws.specs.Parts.{are_disjoint}
 use Rattle.star_merger.specs.Merged.{spans_of}
 use Rattle.star_merger.proofs.spans.check_spans.Given as goal

@@ -13,6 +13,6 @@ returns c = λ s count gs told h shaped.
     merged_rows s count gs c.args.sorts.now c.args.items.now told groups sums
     c.sort_groups.new.groups.items c.in_ok-cell_rows.field-0 shaped h.alike
     (subst (λ xs. AreSums value_cmp xs groups sums) same c.in_ok-sums.ensures)
-    c.sort_groups.ensures.moved c.sort_groups.ensures.sorted
+    c.sort_groups.ensures.moved c.in_ok-sort_groups.ensures.sorted
     (c.in_ok-cell_rows.ensures
     ∙ ap (map (λ group. map (cell_of group) c.args.items.now)) c.deref-2.ensures.value)

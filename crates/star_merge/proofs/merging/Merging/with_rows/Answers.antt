@@ -11,7 +11,7 @@ returns c = λ s count gs told h.
     let more = map (group_of count) c.args.rows.now in
     let pushed : c.push_rows.new.groups.items ≡ groups ++ all_added s more =
     c.in_ok-push_rows.ensures
-    ∙ (λ i. groups ++ all_added (h.by_shape i) (map (group_of (h.count i)) c.args.rows.now)) in
+    ∙ (λ i. groups ++ all_added (h.by_shape i) (map (group_of (h.count i)) (c.in_ok-rows.ensures i))) in
     c.compacted.ensures s count gs (told ++ more) (record {
       by_shape = h.by_shape;
       count = h.count;

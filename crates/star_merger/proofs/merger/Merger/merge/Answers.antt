@@ -3,7 +3,8 @@ use Rattle.std.specs.List.{All}
 use Rattle.star_schema.specs.Loadable.{database_of}
 use Rattle.star_schema.specs.declared.table.TableId.TheVariants.{Lineorder}
 use Rattle.star_schema.specs.Sizes.{size_of}
-use Rattle.star_partial.specs.Contents.{Contents, bounds_at, contents_of}
+use Rattle.star_partial.specs.Contents.{Contents, bounds_at}
+use Rattle.star_merger.specs.Partials.{contents_of}
 use Rattle.star_program.specs.World.{World}
 use Rattle.star_safety.specs.Admissible.{first_refusal}
 use Rattle.star_verify.specs.{Facts.AreFacts, Views.refusal_view}

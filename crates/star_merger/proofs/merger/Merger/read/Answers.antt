@@ -1,7 +1,8 @@
 use Rattle.std.proofs.Common.{◌≡◌, ◌∙◌, List, ap, subst, sym, ℕ}
 use Rattle.std.specs.Prelude.{Err, IfOk, Ok, Result}
-use Rattle.star_partial.specs.{Contents.Contents, Contents.contents_of, Text.partial_text}
-use Rattle.star_partial.specs.declared.partial.Partial.{Partial}
+use Rattle.star_partial.specs.{Contents.Contents, Text.partial_text}
+use Rattle.star_merger.specs.Partials.{contents_of}
+use Rattle.star_merger.specs.declared.partial.Partial.{Partial}
 use Rattle.star_report.specs.Columns.{ColumnKind}
 use Rattle.star_merger.specs.{Columns.column_kinds, Columns.column_names, Spelled.IsSpelled}
 use Rattle.star_merger.proofs.TextsApart.{contents_same}
